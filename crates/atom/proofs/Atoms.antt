@@ -1,0 +1,211 @@
+-- The laws of depth_past, and of the loop of next_atom.
+use mathlib.Core.Path.{_≡_, refl, sym, _∙_, ap, ap₂}
+use mathlib.Core.Bool.{Bool, true, false, _&&_}
+use mathlib.Core.List.{[], _∷_, _++_, append-assoc}
+use mathlib.Core.Option.{Option, none, some}
+use Prim.Native.Nat.{ℕ, zero, suc, _+_, _-_, _≤_, _<_}
+use native.Mathlib.Numerals.{add-one}
+use native.Mathlib.Omega.{arith}
+use lib.Dec.{eqb, eqb·suc-zero}
+use lib.ListN.{length, getD, drop, drop-of-length-le, length-drop}
+use lib.Seq.{drop-cons, take-suc, getD-drop}
+use borrow.Author.Tests.{eq-eqb, ne-eqb}
+use Rattle.model.specs.declared.Marks.{Marks}
+use Rattle.model.specs.Text.{Bytes, part}
+use Rattle.model.specs.Reading.{group, atom}
+use Rattle.model.proofs.Chosen.{Tested, alike, apart, tested}
+use Rattle.atom.specs.Atoms.{depthPast, AtomAt}
+
+-- the bytes p in front of what is found
+abbrev pub after : Bytes → Option (Bytes × Bytes) → Option (Bytes × Bytes)
+after p o = elim o [ none ↦ none | some r ↦ some (p ++ r .0, r .1) ]
+
+-- what was passed goes in front at once or in two steps
+pub after-after : (p q : Bytes) (o : Option (Bytes × Bytes)) → after p (after q o) ≡ after (p ++ q) o
+after-after p q none = refl
+after-after p q (some r) = ap (λ (l : Bytes). some (l, r .1)) (sym (append-assoc p q (r .0)))
+
+module _ (m : Marks) where
+  -- ---- depth_past
+
+  -- a left bracket opens one, a right one closes one, any other byte leaves the count
+  pub past-left : (b d : ℕ) → b ≡ m .left → depthPast m b d ≡ d + 1
+  unfolding depthPast
+  past-left b d e = rw (eq-eqb b (m .left) e, add-one, depthPast) refl
+
+  pub past-right : (b d : ℕ) → ¬ (b ≡ m .left) → b ≡ m .right → depthPast m b d ≡ d - 1
+  unfolding depthPast
+  past-right b d l e = rw (ne-eqb b (m .left) l, eq-eqb b (m .right) e, depthPast) refl
+
+  pub past-other : (b d : ℕ) → ¬ (b ≡ m .left) → ¬ (b ≡ m .right) → depthPast m b d ≡ d
+  unfolding depthPast
+  past-other b d l r = rw (ne-eqb b (m .left) l, ne-eqb b (m .right) r, depthPast) refl
+
+  -- ---- a group, by its first byte
+
+  -- with what the tests say: is b a left bracket, is it a right one, is no bracket open inside
+  abbrev tests : ℕ → ℕ → Bytes → Bool → Bool → Bool → Option (Bytes × Bytes)
+  tests d b s l r z =
+      let d′ : ℕ = elim l as (λ b. ℕ) [ true ↦ suc d | false ↦ elim r as (λ b. ℕ) [ true ↦ d - 1 | false ↦ d ] ] in
+      elim (r && z) [ true ↦ some (b ∷ [], s) | false ↦ after (b ∷ []) (group m d′ s) ]
+
+  -- a group goes by these tests
+  by-tests : (d b : ℕ) (s : Bytes) (l r z : Bool) → eqb b (m .left) ≡ l → eqb b (m .right) ≡ r → eqb d 0 ≡ z → group m d (b ∷ s) ≡ tests d b s l r z
+  unfolding group
+  by-tests d b s l r z e f g = ap₂ (λ (x y : Bool). tests d b s x y (eqb d 0)) e f ∙ ap (tests d b s l r) g
+
+  -- a left bracket opens one more
+  pub group-left : (d b : ℕ) (s : Bytes) → b ≡ m .left → ¬ (b ≡ m .right) → group m d (b ∷ s) ≡ after (b ∷ []) (group m (suc d) s)
+  group-left d b s l r = by-tests d b s true false (eqb d 0) (eq-eqb b (m .left) l) (ne-eqb b (m .right) r) refl
+
+  -- a byte that is no bracket leaves the count
+  pub group-other : (d b : ℕ) (s : Bytes) → ¬ (b ≡ m .left) → ¬ (b ≡ m .right) → group m d (b ∷ s) ≡ after (b ∷ []) (group m d s)
+  group-other d b s l r = by-tests d b s false false (eqb d 0) (ne-eqb b (m .left) l) (ne-eqb b (m .right) r) refl
+
+  -- a right bracket closes one
+  pub group-right : (d b : ℕ) (s : Bytes) → ¬ (b ≡ m .left) → b ≡ m .right → group m (suc d) (b ∷ s) ≡ after (b ∷ []) (group m d s)
+  group-right d b s l r =
+      let z : suc d - 1 ≡ d = omega arith in
+      by-tests (suc d) b s false true false (ne-eqb b (m .left) l) (eq-eqb b (m .right) r) (eqb·suc-zero d) ∙ ap (λ (k : ℕ). after (b ∷ []) (group m k s)) z
+
+  -- or the group itself
+  pub group-last : (b : ℕ) (s : Bytes) → b ≡ m .right → group m 0 (b ∷ s) ≡ some (b ∷ [], s)
+  group-last b s r = by-tests 0 b s (eqb b (m .left)) true true refl (eq-eqb b (m .right) r) refl
+
+  -- ---- an atom, by its first byte
+
+  -- a right bracket is no atom
+  pub atom-right : (b : ℕ) (s : Bytes) → b ≡ m .right → atom m (b ∷ s) ≡ none
+  unfolding atom
+  atom-right b s r = rw (eq-eqb b (m .right) r, atom) refl
+
+  -- a byte that is no bracket is one
+  pub atom-other : (b : ℕ) (s : Bytes) → ¬ (b ≡ m .left) → ¬ (b ≡ m .right) → atom m (b ∷ s) ≡ some (b ∷ [], s)
+  unfolding atom
+  atom-other b s l r = rw (ne-eqb b (m .right) r, ne-eqb b (m .left) l, atom) refl
+
+  -- a left bracket starts one
+  pub atom-left : (b : ℕ) (s : Bytes) → b ≡ m .left → ¬ (b ≡ m .right) → atom m (b ∷ s) ≡ after (b ∷ []) (group m 0 s)
+  unfolding atom
+  atom-left b s l r = rw (ne-eqb b (m .right) r, eq-eqb b (m .left) l, atom) refl
+
+  -- ---- the loop of next_atom
+
+  -- what is found where d brackets are open and p was passed since the first of them
+  abbrev closing : ℕ → Bytes → Bytes → Option (Bytes × Bytes)
+  closing zero p s = some (p, s)
+  closing (suc d) p s = after p (group m d s)
+
+  -- one byte on
+  closing-step : (d b : ℕ) (p s : Bytes) → ¬ (m .left ≡ m .right) → closing (suc d) p (b ∷ s) ≡ closing (depthPast m b (suc d)) (p ++ b ∷ []) s
+  closing-step d b p s n = by (eqb b (m .left)) (eqb b (m .right)) (tested b (m .left)) (tested b (m .right)) d
+    where
+      by : (l r : Bool) → Tested b (m .left) l → Tested b (m .right) r → (d : ℕ) → closing (suc d) p (b ∷ s) ≡ closing (depthPast m b (suc d)) (p ++ b ∷ []) s
+      by true r (alike l) t d =
+          let z : depthPast m b (suc d) ≡ suc (suc d) = omega (arith, past-left b (suc d) l) in
+          rw z (ap (after p) (group-left d b s l (λ e. n (sym l ∙ e))) ∙ after-after p (b ∷ []) (group m (suc d) s))
+      by false true (apart l) (alike r) zero =
+          let z : depthPast m b 1 ≡ 0 = omega (arith, past-right b 1 l r) in
+          rw z (ap (after p) (group-last b s r))
+      by false true (apart l) (alike r) (suc d) =
+          let z : depthPast m b (suc (suc d)) ≡ suc d = omega (arith, past-right b (suc (suc d)) l r) in
+          rw z (ap (after p) (group-right d b s l r) ∙ after-after p (b ∷ []) (group m d s))
+      by false false (apart l) (apart r) d =
+          rw (past-other b (suc d) l r) (ap (after p) (group-other d b s l r) ∙ after-after p (b ∷ []) (group m d s))
+
+  -- a byte opens one bracket at most
+  past-most : (b d : ℕ) → depthPast m b d ≤ d + 1
+  past-most b d = by (eqb b (m .left)) (eqb b (m .right)) (tested b (m .left)) (tested b (m .right))
+    where
+      by : (l r : Bool) → Tested b (m .left) l → Tested b (m .right) r → depthPast m b d ≤ d + 1
+      by true r (alike l) t = omega (arith, past-left b d l)
+      by false true (apart l) (alike r) = omega (arith, past-right b d l r)
+      by false false (apart l) (apart r) = omega (arith, past-other b d l r)
+
+  -- at the end of the line, none that is open closes
+  open-end : (d : ℕ) (p : Bytes) → ¬ (d ≡ 0) → closing d p [] ≡ none
+  unfolding group
+  open-end zero p f = absurd (f refl)
+  open-end (suc d) p f = refl
+
+-- one byte more of a part
+part-more : (line : Bytes) (at i : ℕ) → at ≤ i → i < length line → part line at (i + 1) ≡ part line at i ++ getD line i 0 ∷ []
+part-more line at i le lt =
+    let x : i + 1 - at ≡ suc (i - at) = omega arith in
+    let y : at + (i - at) ≡ i = omega arith in
+    rw x (take-suc (drop at line) (i - at) 0 (simp length-drop (omega arith)) ∙ rw (getD-drop, y) refl)
+
+-- nothing is found
+nothing : (m : Marks) (line : Bytes) (at : ℕ) → atom m (drop at line) ≡ none → AtomAt m line at 0
+nothing m line at e = record { nowhere = λ _. e; found = λ lt. absurd (omega arith); ahead = λ lt. absurd (omega arith); within = omega arith }
+
+module _ (m : Marks) (line : Bytes) (at : ℕ) where
+  -- the line from `at` on has its first byte
+  first : at < length line → atom m (drop at line) ≡ atom m (getD line at 0 ∷ drop (at + 1) line)
+  first lt = rw add-one (ap (atom m) (drop-cons line at 0 lt))
+
+  -- past the end of the line there is none
+  pub none-past-end : length line ≤ at → AtomAt m line at 0
+  unfolding atom
+  none-past-end le = nothing m line at (ap (atom m) (drop-of-length-le line le))
+
+  -- nor at a right bracket
+  pub none-at-right : at < length line → getD line at 0 ≡ m .right → AtomAt m line at 0
+  none-at-right lt e = nothing m line at (first lt ∙ atom-right m (getD line at 0) (drop (at + 1) line) e)
+
+  -- a byte that is no bracket
+  pub one-byte : at < length line → ¬ (getD line at 0 ≡ m .right) → ¬ (getD line at 0 ≡ m .left) → AtomAt m line at (at + 1)
+  one-byte lt r l =
+      let z : at + 1 - at ≡ 1 = omega arith in
+      record {
+        nowhere = λ e. absurd (omega arith);
+        found = λ _. rw (z, drop-cons line at 0 lt, add-one) (atom-other m (getD line at 0) (drop (suc at) line) l r);
+        ahead = λ _. omega arith;
+        within = omega arith;
+      }
+
+  -- the loop's place: d brackets are open at place i
+  pub record Scan (i d : ℕ) : Type 0 where
+    pub low : at < i
+    pub high : i ≤ length line
+    pub few : d ≤ i
+    pub differ : ¬ (m .left ≡ m .right)
+    pub same : atom m (drop at line) ≡ closing m d (part line at i) (drop i line)
+
+  -- past the left bracket, one is open
+  pub scan-start : at < length line → ¬ (getD line at 0 ≡ m .right) → getD line at 0 ≡ m .left → Scan (at + 1) 1
+  scan-start lt r l =
+      let z : at + 1 - at ≡ 1 = omega arith in
+      record {
+        low = omega arith;
+        high = omega arith;
+        few = omega arith;
+        differ = λ e. r (l ∙ e);
+        same = rw (z, drop-cons line at 0 lt, add-one) (atom-left m (getD line at 0) (drop (suc at) line) l r);
+      }
+
+  -- one byte on
+  pub scan-step : (i d n : ℕ) → n ≡ depthPast m (getD line i 0) d → i < length line → ¬ (d ≡ 0) → Scan i d → Scan (i + 1) n
+  scan-step i zero n e lt f h = absurd (f refl)
+  scan-step i (suc d) n e lt f h = record {
+    low = omega arith;
+    high = omega arith;
+    few = rw e (omega (arith, past-most m (getD line i 0) (suc d)));
+    differ = h .differ;
+    same = h .same ∙ ap (closing m (suc d) (part line at i)) (drop-cons line i 0 lt)
+        ∙ closing-step m d (getD line i 0) (part line at i) (drop (suc i) line) (h .differ)
+        ∙ rw (e, part-more line at i (omega arith) lt, add-one) refl;
+  }
+
+  -- at the end of the line with a bracket open, there is no atom
+  pub scan-end : (i d : ℕ) → i ≡ length line → ¬ (d ≡ 0) → Scan i d → AtomAt m line at 0
+  scan-end i d e f h = nothing m line at (h .same ∙ ap (closing m d (part line at i)) (drop-of-length-le line {i = i} (omega arith)) ∙ open-end m d (part line at i) f)
+
+  -- with none open, the atom ends
+  pub scan-closed : (i d : ℕ) → d ≡ 0 → Scan i d → AtomAt m line at i
+  scan-closed i d e h = record {
+    nowhere = λ z. absurd (omega arith);
+    found = λ _. h .same ∙ ap (λ (k : ℕ). closing m k (part line at i) (drop i line)) e;
+    ahead = λ _. h .low;
+    within = h .high;
+  }

@@ -1,0 +1,3 @@
+-- The laws of atoms.
+pub mod Atoms
+pub mod Rows

@@ -1,0 +1,2 @@
+-- Atoms of a line.
+pub mod Atoms

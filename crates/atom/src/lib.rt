@@ -1,0 +1,45 @@
+// The atoms of a line (document 01, "Fitting a line").
+ghost use mathlib.Core.Path.{_≡_};
+ghost use Prim.Native.Nat.{_<_, _^_};
+ghost use Rattle.atom.specs.Atoms.{depthPast, AtomAt};
+use model::Marks;
+
+// How many brackets are open past the byte b, where `depth` were.
+fn depth_past(m: Marks, b: u8, depth: usize) -> usize
+    requires { ⌜ (0 < depth) × (depth < 2 ^ 63) ⌝ }
+    ensures { λ r. ⌜ r ≡ depthPast m b depth ⌝ }
+{
+    if b == m.left {
+        return depth + 1;
+    }
+    if b == m.right {
+        return depth - 1;
+    }
+    depth
+}
+
+// The end of the line's first atom from `at` on, or 0 where there is none. Each byte is read once.
+pub fn next_atom(line: &[u8], at: usize, m: Marks) -> usize
+    ensures { λ r. ⌜ AtomAt m (now (line .entry)) at r ⌝ }
+{
+    if line.len() <= at {
+        return 0;
+    }
+    let b = line[at];
+    if b == m.right {
+        return 0;
+    }
+    let mut i = at + 1;
+    if b != m.left {
+        return i;
+    }
+    let mut depth = 1;
+    while depth != 0 {
+        if i == line.len() {
+            return 0;
+        }
+        depth = depth_past(m, line[i], depth);
+        i += 1;
+    }
+    i
+}

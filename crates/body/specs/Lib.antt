@@ -1,0 +1,2 @@
+-- What the contracts of passing over code lines say.
+pub mod Steps

@@ -1,0 +1,7 @@
+-- Laws that the proofs here and in other crates cite.
+pub mod Choices
+pub mod Same
+pub mod Pasted
+pub mod Moves
+pub mod Written
+pub mod Decimal

@@ -1,0 +1,4 @@
+-- What the contracts cite.
+pub mod Pasted
+pub mod Written
+pub mod Decimal

@@ -1,0 +1,114 @@
+-- Laws of code lines: what the model says of a line's first bytes, by their tests.
+use mathlib.Core.Path.{_≡_, refl, ap, _∙_}
+use mathlib.Core.Bool.{Bool, true, false, not, _&&_, _||_, cond}
+use mathlib.Core.List.{[], _∷_}
+use Prim.Native.Nat.{ℕ, suc, _+_, _-_, _≤_, _<_}
+use native.Mathlib.Numerals.{add-one}
+use native.Mathlib.Omega.{arith}
+use borrow.Author.Tests.{le-leb, lt-leb, eq-eqb, ne-eqb}
+use lib.Dec.{eqb, leb}
+use lib.ListN.{length, getD}
+use lib.Seq.{drop-cons}
+use Rattle.model.specs.Text.{Bytes, part, isDigit}
+use Rattle.model.specs.Code as Code
+use Rattle.model.specs.declared.Marks.{Marks}
+use Rattle.model.specs.declared.Comparison.the-variants.{Equal, Unequal, Less, Greater}
+use Rattle.code.specs.declared.Ending.{Ending}
+use Rattle.code.specs.declared.Token.{Token}
+use Rattle.code.specs.declared.Token.the-variants.{Ends}
+use Rattle.code.specs.Tokens.{endingOf, Ranged, Says, Forms}
+
+-- what `search` is handed where a function goes by the tests of its definition
+pub ruleset chain = (le-leb, lt-leb, eq-eqb, ne-eqb)
+
+-- the part up to a place is empty, or starts with the byte there
+pub part-none : (text : Bytes) (at to : ℕ) → to ≤ at → part text at to ≡ []
+part-none text at to h =
+    let e : to - at ≡ 0 = omega arith in
+    rw e refl
+
+pub part-first : (text : Bytes) (at to : ℕ) → at < to → to ≤ length text → part text at to ≡ getD text at 0 ∷ part text (at + 1) to
+part-first text at to h k =
+    let e : to - at ≡ suc (to - (at + 1)) = omega arith in
+    let l : at < length text = omega arith in
+    rw (e, add-one, drop-cons text at 0) refl
+
+-- ---- what is read from a place on, from what its first byte or its end gives
+
+module _ {text : Bytes} {at to : ℕ} where
+  pub says-none : (f : Bytes → Code.Ending) {r : Ending} → to ≤ at → f [] ≡ endingOf text to r → Ranged at to r → Says text at to (f (part text at to)) r
+  says-none f h e g = record { is = ap f (part-none text at to h) ∙ e; ranged = g }
+
+  pub says-first : (f : Bytes → Code.Ending) {k : Code.Ending} {r : Ending} → at < to → to ≤ length text → f (getD text at 0 ∷ part text (at + 1) to) ≡ k
+      → k ≡ endingOf text to r → Ranged at to r → Says text at to (f (part text at to)) r
+  says-first f h l e d g = record { is = ap f (part-first text at to h l) ∙ e ∙ d; ranged = g }
+
+  pub says-as : {k k′ : Code.Ending} {r : Ending} → k ≡ k′ → Says text at to k′ r → Says text at to k r
+  says-as e s = record { is = e ∙ s .is; ranged = s .ranged }
+
+  pub forms-as : {f f′ : Code.Form} {r : Token} → f ≡ f′ → Forms text at to f′ r → Forms text at to f r
+  forms-as e s = record { is = e ∙ s .is; ranged = s .ranged }
+
+  pub forms-ends : {k : Code.Ending} {r : Ending} → Says text at to k r → Forms text at to (Code.ends k) (Ends r)
+  forms-ends s = record { is = ap Code.ends (s .is); ranged = s .ranged }
+
+  pub forms-none : (f : Bytes → Code.Form) {g : Code.Form} {r : Token} → to ≤ at → f [] ≡ g → Forms text at to g r → Forms text at to (f (part text at to)) r
+  forms-none f h e s = forms-as (ap f (part-none text at to h) ∙ e) s
+
+  pub forms-first : (f : Bytes → Code.Form) {g h : Code.Form} {r : Token} → at < to → to ≤ length text → f (getD text at 0 ∷ part text (at + 1) to) ≡ g → g ≡ h
+      → Forms text at to h r → Forms text at to (f (part text at to)) r
+  forms-first f l k e d s = forms-as (ap f (part-first text at to l k) ∙ e ∙ d) s
+
+-- ---- the model's definitions, by their tests
+
+choice : {A : Type 0} (q : Bool) {x x′ y y′ : A} → x ≡ x′ → y ≡ y′ → elim q as (λ _. A) [ true ↦ x | false ↦ y ] ≡ cond q x′ y′
+choice true e f = e
+choice false e f = f
+
+pub writing-by : (first : Bool) (ch : ℕ) → Code.writing first ch ≡ cond first (Code.ends (Code.layout ch)) (Code.ends (Code.write ch))
+unfolding Code.writing
+writing-by first ch = choice first refl refl
+
+pub channel-by : (first : Bool) (x : ℕ) (s : Bytes)
+    → Code.channel first (x ∷ s) ≡ cond (eqb x 48) (Code.writing first 0) (cond (eqb x 51 || not (leb 48 x && leb x 57)) (Code.writing first 3) (Code.ends Code.malformed))
+unfolding Code.channel isDigit
+channel-by first x s = choice (eqb x 48) refl (choice (eqb x 51 || not (leb 48 x && leb x 57)) refl refl)
+
+pub text-by : (x : ℕ) (s : Bytes) → Code.textTest (x ∷ s) ≡ cond (eqb x 48) (Code.skipText true) (cond (eqb x 49) (Code.skipText false) Code.malformed)
+unfolding Code.textTest
+text-by x s = choice (eqb x 48) refl (choice (eqb x 49) refl refl)
+
+pub value-by : (m : Marks) (x : ℕ) (s : Bytes)
+    → Code.valueTest m (x ∷ s)
+    ≡ cond (eqb x 48) (Code.skipValue Equal) (cond (eqb x 49) (Code.skipValue Unequal) (cond (eqb x (m .minus)) (Code.skipValue Less) (cond (eqb x (m .plus)) (Code.skipValue Greater) Code.malformed)))
+unfolding Code.valueTest
+value-by m x s = choice (eqb x 48) refl (choice (eqb x 49) refl (choice (eqb x (m .minus)) refl (choice (eqb x (m .plus)) refl refl)))
+
+pub line-by : (m : Marks) (b : ℕ) (s : Bytes)
+    → Code.lineFunction m b s
+    ≡ cond (eqb b 48) Code.stop (cond (eqb b 51) Code.save (cond (eqb b 52) Code.skip (cond (eqb b 53) (Code.textTest s)
+    (cond (eqb b 54) (Code.valueTest m s) (cond (eqb b 56) Code.again (cond (eqb b 57) Code.leave Code.malformed))))))
+unfolding Code.lineFunction
+line-by m b s =
+    choice (eqb b 48) refl (choice (eqb b 51) refl (choice (eqb b 52) refl (choice (eqb b 53) refl (choice (eqb b 54) refl (choice (eqb b 56) refl (choice (eqb b 57) refl refl))))))
+
+pub function-by : (m : Marks) (first : Bool) (b : ℕ) (s : Bytes)
+    → Code.function m first b s
+    ≡ cond (eqb b 49) (Code.channel first s) (cond (eqb b 55) (Code.ends Code.repeat) (cond first (Code.ends (Code.lineFunction m b s)) (Code.ends Code.malformed)))
+unfolding Code.function
+function-by m first b s = choice (eqb b 49) refl (choice (eqb b 55) refl (choice first refl refl))
+
+pub conversion-by : (d b : ℕ) (s : Bytes)
+    → Code.conversion d b s
+    ≡ cond (eqb b 54) (Code.ends (Code.assign d)) (cond (eqb b 55) (Code.ends (Code.iterate d s))
+    (cond (leb 48 b && leb b 56) (Code.part (Code.convert d (b - 48))) (Code.ends Code.malformed)))
+unfolding Code.conversion
+conversion-by d b s = choice (eqb b 54) refl (choice (eqb b 55) refl (choice (leb 48 b && leb b 56) refl refl))
+
+pub form-by : (m : Marks) (first : Bool) (a b : ℕ) (s : Bytes)
+    → Code.form m first a b s
+    ≡ cond (eqb a 70) (Code.function m first b s)
+    (cond (eqb a 48) (cond (leb 48 b && leb b 57) (Code.part (Code.serial (b - 48))) (Code.ends Code.malformed))
+    (cond (leb 48 a && leb a 57) (Code.conversion (a - 48) b s) (Code.ends Code.malformed)))
+unfolding Code.form isDigit
+form-by m first a b s = choice (eqb a 70) refl (choice (eqb a 48) (choice (leb 48 b && leb b 57) refl refl) (choice (leb 48 a && leb a 57) refl refl))

@@ -1,0 +1,2 @@
+-- What the contracts of reading a code line say.
+pub mod Tokens

@@ -1,0 +1,275 @@
+// What a code line says, read token by token: bytes and conversions that build a line, then what is done at its end.
+ghost use mathlib.Core.Path.{_≡_};
+ghost use mathlib.Core.List.{List};
+ghost use Prim.Native.Nat.{ℕ, _≤_};
+ghost use lib.ListN.{length};
+ghost use Rattle.model.specs.Text.{part};
+ghost use Rattle.model.specs.Code.{effectOf, writing, channel, textTest, valueTest, lineFunction, function, conversion, form};
+ghost use Rattle.code.specs.Tokens.{endingOf, Parameter, Channel, Says, Forms, Reads, Finishes, Affects};
+use model::Comparison;
+use model::Effect;
+use model::Marks;
+
+// What puts bytes into the built line: a byte, e0k, or ed0 to ed5 and ed8.
+pub enum Part {
+    Byte(u8),
+    Serial(usize),
+    Convert(usize, usize),
+}
+
+// What is done at the end of a code line. Channels are 0 and 3; the delimiters of an iteration start at its second number.
+pub enum Ending {
+    Offer,
+    Assign(usize),
+    Iterate(usize, usize),
+    Stop,
+    Write(usize),
+    Layout(usize),
+    Save,
+    Skip,
+    SkipText(bool),
+    SkipValue(Comparison),
+    Repeat,
+    Again,
+    Leave,
+    Malformed,
+}
+
+// What stands at a place of a code line: its end, or a part and where the rest starts.
+pub enum Token {
+    Ends(Ending),
+    Has(Part, usize),
+}
+
+// F1 on a channel: at the line's start it owns a layout.
+fn write_on(first: bool, number: usize) -> Ending
+    requires { ⌜ Channel number ⌝ }
+    ensures { λ r. ⌜ ((text : List ℕ) (at to : ℕ) → Forms text at to (writing first number) (Token.Ends r)) ⌝ }
+{
+    if first {
+        return Ending::Layout(number);
+    }
+    Ending::Write(number)
+}
+
+// Channel 3 if 3 or no digit follows, 0 if 0.
+fn read_channel(first: bool, text: &[u8], at: usize, to: usize) -> Ending
+    requires { ⌜ (at ≤ to) × (to ≤ length (now text)) ⌝ }
+    ensures { λ r. ⌜ Forms (now (text .entry)) at to (channel first (part (now (text .entry)) at to)) (Token.Ends r) ⌝ }
+{
+    if to <= at {
+        return write_on(first, 3);
+    }
+    let b = text[at];
+    if b == 48 {
+        return write_on(first, 0);
+    }
+    if b == 51 {
+        return write_on(first, 3);
+    }
+    if b < 48 {
+        return write_on(first, 3);
+    }
+    if 57 < b {
+        return write_on(first, 3);
+    }
+    Ending::Malformed
+}
+
+fn read_text_test(text: &[u8], at: usize, to: usize) -> Ending
+    requires { ⌜ (at ≤ to) × (to ≤ length (now text)) ⌝ }
+    ensures { λ r. ⌜ Says (now (text .entry)) at to (textTest (part (now (text .entry)) at to)) r ⌝ }
+{
+    if to <= at {
+        return Ending::Malformed;
+    }
+    let b = text[at];
+    if b == 48 {
+        return Ending::SkipText(true);
+    }
+    if b == 49 {
+        return Ending::SkipText(false);
+    }
+    Ending::Malformed
+}
+
+fn read_value_test(m: Marks, text: &[u8], at: usize, to: usize) -> Ending
+    requires { ⌜ (at ≤ to) × (to ≤ length (now text)) ⌝ }
+    ensures { λ r. ⌜ Says (now (text .entry)) at to (valueTest m (part (now (text .entry)) at to)) r ⌝ }
+{
+    if to <= at {
+        return Ending::Malformed;
+    }
+    let b = text[at];
+    if b == 48 {
+        return Ending::SkipValue(Comparison::Equal);
+    }
+    if b == 49 {
+        return Ending::SkipValue(Comparison::Unequal);
+    }
+    if b == m.minus {
+        return Ending::SkipValue(Comparison::Less);
+    }
+    if b == m.plus {
+        return Ending::SkipValue(Comparison::Greater);
+    }
+    Ending::Malformed
+}
+
+// The functions that must begin their line.
+fn read_line_function(m: Marks, b: u8, text: &[u8], at: usize, to: usize) -> Ending
+    requires { ⌜ (at ≤ to) × (to ≤ length (now text)) ⌝ }
+    ensures { λ r. ⌜ Says (now (text .entry)) at to (lineFunction m b (part (now (text .entry)) at to)) r ⌝ }
+{
+    if b == 48 {
+        return Ending::Stop;
+    }
+    if b == 51 {
+        return Ending::Save;
+    }
+    if b == 52 {
+        return Ending::Skip;
+    }
+    if b == 53 {
+        return read_text_test(text, at, to);
+    }
+    if b == 54 {
+        return read_value_test(m, text, at, to);
+    }
+    if b == 56 {
+        return Ending::Again;
+    }
+    if b == 57 {
+        return Ending::Leave;
+    }
+    Ending::Malformed
+}
+
+fn read_function(m: Marks, first: bool, b: u8, text: &[u8], at: usize, to: usize) -> Ending
+    requires { ⌜ (at ≤ to) × (to ≤ length (now text)) ⌝ }
+    ensures { λ r. ⌜ Forms (now (text .entry)) at to (function m first b (part (now (text .entry)) at to)) (Token.Ends r) ⌝ }
+{
+    if b == 49 {
+        return read_channel(first, text, at, to);
+    }
+    if b == 55 {
+        return Ending::Repeat;
+    }
+    if first {
+        return read_line_function(m, b, text, at, to);
+    }
+    Ending::Malformed
+}
+
+// The conversion b of parameter d; what follows it starts at `at`.
+fn read_conversion(d: usize, b: u8, at: usize) -> Token
+    requires { ⌜ Parameter d ⌝ }
+    ensures { λ r. ⌜ ((text : List ℕ) (to : ℕ) → at ≤ to → Forms text at to (conversion d b (part text at to)) r) ⌝ }
+{
+    if b == 54 {
+        return Token::Ends(Ending::Assign(d));
+    }
+    if b == 55 {
+        return Token::Ends(Ending::Iterate(d, at));
+    }
+    if b < 48 {
+        return Token::Ends(Ending::Malformed);
+    }
+    if 56 < b {
+        return Token::Ends(Ending::Malformed);
+    }
+    Token::Has(Part::Convert(d, b as usize - 48), at)
+}
+
+// The two bytes after an escape; what follows them starts at `at`.
+fn read_form(m: Marks, first: bool, a: u8, b: u8, text: &[u8], at: usize, to: usize) -> Token
+    requires { ⌜ (at ≤ to) × (to ≤ length (now text)) ⌝ }
+    ensures { λ r. ⌜ Forms (now (text .entry)) at to (form m first a b (part (now (text .entry)) at to)) r ⌝ }
+{
+    if a == 70 {
+        return Token::Ends(read_function(m, first, b, text, at, to));
+    }
+    if a == 48 {
+        if b < 48 {
+            return Token::Ends(Ending::Malformed);
+        }
+        if 57 < b {
+            return Token::Ends(Ending::Malformed);
+        }
+        return Token::Has(Part::Serial(b as usize - 48), at);
+    }
+    if a < 48 {
+        return Token::Ends(Ending::Malformed);
+    }
+    if 57 < a {
+        return Token::Ends(Ending::Malformed);
+    }
+    read_conversion(a as usize - 48, b, at)
+}
+
+// What stands at `at` of a code line that ends before `to`; `first`: it is the line's start.
+pub fn read_token(m: Marks, text: &[u8], at: usize, to: usize, first: bool) -> Token
+    requires { ⌜ (at ≤ to) × (to ≤ length (now text)) ⌝ }
+    ensures { λ r. ⌜ Reads m (now (text .entry)) at to first r ⌝ }
+{
+    if to <= at {
+        return Token::Ends(Ending::Offer);
+    }
+    let x = text[at];
+    if x != m.escape {
+        return Token::Has(Part::Byte(x), at + 1);
+    }
+    if to - at < 3 {
+        return Token::Ends(Ending::Malformed);
+    }
+    read_form(m, first, text[at + 1], text[at + 2], text, at + 3, to)
+}
+
+// What is done at the end of the code line from `at` up to `to`.
+pub fn read_ending(m: Marks, text: &[u8], at: usize, to: usize) -> Ending
+    requires { ⌜ (at ≤ to) × (to ≤ length (now text)) ⌝ }
+    ensures { λ r. ⌜ Finishes m (now (text .entry)) at to r ⌝ }
+{
+    let mut i = at;
+    let mut first = true;
+    loop {
+        match read_token(m, text, i, to, first) {
+            Token::Ends(k) => {
+                return k;
+            }
+            Token::Has(_, e) => {
+                i = e;
+                first = false;
+            }
+        }
+    }
+}
+
+fn effect_of(k: Ending) -> Effect
+    ensures { λ r. ⌜ ((text : List ℕ) (to : ℕ) → r ≡ effectOf (endingOf text to k)) ⌝ }
+{
+    match k {
+        Ending::Offer => Effect::Plain,
+        Ending::Assign(_) => Effect::Plain,
+        Ending::Iterate(_, _) => Effect::Opens,
+        Ending::Stop => Effect::Plain,
+        Ending::Write(_) => Effect::Plain,
+        Ending::Layout(_) => Effect::Owns,
+        Ending::Save => Effect::Plain,
+        Ending::Skip => Effect::Plain,
+        Ending::SkipText(_) => Effect::Plain,
+        Ending::SkipValue(_) => Effect::Plain,
+        Ending::Repeat => Effect::Opens,
+        Ending::Again => Effect::Closes,
+        Ending::Leave => Effect::Plain,
+        Ending::Malformed => Effect::Malformed,
+    }
+}
+
+// What the code line from `at` up to `to` does to the iterations around the lines after it.
+pub fn read_effect(m: Marks, text: &[u8], at: usize, to: usize) -> Effect
+    requires { ⌜ (at ≤ to) × (to ≤ length (now text)) ⌝ }
+    ensures { λ r. ⌜ Affects m (now (text .entry)) at to r ⌝ }
+{
+    effect_of(read_ending(m, text, at, to))
+}

@@ -1,0 +1,514 @@
+-- Laws of fuel (document 01, demand 3): more fuel changes nothing of a run that ended, and only prolongs one that was spent.
+-- The theorems: after-sum, ended-stays, spent-goes-on; of whole runs, at the end, fuel-enough, fuel-spent, run-events, spent-events.
+use mathlib.Core.Path.{_≡_, refl, ap, sym, _∙_, subst}
+use mathlib.Core.Bool.{Bool, true, false}
+use mathlib.Core.Option.{Option, none, some}
+use mathlib.Core.List.{List, [], _∷_, _++_, append-assoc, append-nil}
+use Prim.Native.Nat.{ℕ, zero, suc, _+_, _-_, _≤_, _<_}
+use native.Mathlib.Nat.{zero-add, suc-add, add-sub-of-le}
+use native.Mathlib.Omega.{arith}
+use lib.Dec.{eqb, leb}
+use lib.ListN.{length}
+use lib.IntN.{ℤ, pos, negsuc}
+use Rattle.model.specs.declared.Marks.{Marks}
+use Rattle.model.specs.Text.{Grows, Bytes, upTo}
+use Rattle.model.specs.Reading.{Reading, chosen}
+use Rattle.model.specs.Code.{Code, Part, Ending, byte, serial, convert, offer, assign, iterate, stop, write, layout, save, skip, skipText, skipValue, repeat, again, leave, malformed}
+use Rattle.model.specs.declared.Comparison.{Comparison}
+use Rattle.model.specs.Store.{put, within, decimal}
+use Rattle.model.specs.Value.{written}
+use Rattle.model.specs.Load.{templates, Macro, Loaded, Load, refused, loaded}
+use Rattle.model.specs.Machine.{Loop, byPieces, byCount, Frame, Shared, Step, continues, offers, skips, leaves, halts, resumeAt, withStore, Building, built, failed, add, addSymbol, addValue, addByteValue, addConverted, addPart, build, Piece, takePass, nextPass, endPass, startRepeat, output, writeTo, writeLayout, saveText, skipBy, skipIf, skipCompared, finish, finishBuilt, carryOut, State, Next, running, ended, stateWith, Passed, landed, beyond, badLanding, passOver, skipIn, call, passThrough, offered, stepped, unfinished, readInput, ready, beginLine, counted, event, after, initial, resultOf, outcome, run, skipFrom, offeredAs, beginAt, eventFor, measured, readyIn, readyFor, closed, follow}
+use Rattle.model.specs.Text.{Grows}
+
+-- ---- tools
+
+-- a property of both branches of a test. Write the test; the branches are found
+pub both {ℓ κ} : {A : Type ℓ} (P : A → Type κ) (b : Bool) (x y : A) → P x → P y → P (elim b as (λ c. A) [ true ↦ x | false ↦ y ])
+both P true x y p q = p
+both P false x y p q = q
+
+-- an output is a beginning of itself
+pub grows-refl : (a : Bytes) → Grows a a
+grows-refl a = ([], sym (append-nil a))
+
+-- equal outputs are beginnings of each other
+pub grows-eq : (a b : Bytes) → b ≡ a → Grows a b
+grows-eq a b e = ([], e ∙ sym (append-nil a))
+
+-- a beginning of a beginning is a beginning
+pub grows-trans : (a b c : Bytes) → Grows a b → Grows b c → Grows a c
+grows-trans a b c p q = (p .0 ++ q .0, (q .1) ∙ (ap (λ (l : Bytes). l ++ q .0) (p .1) ∙ append-assoc a (p .0) (q .0)))
+
+-- ---- building a line writes nothing, and fails with a number below 20
+
+-- the output is o, and a failure's number is below 20
+abbrev pub Kept : Bytes → Building → Type 0
+Kept o (built l v) = v .output ≡ o
+Kept o (failed n v) = (v .output ≡ o) × (n < 20)
+
+-- adding bytes writes nothing
+pub add-kept : (l s : Bytes) (w : Shared) → Kept (w .output) (add l s w)
+unfolding add
+add-kept l s w = both (Kept (w .output)) (leb (length l + length s) 200) _ _ refl (refl, omega arith)
+
+-- nor does ed2
+pub addSymbol-kept : (l name : Bytes) (o : Option Bytes) (w : Shared) → Kept (w .output) (addSymbol l name o w)
+unfolding addSymbol
+addSymbol-kept l name (some s) w = add-kept l s w
+addSymbol-kept l name none w = both (Kept (w .output)) (within (put name (decimal (suc (w .symbols))) (w .store))) _ _ (add-kept l _ _) (refl, omega arith)
+
+-- nor does ed4
+pub addValue-kept : (m : Marks) (l : Bytes) (o : Option ℤ) (w : Shared) → Kept (w .output) (addValue m l o w)
+unfolding addValue
+addValue-kept m l none w = (refl, omega arith)
+addValue-kept m l (some v) w = add-kept l (written m v) w
+
+-- nor does ed8
+pub addByteValue-kept : (l s : Bytes) (w : Shared) → Kept (w .output) (addByteValue l s w)
+unfolding addByteValue
+addByteValue-kept l [] w = (refl, omega arith)
+addByteValue-kept l (x ∷ []) w = add-kept l (decimal x) w
+addByteValue-kept l (x ∷ y ∷ s) w = (refl, omega arith)
+
+-- nor does any conversion of a parameter
+pub addConverted-kept : (m : Marks) (f : Frame) (d k : ℕ) (l : Bytes) (w : Shared) → Kept (w .output) (addConverted m f d k l w)
+unfolding addConverted
+addConverted-kept m f d k l w =
+    let P : Building → Type 0 = Kept (w .output) in
+    both P (eqb k 0) _ _ (add-kept l _ w) (
+    both P (eqb k 1) _ _ (add-kept l _ w) (
+    both P (eqb k 2) _ _ (addSymbol-kept l _ _ w) (
+    both P (eqb k 3) _ _ (add-kept l _ w) (
+    both P (eqb k 4) _ _ (addValue-kept m l _ w) (
+    both P (eqb k 5) _ _ (add-kept l _ w) (
+    addByteValue-kept l _ w))))))
+
+-- nor does any part of a code line
+pub addPart-kept : (m : Marks) (f : Frame) (p : Part) (l : Bytes) (w : Shared) → Kept (w .output) (addPart m f p l w)
+unfolding addPart
+addPart-kept m f (byte b) l w = add-kept l _ w
+addPart-kept m f (serial k) l w = add-kept l _ w
+addPart-kept m f (convert d k) l w = addConverted-kept m f d k l w
+
+-- nor does building a line
+pub build-kept : (m : Marks) (f : Frame) (ps : List Part) (l : Bytes) (w : Shared) → Kept (w .output) (build m f ps l w)
+unfolding build
+build-kept m f [] l w = refl
+build-kept m f (p ∷ ps) l w = then (addPart m f p l w) (addPart-kept m f p l w) (λ k v. build-kept m f ps k v)
+  where
+    then : (b : Building) → Kept (w .output) b → ((k : Bytes) (v : Shared) → Kept (v .output) (build m f ps k v))
+        → Kept (w .output) (elim b [ built k v ↦ build m f ps k v | failed n v ↦ failed n v ])
+    then (built k v) e ih = rw (← e) (ih k v)
+    then (failed n v) e ih = e
+
+-- ---- carrying out a code line only adds to the output, and ends with a number below 20
+
+-- the output begins with o, and the number of an end is below 20
+abbrev pub Adds : Bytes → Step → Type 0
+Adds o (continues f v) = Grows o (v .output)
+Adds o (offers l f v) = Grows o (v .output)
+Adds o (skips n f v) = Grows o (v .output)
+Adds o (leaves v) = Grows o (v .output)
+Adds o (halts k v) = Grows o (v .output) × (k < 20)
+
+-- a pass
+pub takePass-adds : (d : ℕ) (p : Option Piece) (ds old : Bytes) (after : List Bytes) (ls : List Loop) (f : Frame) (w : Shared) → Adds (w .output) (takePass d p ds old after ls f w)
+unfolding takePass
+takePass-adds d none ds old after ls f w = (grows-refl _, omega arith)
+takePass-adds d (some p) ds old after ls f w = grows-refl _
+
+-- the next pass
+pub nextPass-adds : (m : Marks) (d : ℕ) (rest ds old : Bytes) (after : List Bytes) (ls : List Loop) (f : Frame) (w : Shared) → Adds (w .output) (nextPass m d rest ds old after ls f w)
+unfolding nextPass
+nextPass-adds m d [] ds old after ls f w = grows-refl _
+nextPass-adds m d (x ∷ rest) ds old after ls f w = takePass-adds d _ ds old after ls f w
+
+-- eF8
+pub endPass-adds : (m : Marks) (ls : List Loop) (f : Frame) (w : Shared) → Adds (w .output) (endPass m ls f w)
+unfolding endPass
+endPass-adds m [] f w = grows-refl _
+endPass-adds m (byCount zero after ∷ ls) f w = grows-refl _
+endPass-adds m (byCount (suc n) after ∷ ls) f w = grows-refl _
+endPass-adds m (byPieces d rest ds old after ∷ ls) f w = nextPass-adds m d rest ds old after ls f w
+
+-- eF7
+pub startRepeat-adds : (m : Marks) (v : Option ℤ) (f : Frame) (w : Shared) → Adds (w .output) (startRepeat m v f w)
+unfolding startRepeat
+startRepeat-adds m none f w = (grows-refl _, omega arith)
+startRepeat-adds m (some (pos zero)) f w = grows-refl _
+startRepeat-adds m (some (pos (suc n))) f w = grows-refl _
+startRepeat-adds m (some (negsuc n)) f w = grows-refl _
+
+-- a line written
+pub output-adds : (room : ℕ) (l : Bytes) (f : Frame) (w : Shared) → Adds (w .output) (output room l f w)
+unfolding output
+output-adds room l f w = both (Adds (w .output)) (leb (length (w .output) + length l + 1) room) _ _ (l ++ (10 ∷ []), refl) (grows-refl _, omega arith)
+
+-- a line written to a channel
+pub writeTo-adds : (room ch : ℕ) (l : Bytes) (f : Frame) (w : Shared) → Adds (w .output) (writeTo room ch l f w)
+unfolding writeTo
+writeTo-adds room ch l f w = both (Adds (w .output)) (eqb ch 0) _ _ (grows-refl _) (output-adds room l f w)
+
+-- a layout written
+pub writeLayout-adds : (room : ℕ) (m : Marks) (ch : ℕ) (cs : List Bytes) (f : Frame) (w : Shared) → Adds (w .output) (writeLayout room m ch cs f w)
+unfolding writeLayout
+writeLayout-adds room m ch [] f w = grows-refl _
+writeLayout-adds room m ch (c ∷ cs) f w = writeTo-adds room ch _ _ w
+
+-- a text stored
+pub saveText-adds : (name text : Bytes) (f : Frame) (w : Shared) → Adds (w .output) (saveText name text f w)
+unfolding saveText withStore
+saveText-adds name text f w = both (Adds (w .output)) (within (put name text (w .store))) _ _ (grows-refl _) (grows-refl _, omega arith)
+
+-- a skip
+pub skipBy-adds : (v : Option ℤ) (f : Frame) (w : Shared) → Adds (w .output) (skipBy v f w)
+unfolding skipBy
+skipBy-adds none f w = (grows-refl _, omega arith)
+skipBy-adds (some (pos n)) f w = grows-refl _
+skipBy-adds (some (negsuc n)) f w = (grows-refl _, omega arith)
+
+-- a skip on a condition
+pub skipIf-adds : (m : Marks) (b : Bool) (f : Frame) (w : Shared) → Adds (w .output) (skipIf m b f w)
+unfolding skipIf
+skipIf-adds m b f w = both (Adds (w .output)) b _ _ (skipBy-adds _ f w) (grows-refl _)
+
+-- a skip on a comparison
+pub skipCompared-adds : (m : Marks) (o : Comparison) (a b : Option ℤ) (f : Frame) (w : Shared) → Adds (w .output) (skipCompared m o a b f w)
+unfolding skipCompared
+skipCompared-adds m o none b f w = (grows-refl _, omega arith)
+skipCompared-adds m o (some a) none f w = (grows-refl _, omega arith)
+skipCompared-adds m o (some a) (some b) f w = skipIf-adds m _ f w
+
+-- what is done at a code line's end
+pub finish-adds : (room : ℕ) (m : Marks) (k : Ending) (l : Bytes) (f : Frame) (w : Shared) → Adds (w .output) (finish room m k l f w)
+unfolding finish
+finish-adds room m offer l f w = grows-refl _
+finish-adds room m (assign d) l f w = grows-refl _
+finish-adds room m (iterate d ds) l f w = takePass-adds d _ ds _ _ _ f w
+finish-adds room m stop l f w = (grows-refl _, omega arith)
+finish-adds room m (write ch) l f w = writeTo-adds room ch l f w
+finish-adds room m (layout ch) l f w = writeLayout-adds room m ch _ f w
+finish-adds room m save l f w = saveText-adds _ _ f w
+finish-adds room m skip l f w = skipBy-adds _ f w
+finish-adds room m (skipText b) l f w = skipIf-adds m _ f w
+finish-adds room m (skipValue o) l f w = skipCompared-adds m o _ _ f w
+finish-adds room m repeat l f w = startRepeat-adds m _ f w
+finish-adds room m again l f w = endPass-adds m _ f w
+finish-adds room m leave l f w = grows-refl _
+finish-adds room m malformed l f w = grows-refl _
+
+-- a whole code line
+pub carryOut-adds : (room : ℕ) (m : Marks) (c : Code) (f : Frame) (w : Shared) → Adds (w .output) (carryOut room m c f w)
+unfolding carryOut finishBuilt
+carryOut-adds room m c f w = then (build m f (c .parts) [] w) (build-kept m f (c .parts) [] w)
+  where
+    then : (b : Building) → Kept (w .output) b → Adds (w .output) (finishBuilt room m (c .ending) f b)
+    then (built l v) e = rw (← e) (finish-adds room m (c .ending) l f v)
+    then (failed n v) e = (grows-eq _ _ (e .0), e .1)
+
+-- ---- an event and what comes without one: the output before is a beginning of that after, and this many events are counted by then
+
+-- the output begins with o, e events are counted, and the number of an end is below 20
+abbrev pub Later : Bytes → ℕ → Next → Type 0
+Later o e (running s) = Grows o (s .shared .output) × (s .events ≡ e)
+Later o e (ended k s) = Grows o (s .shared .output) × (s .events ≡ e) × (k < 20)
+
+-- a skip in one call
+pub skipFrom-later : (o : Bytes) (f : Frame) (fs : List Frame) (w : Shared) (s : State) (out : ℕ → Next) (p : Passed)
+    → Grows o (w .output) → ((k : ℕ) → Later o (s .events) (out k)) → Later o (s .events) (skipFrom f fs w s out p)
+unfolding skipFrom stateWith
+skipFrom-later o f fs w s out (landed cs) g h = (g, refl)
+skipFrom-later o f fs w s out (beyond k) g h = h k
+skipFrom-later o f fs w s out badLanding g h = (g, refl, omega arith)
+
+-- a skip through the open calls
+pub skipIn-later : (m : Marks) (o : Bytes) (n : ℕ) (fs : List Frame) (w : Shared) (s : State) → Grows o (w .output) → Later o (s .events) (skipIn m n fs w s)
+unfolding skipIn
+skipIn-later m o n [] w s g = (g, refl)
+skipIn-later m o n (f ∷ fs) w s g = skipFrom-later o f fs w s (λ k. skipIn m k fs w s) (passOver m n 0 (f .next)) g (λ k. skipIn-later m o k fs w s g)
+
+-- what a code line comes to
+pub stepped-later : (m : Marks) (o : Bytes) (fs : List Frame) (p : Step) (s : State) → Adds o p → Later o (s .events) (stepped m fs p s)
+unfolding stepped stateWith
+stepped-later m o fs (continues f w) s g = (g, refl)
+stepped-later m o fs (offers l f w) s g = (g, refl)
+stepped-later m o fs (skips n f w) s g = skipIn-later m o n (f ∷ fs) w s g
+stepped-later m o fs (leaves w) s g = (g, refl)
+stepped-later m o fs (halts k w) s g = (g .0, refl, g .1)
+
+-- a line without a reading
+pub passThrough-later : (room : ℕ) (l : Bytes) (s : State) → Later (s .shared .output) (s .events) (passThrough room l s)
+unfolding passThrough stateWith
+passThrough-later room l s = both (Later (s .shared .output) (s .events)) (leb (length (s .shared .output) + length l + 1) room) _ _ ((l ++ (10 ∷ []), refl), refl) (grows-refl _, refl, omega arith)
+
+-- a call
+pub call-later : (x : Macro) (ps : List Bytes) (s : State) → Later (s .shared .output) (s .events) (call x ps s)
+unfolding call
+call-later x ps s = both (Later (s .shared .output) (s .events)) (leb 12 (length (s .frames))) _ _ (grows-refl _, refl, omega arith) (grows-refl _, refl)
+
+-- a line offered, with its reading or none
+pub offeredAs-later : (room : ℕ) (t : Loaded) (l : Bytes) (s : State) (o : Option Reading) → Later (s .shared .output) (s .events) (offeredAs room t l s o)
+unfolding offeredAs
+offeredAs-later room t l s none = passThrough-later room l s
+offeredAs-later room t l s (some r) = call-later _ _ s
+
+-- a code line begun
+pub beginAt-later : (room : ℕ) (m : Marks) (f : Frame) (fs : List Frame) (s : State) (cs : List Bytes) → Later (s .shared .output) (s .events) (beginAt room m f fs s cs)
+unfolding beginAt
+beginAt-later room m f fs s [] = (grows-refl _, refl)
+beginAt-later room m f fs s (c ∷ cs) = stepped-later m _ fs _ s (carryOut-adds room m _ _ (s .shared))
+
+-- the innermost call's next code line
+pub beginLine-later : (room : ℕ) (m : Marks) (fs : List Frame) (s : State) → Later (s .shared .output) (s .events) (beginLine room m fs s)
+unfolding beginLine
+beginLine-later room m [] s = (grows-refl _, refl)
+beginLine-later room m (f ∷ fs) s = beginAt-later room m f fs s (f .next)
+
+-- an event, with a line pending or none
+pub eventFor-later : (room : ℕ) (t : Loaded) (s : State) (p : Option Bytes) → Later (s .shared .output) (suc (s .events)) (eventFor room t s p)
+unfolding eventFor offered counted
+eventFor-later room t s (some l) = offeredAs-later room t l (counted s) (chosen (t .marks) (templates (t .macros)) l)
+eventFor-later room t s none = beginLine-later room (t .marks) (s .frames) (counted s)
+
+-- an event counts one
+pub event-later : (room : ℕ) (t : Loaded) (s : State) → Later (s .shared .output) (suc (s .events)) (event room t s)
+unfolding event
+event-later room t s = eventFor-later room t s (s .pending)
+
+-- an input line measured
+pub measured-later : (s : State) (c : Bytes) (b : Bool) → Later (s .shared .output) (s .events) (measured s c b)
+unfolding measured
+measured-later s c true = (grows-refl _, refl)
+measured-later s c false = (grows-refl _, refl, omega arith)
+
+-- an input line read
+pub readInput-later : (m : Marks) (ls : List Bytes) (s : State) → Later (s .shared .output) (s .events) (readInput m ls s)
+unfolding readInput stateWith
+readInput-later m [] s = (grows-refl _, refl, omega arith)
+readInput-later m (l ∷ ls) s = measured-later _ (upTo (m .source) l) (leb (length (upTo (m .source) l)) 200)
+
+-- with these calls open
+pub readyIn-later : (m : Marks) (s : State) (fs : List Frame) → Later (s .shared .output) (s .events) (readyIn m s fs)
+unfolding readyIn stateWith
+readyIn-later m s [] = readInput-later m (s .input) s
+readyIn-later m s (f ∷ fs) = (grows-refl _, refl)
+
+-- with a line pending or none
+pub readyFor-later : (m : Marks) (s : State) (p : Option Bytes) → Later (s .shared .output) (s .events) (readyFor m s p)
+unfolding readyFor
+readyFor-later m s (some l) = (grows-refl _, refl)
+readyFor-later m s none = readyIn-later m s (unfinished (s .frames))
+
+-- what comes without an event counts none
+pub ready-later : (m : Marks) (s : State) → Later (s .shared .output) (s .events) (ready m s)
+unfolding ready
+ready-later m s = readyFor-later m s (s .pending)
+
+-- ---- the machine n + j events later is the machine j events after n
+
+-- a call with a code line left stays open
+pub unfinished-here : (f : Frame) (fs : List Frame) (c : Bytes) (cs : List Bytes) → f .next ≡ c ∷ cs → unfinished (f ∷ fs) ≡ f ∷ fs
+unfolding unfinished closed
+unfinished-here f fs c cs e = ap (closed f fs (unfinished fs)) e
+
+-- a call without one closes
+pub unfinished-past : (f : Frame) (fs : List Frame) → f .next ≡ [] → unfinished (f ∷ fs) ≡ unfinished fs
+unfolding unfinished closed
+unfinished-past f fs e = ap (closed f fs (unfinished fs)) e
+
+-- calls that are left open stay open
+pub unfinished-again : (fs : List Frame) → unfinished (unfinished fs) ≡ unfinished fs
+unfolding unfinished
+unfinished-again [] = refl
+unfinished-again (f ∷ fs) = then (f .next) refl (unfinished-again fs)
+  where
+    then : (c : List Bytes) → f .next ≡ c → unfinished (unfinished fs) ≡ unfinished fs → unfinished (unfinished (f ∷ fs)) ≡ unfinished (f ∷ fs)
+    then [] e ih = ap unfinished (unfinished-past f fs e) ∙ (ih ∙ sym (unfinished-past f fs e))
+    then (c ∷ cs) e ih = ap unfinished (unfinished-here f fs c cs e)
+
+-- with a line pending, the machine is ready
+pub ready-pending : (m : Marks) (s : State) (l : Bytes) → s .pending ≡ some l → ready m s ≡ running s
+unfolding ready readyFor
+ready-pending m s l e = ap (readyFor m s) e
+
+-- with none pending, finished calls close first
+pub ready-none : (m : Marks) (s : State) (u : List Frame) → s .pending ≡ none → unfinished (s .frames) ≡ u → ready m s ≡ readyIn m s u
+unfolding ready readyFor
+ready-none m s u e h = ap (readyFor m s) e ∙ ap (readyIn m s) h
+
+-- what stands before its next event is left as it is
+abbrev pub Settled : Marks → Next → Type 0
+Settled m (running s) = ready m s ≡ running s
+Settled m (ended k s) = Unit {0}
+
+-- an input line that is read is ready to be offered
+pub readInput-settled : (m : Marks) (ls : List Bytes) (s : State) → Settled m (readInput m ls s)
+unfolding readInput measured
+readInput-settled m [] s = tt
+readInput-settled m (l ∷ ls) s = by (leb (length (upTo (m .source) l)) 200)
+  where
+    c : Bytes
+    c = upTo (m .source) l
+
+    s′ : State
+    s′ = record { input = ls; line = suc (s .line); pending = some c; frames = []; calls = s .calls; shared = s .shared; events = s .events }
+
+    by : (b : Bool) → Settled m (measured s′ c b)
+    by true = ready-pending m s′ c refl
+    by false = tt
+
+-- the machine that is ready stays so
+pub ready-settled : (m : Marks) (s : State) → Settled m (ready m s)
+unfolding stateWith readyIn
+ready-settled m s = byPending (s .pending) refl
+  where
+    byFrames : (u : List Frame) → s .pending ≡ none → unfinished (s .frames) ≡ u → Settled m (ready m s)
+    byFrames [] p e = rw (ready-none m s [] p e) (readInput-settled m (s .input) s)
+    byFrames (f ∷ fs) p e = rw (ready-none m s (f ∷ fs) p e) (ready-none m (stateWith s none (f ∷ fs) (s .shared)) (f ∷ fs) refl (rw e at (unfinished-again (s .frames))))
+
+    byPending : (p : Option Bytes) → s .pending ≡ p → Settled m (ready m s)
+    byPending (some l) e = subst (Settled m) (sym (ready-pending m s l e)) (ready-pending m s l e)
+    byPending none e = byFrames (unfinished (s .frames)) e refl
+
+-- an ended machine stays as it is
+pub after-ended : (n room : ℕ) (t : Loaded) (k : ℕ) (s : State) → after n room t (ended k s) ≡ ended k s
+unfolding after follow
+after-ended zero room t k s = refl
+after-ended (suc n) room t k s = refl
+
+-- `ready` may be done beforehand
+pub after-ready : (n room : ℕ) (t : Loaded) (s : State) → after n room t (ready (t .marks) s) ≡ after n room t (running s)
+unfolding after follow
+after-ready n room t s = by n (ready (t .marks) s) refl (ready-settled (t .marks) s)
+  where
+    by : (n : ℕ) (r : Next) → ready (t .marks) s ≡ r → Settled (t .marks) r → after n room t r ≡ after n room t (running s)
+    by zero (running s′) e h = h ∙ sym e
+    by zero (ended k s′) e h = sym e
+    by (suc n) (running s′) e h = rw (e, h, after)
+    by (suc n) (ended k s′) e h = rw (e, after)
+
+-- the key law: n + j events later is j events after n events later
+pub after-sum : (n j room : ℕ) (t : Loaded) (x : Next) → after (n + j) room t x ≡ after j room t (after n room t x)
+unfolding after follow
+after-sum zero j room t (ended k s) = rw zero-add
+after-sum zero j room t (running s) = rw zero-add (sym (after-ready j room t s))
+after-sum (suc n) j room t (ended k s) = after-ended (suc n + j) room t k s ∙ sym (after-ended j room t k s)
+after-sum (suc n) j room t (running s) = rw suc-add (by (ready (t .marks) s) (λ y. after-sum n j room t y))
+  where
+    by : (r : Next) → ((y : Next) → after (n + j) room t y ≡ after j room t (after n room t y))
+        → follow (λ s′. after (n + j) room t (event room t s′)) r ≡ after j room t (follow (λ s′. after n room t (event room t s′)) r)
+    by (ended k s′) ih = sym (after-ended j room t k s′)
+    by (running s′) ih = ih (event room t s′)
+
+-- 1. what has ended stays as it is
+pub ended-stays : (n j room : ℕ) (t : Loaded) (x : Next) (k : ℕ) (s : State) → after n room t x ≡ ended k s → after (n + j) room t x ≡ ended k s
+ended-stays n j room t x k s e = rw (after-sum, e) (after-ended j room t k s)
+
+-- ---- 2 and 3. output only grows; events are counted
+
+-- n events later: the output begins with o; a machine that goes on has counted n, an ended one at most n, with a number below 20
+abbrev pub Since : Bytes → ℕ → ℕ → Next → Type 0
+Since o e n (running s) = Grows o (s .shared .output) × (s .events ≡ e + n)
+Since o e n (ended k s) = Grows o (s .shared .output) × (s .events ≤ e + n) × (k < 20)
+
+-- n events later, by what is reached
+pub after-since : (n room : ℕ) (t : Loaded) (s : State) → Since (s .shared .output) (s .events) n (after n room t (running s))
+unfolding after follow
+after-since zero room t s = by (ready (t .marks) s) (ready-later (t .marks) s)
+  where
+    by : (r : Next) → Later (s .shared .output) (s .events) r → Since (s .shared .output) (s .events) 0 r
+    by (running s′) h = (h .0, omega arith)
+    by (ended k s′) h = (h .0, omega arith, h .2)
+after-since (suc n) room t s = by (ready (t .marks) s) (ready-later (t .marks) s) (λ s′. after-since n room t s′)
+  where
+    byEvent : (s′ : State) (r : Next) → Grows (s .shared .output) (s′ .shared .output) → s′ .events ≡ s .events → Later (s′ .shared .output) (suc (s′ .events)) r
+        → ((s″ : State) → Since (s″ .shared .output) (s″ .events) n (after n room t (running s″)))
+        → Since (s .shared .output) (s .events) (suc n) (after n room t r)
+    byEvent s′ (ended k s″) g e h ih = rw (after-ended n room t k s″) (grows-trans (s .shared .output) (s′ .shared .output) (s″ .shared .output) g (h .0), omega arith, h .2)
+    byEvent s′ (running s″) g e h ih = widen (after n room t (running s″)) (ih s″)
+      where
+        g′ : Grows (s .shared .output) (s″ .shared .output)
+        g′ = grows-trans (s .shared .output) (s′ .shared .output) (s″ .shared .output) g (h .0)
+
+        widen : (r : Next) → Since (s″ .shared .output) (s″ .events) n r → Since (s .shared .output) (s .events) (suc n) r
+        widen (running x) k = (grows-trans (s .shared .output) (s″ .shared .output) (x .shared .output) g′ (k .0), omega arith)
+        widen (ended j x) k = (grows-trans (s .shared .output) (s″ .shared .output) (x .shared .output) g′ (k .0), omega arith, k .2)
+
+    by : (r : Next) → Later (s .shared .output) (s .events) r → ((s″ : State) → Since (s″ .shared .output) (s″ .events) n (after n room t (running s″)))
+        → Since (s .shared .output) (s .events) (suc n) (follow (λ s′. after n room t (event room t s′)) r)
+    by (ended k s′) h ih = (h .0, omega arith, h .2)
+    by (running s′) h ih = byEvent s′ (event room t s′) (h .0) (h .1) (event-later room t s′) ih
+
+-- the same by the kind of what is reached
+pub running-since : (n room : ℕ) (t : Loaded) (s s′ : State) → after n room t (running s) ≡ running s′ → Grows (s .shared .output) (s′ .shared .output) × (s′ .events ≡ s .events + n)
+running-since n room t s s′ e = subst (Since (s .shared .output) (s .events) n) e (after-since n room t s)
+
+-- a machine that has ended by then counted at most n, and its number isn't 20
+pub ended-since : (n room : ℕ) (t : Loaded) (s : State) (k : ℕ) (s′ : State) → after n room t (running s) ≡ ended k s′
+    → Grows (s .shared .output) (s′ .shared .output) × (s′ .events ≤ s .events + n) × (k < 20)
+ended-since n room t s k s′ e = subst (Since (s .shared .output) (s .events) n) e (after-since n room t s)
+
+-- what was spent is gone on with: later output begins with it
+pub spent-goes-on : (n j room : ℕ) (t : Loaded) (x : Next) (s : State) → after n room t x ≡ running s → Since (s .shared .output) (s .events) j (after (n + j) room t x)
+spent-goes-on n j room t x s e = rw (after-sum, e) (after-since j room t s)
+
+-- ---- 4. whole runs
+
+-- the run with more fuel, where that with less has come to r
+pub more-fuel : (f g room : ℕ) (t : Loaded) (x : Next) → f ≤ g → after g room t x ≡ after (g - f) room t (after f room t x)
+more-fuel f g room t x h = ap (λ (n : ℕ). after n room t x) (sym (add-sub-of-le h)) ∙ after-sum f (g - f) room t x
+
+-- a run that isn't spent is the same with more fuel
+pub fuel-enough : (f g room : ℕ) (x : Load) → f ≤ g → ¬ (run f room x .number ≡ 20) → run g room x ≡ run f room x
+unfolding run outcome resultOf
+fuel-enough f g room (refused k n) h e = refl
+fuel-enough f g room (loaded t) h e = ap outcome (more-fuel f g room t (running (initial t)) h) ∙ by (after f room t (running (initial t))) e
+  where
+    by : (r : Next) → ¬ (outcome r .number ≡ 20) → outcome (after (g - f) room t r) ≡ outcome r
+    by (running s) e = absurd (e refl)
+    by (ended k s) e = ap outcome (after-ended (g - f) room t k s)
+
+-- the output of a spent run begins the output with more fuel
+pub fuel-spent : (f g room : ℕ) (x : Load) → f ≤ g → run f room x .number ≡ 20 → Grows (run f room x .output) (run g room x .output)
+unfolding run outcome resultOf
+fuel-spent f g room (refused k n) h e = ([], refl)
+fuel-spent f g room (loaded t) h e = rw (more-fuel f g room t (running (initial t)) h) (by (after f room t (running (initial t))))
+  where
+    grown : (o : Bytes) (n : ℕ) (e : ℕ) (r : Next) → Since o e n r → Grows o (outcome r .output)
+    grown o n e (running s) h = h .0
+    grown o n e (ended k s) h = h .0
+
+    by : (r : Next) → Grows (outcome r .output) (outcome (after (g - f) room t r) .output)
+    by (running s) = grown (s .shared .output) (g - f) (s .events) (after (g - f) room t (running s)) (after-since (g - f) room t s)
+    by (ended k s) = rw (after-ended (g - f) room t k s) (grows-refl (s .shared .output))
+
+-- a run counts no more events than its fuel; spent, exactly as many; and only the spent run has number 20
+pub run-events : (f room : ℕ) (t : Loaded) → (run f room (loaded t) .events ≤ f) × (run f room (loaded t) .number ≤ 20)
+unfolding run initial outcome resultOf
+run-events f room t = by (after f room t (running (initial t))) (after-since f room t (initial t))
+  where
+    by : (r : Next) → Since [] 0 f r → (outcome r .events ≤ f) × (outcome r .number ≤ 20)
+    by (running s) h = omega arith
+    by (ended k s) h = omega arith
+
+-- a spent run counts as many events as it had fuel
+pub spent-events : (f room : ℕ) (t : Loaded) → run f room (loaded t) .number ≡ 20 → run f room (loaded t) .events ≡ f
+unfolding run initial outcome resultOf
+spent-events f room t = by (after f room t (running (initial t))) (after-since f room t (initial t))
+  where
+    by : (r : Next) → Since [] 0 f r → outcome r .number ≡ 20 → outcome r .events ≡ f
+    by (running s) h e = omega arith
+    by (ended k s) h e = omega arith
+
+-- a run is the expansion where that ends within the fuel
+pub run-ended : (f room : ℕ) (t : Loaded) (n k : ℕ) (s : State) → n ≤ f → after n room t (running (initial t)) ≡ ended k s → run f room (loaded t) ≡ resultOf k s
+unfolding run outcome
+run-ended f room t n k s h e =
+    let p : n + (f - n) ≡ f = omega arith in
+    ap outcome (ap (λ (j : ℕ). after j room t (running (initial t))) (sym p) ∙ ended-stays n (f - n) room t (running (initial t)) k s e)
+
+-- and is spent where it doesn't
+pub run-spent : (f room : ℕ) (t : Loaded) (s : State) → after f room t (running (initial t)) ≡ running s → run f room (loaded t) ≡ resultOf 20 s
+unfolding run outcome
+run-spent f room t s e = ap outcome e

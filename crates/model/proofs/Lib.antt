@@ -1,0 +1,19 @@
+-- Every main statement, with its proof cited.
+pub mod Theorems
+-- The first reading.
+pub mod Chosen
+pub mod Parts
+pub mod FirstReading
+-- The document's starred examples.
+pub mod Starred
+-- Laws of the machine.
+pub mod Fuel
+pub mod Steps
+pub mod Nesting
+pub mod Frames
+-- What a text that loads has, where a run stands in it, and how large a state is.
+pub mod Loading
+pub mod Input
+pub mod Sizes
+-- The bounds on depth in Value and Machine are large enough.
+pub mod Depth

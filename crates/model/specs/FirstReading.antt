@@ -1,0 +1,25 @@
+-- What fitting a line promises, in document 01's words: no call exactly when no template fits under any split into balanced pieces; otherwise
+-- the template and the pieces of the reading before every other fitting one.
+use mathlib.Core.Path.{_≡_}
+use mathlib.Core.Logic.{_↔_}
+use mathlib.Core.List.{map}
+use Prim.Native.Nat.{ℕ, _<_}
+use lib.ListN.{length, getD}
+use Rattle.model.specs.declared.Fitted.{Fitted}
+use Rattle.model.specs.Text.{Bytes}
+use Rattle.model.specs.Reading.{Pieces}
+use Rattle.model.specs.Load.{Macro, noMacro, templates, Loaded}
+use Rattle.model.specs.Results.{startsOf, nine}
+use Rattle.model.specs.Fitting.{Reads, First}
+
+-- the answer r names the reading by the i-th template with the pieces ps
+pub record Names (t : Loaded) (i : ℕ) (ps : Pieces) (r : Fitted) : Type 0 where
+  pub line : r .line ≡ getD (t .macros) i noMacro .line
+  pub start : r .start ≡ nine (startsOf (t .marks) 0 (getD (t .macros) i noMacro .template) ps)
+  pub length : r .length ≡ nine (map (λ p. length p) ps)
+
+-- the answer r for a line
+pub record FitsFirst (t : Loaded) (line : Bytes) (r : Fitted) : Type 0 where
+  pub done : r .number ≡ 0
+  pub no-call : r .line ≡ 0 ↔ ((i : ℕ) (ps : Pieces) → ¬ Reads (t .marks) (templates (t .macros)) line i ps)
+  pub call : 0 < r .line → (i : ℕ) × (ps : Pieces) × First (t .marks) (templates (t .macros)) line i ps × Names t i ps r

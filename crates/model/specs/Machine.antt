@@ -1,0 +1,505 @@
+-- The expansion (document 01, "Events, store and result"): a machine that is fed a loaded text and the output room.
+use mathlib.Core.Bool.{Bool, true, false, not, _&&_, _||_}
+use mathlib.Core.Option.{Option, none, some}
+use mathlib.Core.List.{List, [], _∷_, _++_}
+use Prim.Native.Nat.{ℕ, zero, suc, _+_, _-_, _*_, min}
+use lib.Dec.{eqb, leb, ltb}
+use lib.ListN.{length, getD, drop, set, replicate}
+use lib.IntN.{ℤ, pos, negsuc}
+use Rattle.model.specs.declared.Marks.{Marks}
+use Rattle.model.specs.Text.{Bytes, same, has, upTo}
+use Rattle.model.specs.Reading.{Reading, chosen, atom}
+use Rattle.model.specs.Code.{Code, Part, Ending, byte, serial, convert, parse, offer, assign, iterate, stop, write, layout, save, skip, skipText, skipValue, repeat, again, leave, malformed, effect}
+use Rattle.model.specs.declared.Effect.{Effect}
+use Rattle.model.specs.declared.Effect.the-variants.{Malformed, Plain, Opens, Closes, Owns}
+use Rattle.model.specs.declared.Comparison.{Comparison}
+use Rattle.model.specs.declared.Comparison.the-variants.{Equal, Unequal, Less, Greater}
+use Rattle.model.specs.Store.{Store, find, put, within, decimal, listing}
+use Rattle.model.specs.Value.{valueOf, written}
+use Rattle.model.specs.Load.{templates, Macro, Loaded, Load, refused, loaded, load, noMacro}
+
+-- an open iteration. ed7 has the rest of the built line, the list of delimiters and d's old value; eF7 the passes left. `after` are the
+-- code lines after the opening line
+pub data Loop : Type 0 where
+  byPieces : (d : ℕ) (rest delimiters old : Bytes) (after : List Bytes) → Loop
+  byCount : (left : ℕ) (after : List Bytes) → Loop
+
+-- an open call: its number, nine parameters with their latest delimiters (one byte, or none), the code lines left, the open iterations
+pub record Frame : Type 0 where
+  pub number : ℕ
+  pub params : List Bytes
+  pub delimiters : List Bytes
+  pub next : List Bytes
+  pub loops : List Loop
+
+-- what every call shares: the last number of ed2, stored names and texts, and the output
+pub record Shared : Type 0 where
+  pub symbols : ℕ
+  pub store : Store
+  pub output : Bytes
+
+-- what a code line comes to: the call goes on, offers a line, skips code lines, ends its body, or the run ends with a number
+pub data Step : Type 0 where
+  continues : Frame → Shared → Step
+  offers : Bytes → Frame → Shared → Step
+  skips : ℕ → Frame → Shared → Step
+  leaves : Shared → Step
+  halts : ℕ → Shared → Step
+
+-- parameter d
+unfoldable pub param : Frame → ℕ → Bytes
+param f d = getD (f .params) (d - 1) []
+
+-- the call with another text as parameter d
+unfoldable pub withParam : Frame → ℕ → Bytes → Frame
+withParam f d v = record { number = f .number; params = set (f .params) (d - 1) v; delimiters = f .delimiters; next = f .next; loops = f .loops }
+
+-- the call with these iterations open and these code lines left
+unfoldable pub resumeAt : Frame → List Loop → List Bytes → Frame
+resumeAt f ls cs = record { number = f .number; params = f .params; delimiters = f .delimiters; next = cs; loops = ls }
+
+unfoldable pub withStore : Shared → Store → Shared
+withStore w st = record { symbols = w .symbols; store = st; output = w .output }
+
+-- ---- the built line
+
+-- a line being built, or the number that ends the run
+pub data Building : Type 0 where
+  built : Bytes → Shared → Building
+  failed : ℕ → Shared → Building
+
+-- a line being built has at most 200 bytes
+unfoldable pub add : Bytes → Bytes → Shared → Building
+add l s w = elim (leb (length l + length s) 200) [ true ↦ built (l ++ s) w | false ↦ failed 12 w ]
+
+-- ed1: the stored text, or nothing
+unfoldable pub orNothing : Option Bytes → Bytes
+orNothing none = []
+orNothing (some s) = s
+
+-- ed2: the next of 1, 2, 3, .. is stored first where the name isn't
+unfoldable pub addSymbol : Bytes → Bytes → Option Bytes → Shared → Building
+addSymbol l name (some s) w = add l s w
+addSymbol l name none w =
+    let text : Bytes = decimal (suc (w .symbols)) in
+    let more : Store = put name text (w .store) in
+    elim (within more) [
+      | true ↦ add l text (record { symbols = suc (w .symbols); store = more; output = w .output })
+      | false ↦ failed 19 w
+    ]
+
+-- ed4: the value, or 15
+unfoldable pub addValue : Marks → Bytes → Option ℤ → Shared → Building
+addValue m l none w = failed 15 w
+addValue m l (some v) w = add l (written m v) w
+
+-- ed8: the byte value of exactly one byte, or 16
+unfoldable pub addByteValue : Bytes → Bytes → Shared → Building
+addByteValue l [] w = failed 16 w
+addByteValue l (x ∷ []) w = add l (decimal x) w
+addByteValue l (x ∷ y ∷ s) w = failed 16 w
+
+-- edk, for k 0 to 5 and 8
+unfoldable pub addConverted : Marks → Frame → ℕ → ℕ → Bytes → Shared → Building
+addConverted m f d k l w =
+    elim (eqb k 0) [
+      | true ↦ add l (param f d) w
+      | false ↦
+          elim (eqb k 1) [
+            | true ↦ add l (orNothing (find (param f d) (w .store))) w
+            | false ↦
+                elim (eqb k 2) [
+                  | true ↦ addSymbol l (param f d) (find (param f d) (w .store)) w
+                  | false ↦
+                      elim (eqb k 3) [
+                        | true ↦ add l (getD (f .delimiters) (d - 1) []) w
+                        | false ↦
+                            elim (eqb k 4) [
+                              | true ↦ addValue m l (valueOf m (w .store) (param f d)) w
+                              | false ↦
+                                  elim (eqb k 5) [
+                                    | true ↦ add l (decimal (length (param f d))) w
+                                    | false ↦
+                                        addByteValue l (param f d) w
+                                  ]
+                            ]
+                      ]
+                ]
+          ]
+    ]
+
+-- a byte is copied; e0k is the call's number times 10, plus k
+unfoldable pub addPart : Marks → Frame → Part → Bytes → Shared → Building
+addPart m f (byte b) l w = add l (b ∷ []) w
+addPart m f (serial k) l w = add l (decimal (f .number * 10 + k)) w
+addPart m f (convert d k) l w = addConverted m f d k l w
+
+-- the parts of a code line, from left to right
+unfoldable pub build : Marks → Frame → List Part → Bytes → Shared → Building
+build m f [] l w = built l w
+build m f (p ∷ ps) l w = elim (addPart m f p l w) [ built k v ↦ build m f ps k v | failed n v ↦ failed n v ]
+
+-- ---- iterations
+
+-- a piece, the delimiter that ended it, and the rest
+pub record Piece : Type 0 where
+  pub piece : Bytes
+  pub delimiter : Bytes
+  pub rest : Bytes
+
+-- a piece with an atom in front
+unfoldable pub longer : Bytes → Option Piece → Option Piece
+longer a none = none
+longer a (some p) = some (record { piece = a ++ p .piece; delimiter = p .delimiter; rest = p .rest })
+
+-- the shortest row of atoms before a delimiter or the end; none where a bracket begins no atom
+unfoldable pub pieceOf : ℕ → Marks → Bytes → Bytes → Option Piece
+pieceOf zero m ds s = none
+pieceOf (suc f) m ds [] = some (record { piece = []; delimiter = []; rest = [] })
+pieceOf (suc f) m ds (x ∷ s) =
+    elim (has x ds) [
+      | true ↦ some (record { piece = []; delimiter = x ∷ []; rest = s })
+      | false ↦ elim (atom m (x ∷ s)) [ none ↦ none | some a ↦ longer (a .0) (pieceOf f m ds (a .1)) ]
+    ]
+
+-- what a pass takes: with no list, one byte
+unfoldable pub passOf : Marks → Bytes → Bytes → Option Piece
+passOf m [] [] = some (record { piece = []; delimiter = []; rest = [] })
+passOf m [] (x ∷ s) = some (record { piece = x ∷ []; delimiter = []; rest = s })
+passOf m (d ∷ ds) s = pieceOf (length s + 1) m (d ∷ ds) s
+
+-- a pass sets d and its delimiter, and goes on after the opening line; 17 where a bracket begins no atom
+unfoldable pub takePass : ℕ → Option Piece → Bytes → Bytes → List Bytes → List Loop → Frame → Shared → Step
+takePass d none ds old after ls f w = halts 17 w
+takePass d (some p) ds old after ls f w =
+    continues (record {
+      number = f .number;
+      params = set (f .params) (d - 1) (p .piece);
+      delimiters = set (f .delimiters) (d - 1) (p .delimiter);
+      next = after;
+      loops = byPieces d (p .rest) ds old after ∷ ls;
+    }) w
+
+-- eF8 of an ed7: the next pass, or the end, where d regains its old value
+unfoldable pub nextPass : Marks → ℕ → Bytes → Bytes → Bytes → List Bytes → List Loop → Frame → Shared → Step
+nextPass m d [] ds old after ls f w = continues (resumeAt (withParam f d old) ls (f .next)) w
+nextPass m d (x ∷ rest) ds old after ls f w = takePass d (passOf m ds (x ∷ rest)) ds old after ls f w
+
+-- eF8: the innermost iteration's next pass, or its end
+unfoldable pub endPass : Marks → List Loop → Frame → Shared → Step
+endPass m [] f w = continues f w
+endPass m (byCount zero after ∷ ls) f w = continues (resumeAt f ls (f .next)) w
+endPass m (byCount (suc n) after ∷ ls) f w = continues (resumeAt f (byCount n after ∷ ls) after) w
+endPass m (byPieces d rest ds old after ∷ ls) f w = nextPass m d rest ds old after ls f w
+
+-- the code lines past the matching eF8; d iterations were opened since. A layout goes with its owner, so lines are looked at in twos
+unfoldable pub pastLoop : Marks → ℕ → List Bytes → List Bytes
+pastLoop m d [] = []
+pastLoop m d (c ∷ []) = []
+pastLoop m d (c ∷ b ∷ cs) =
+    elim (effect m c) [
+      | Malformed ↦ pastLoop m d (b ∷ cs)
+      | Plain ↦ pastLoop m d (b ∷ cs)
+      | Opens ↦ pastLoop m (suc d) (b ∷ cs)
+      | Closes ↦ elim (eqb d 0) [ true ↦ b ∷ cs | false ↦ pastLoop m (d - 1) (b ∷ cs) ]
+      | Owns ↦ pastLoop m d cs
+    ]
+
+-- eF7: so many passes; 0 or less skips past the matching eF8
+unfoldable pub startRepeat : Marks → Option ℤ → Frame → Shared → Step
+startRepeat m none f w = halts 15 w
+startRepeat m (some (pos zero)) f w = continues (resumeAt f (f .loops) (pastLoop m 0 (f .next))) w
+startRepeat m (some (pos (suc n))) f w = continues (resumeAt f (byCount n (f .next) ∷ f .loops) (f .next)) w
+startRepeat m (some (negsuc n)) f w = continues (resumeAt f (f .loops) (pastLoop m 0 (f .next))) w
+
+-- ---- output and layouts
+
+-- a line and its byte 10 are written, or 13
+unfoldable pub output : ℕ → Bytes → Frame → Shared → Step
+output room l f w = elim (leb (length (w .output) + length l + 1) room) [
+  | true ↦ continues f (record { symbols = w .symbols; store = w .store; output = w .output ++ (l ++ (10 ∷ [])) })
+  | false ↦ halts 13 w
+]
+
+-- channel 0 drops the line
+unfoldable pub writeTo : ℕ → ℕ → Bytes → Frame → Shared → Step
+writeTo room ch l f w = elim (eqb ch 0) [ true ↦ continues f w | false ↦ output room l f w ]
+
+-- the first n bytes, with blanks after a shorter text
+unfoldable pub field : ℕ → ℕ → Bytes → Bytes
+field blank zero s = []
+field blank (suc n) [] = blank ∷ field blank n []
+field blank (suc n) (x ∷ s) = x ∷ field blank n s
+
+-- a layout's text: each longest run of one digit 1 to 9 is a field for that parameter; other bytes are copied. `digit` and `n`: the run being
+-- read and its bytes so far; 256, which is no byte, where there is none
+unfoldable pub fields : Marks → Frame → ℕ → ℕ → Bytes → Bytes
+fields m f digit n [] = field (m .blank) n (param f (digit - 48))
+fields m f digit n (x ∷ s) =
+    elim (eqb x digit) [
+      | true ↦ fields m f digit (suc n) s
+      | false ↦
+          elim (leb 49 x && leb x 57) [
+            | true ↦ field (m .blank) n (param f (digit - 48)) ++ fields m f x 1 s
+            | false ↦ field (m .blank) n (param f (digit - 48)) ++ (x ∷ fields m f 256 0 s)
+          ]
+    ]
+
+-- eF1 at a line's start: the layout is the next code line
+unfoldable pub writeLayout : ℕ → Marks → ℕ → List Bytes → Frame → Shared → Step
+writeLayout room m ch [] f w = continues f w
+writeLayout room m ch (c ∷ cs) f w = writeTo room ch (fields m f 256 0 c) (resumeAt f (f .loops) cs) w
+
+-- ---- storing, comparing, skipping
+
+-- F3: a text is stored, or 19
+unfoldable pub saveText : Bytes → Bytes → Frame → Shared → Step
+saveText name text f w =
+    let more : Store = put name text (w .store) in
+    elim (within more) [ true ↦ continues f (withStore w more) | false ↦ halts 19 w ]
+
+-- a skip by a value: 15 where it is none, 18 where it is negative
+unfoldable pub skipBy : Option ℤ → Frame → Shared → Step
+skipBy none f w = halts 15 w
+skipBy (some (pos n)) f w = skips n f w
+skipBy (some (negsuc n)) f w = halts 18 w
+
+unfoldable pub isLess : ℤ → ℤ → Bool
+isLess (pos a) (pos b) = ltb a b
+isLess (pos a) (negsuc b) = false
+isLess (negsuc a) (pos b) = true
+isLess (negsuc a) (negsuc b) = ltb b a
+
+-- F60, F61, F6 with minus, F6 with plus
+unfoldable pub compares : Comparison → ℤ → ℤ → Bool
+compares Equal a b = not (isLess a b || isLess b a)
+compares Unequal a b = isLess a b || isLess b a
+compares Less a b = isLess a b
+compares Greater a b = isLess b a
+
+-- parameter 3 is valued only if the comparison holds
+unfoldable pub skipIf : Marks → Bool → Frame → Shared → Step
+skipIf m b f w = elim b [ true ↦ skipBy (valueOf m (w .store) (param f 3)) f w | false ↦ continues f w ]
+
+-- F6: both values, then the comparison
+unfoldable pub skipCompared : Marks → Comparison → Option ℤ → Option ℤ → Frame → Shared → Step
+skipCompared m o none b f w = halts 15 w
+skipCompared m o (some a) none f w = halts 15 w
+skipCompared m o (some a) (some b) f w = skipIf m (compares o a b) f w
+
+-- F50 wants equal texts, F51 unequal ones
+unfoldable pub wanted : Bool → Bool → Bool
+wanted true b = b
+wanted false b = not b
+
+-- ---- carrying out a code line of the call f, with that line already passed
+
+unfoldable pub finish : ℕ → Marks → Ending → Bytes → Frame → Shared → Step
+finish room m offer l f w = offers l f w
+finish room m (assign d) l f w = continues (withParam f d l) w
+finish room m (iterate d ds) l f w = takePass d (passOf m ds l) ds (param f d) (f .next) (f .loops) f w
+finish room m stop l f w = halts 0 w
+finish room m (write ch) l f w = writeTo room ch l f w
+finish room m (layout ch) l f w = writeLayout room m ch (f .next) f w
+finish room m save l f w = saveText (param f 1) (param f 2) f w
+finish room m skip l f w = skipBy (valueOf m (w .store) (param f 1)) f w
+finish room m (skipText b) l f w = skipIf m (wanted b (same (param f 1) (param f 2))) f w
+finish room m (skipValue o) l f w = skipCompared m o (valueOf m (w .store) (param f 1)) (valueOf m (w .store) (param f 2)) f w
+finish room m repeat l f w = startRepeat m (valueOf m (w .store) l) f w
+finish room m again l f w = endPass m (f .loops) f w
+finish room m leave l f w = leaves w
+finish room m malformed l f w = continues f w
+
+-- a number met while building ends the run
+unfoldable pub finishBuilt : ℕ → Marks → Ending → Frame → Building → Step
+finishBuilt room m k f (failed n w) = halts n w
+finishBuilt room m k f (built l w) = finish room m k l f w
+
+-- a code line carried out: its parts are built, then its ending is done
+unfoldable pub carryOut : ℕ → Marks → Code → Frame → Shared → Step
+carryOut room m c f w = finishBuilt room m (c .ending) f (build m f (c .parts) [] w)
+
+-- ---- the machine
+
+-- the machine's state: the input lines left and the last one read, a line that is to be offered, the open calls (the innermost first), the last
+-- call number, what calls share, the events
+pub record State : Type 0 where
+  pub input : List Bytes
+  pub line : ℕ
+  pub pending : Option Bytes
+  pub frames : List Frame
+  pub calls : ℕ
+  pub shared : Shared
+  pub events : ℕ
+
+-- the machine goes on, or has ended with a number
+pub data Next : Type 0 where
+  running : State → Next
+  ended : ℕ → State → Next
+
+-- the state with these open calls, and perhaps a line to be offered
+unfoldable pub stateWith : State → Option Bytes → List Frame → Shared → State
+stateWith s p fs w = record { input = s .input; line = s .line; pending = p; frames = fs; calls = s .calls; shared = w; events = s .events }
+
+-- lines passed over: landed before these lines, beyond the body's end with some left to pass, or 18
+pub data Passed : Type 0 where
+  landed : List Bytes → Passed
+  beyond : ℕ → Passed
+  badLanding : Passed
+
+-- n code lines passed over, a layout with its owner; d iterations were opened on the way. The line landed on must lie in
+-- the same iterations as the line skipped from, and a body's end lies in none
+unfoldable pub passOver : Marks → ℕ → ℕ → List Bytes → Passed
+passOver m zero zero cs = landed cs
+passOver m zero (suc d) cs = badLanding
+passOver m (suc n) zero [] = beyond (suc n)
+passOver m (suc n) (suc d) [] = badLanding
+passOver m (suc n) zero (c ∷ cs) =
+    elim (effect m c) [ Malformed ↦ passOver m n zero cs | Plain ↦ passOver m n zero cs | Opens ↦ passOver m n (suc zero) cs | Closes ↦ badLanding | Owns ↦ passOver m n zero (drop 1 cs) ]
+passOver m (suc n) (suc d) (c ∷ cs) =
+    elim (effect m c) [ Malformed ↦ passOver m n (suc d) cs | Plain ↦ passOver m n (suc d) cs | Opens ↦ passOver m n (suc (suc d)) cs | Closes ↦ passOver m n d cs | Owns ↦ passOver m n (suc d) (drop 1 cs) ]
+
+-- what a skip comes to in one call: f goes on at the line landed on, or the lines left are passed over further out
+unfoldable pub skipFrom : Frame → List Frame → Shared → State → (ℕ → Next) → Passed → Next
+skipFrom f fs w s out (landed cs) = running (stateWith s none (resumeAt f (f .loops) cs ∷ fs) w)
+skipFrom f fs w s out (beyond k) = out k
+skipFrom f fs w s out badLanding = ended 18 (stateWith s none (f ∷ fs) w)
+
+-- lines passed over in the innermost call, then in its callers, at last in the input
+unfoldable pub skipIn : Marks → ℕ → List Frame → Shared → State → Next
+skipIn m n [] w s =
+    running (record { input = drop n (s .input); line = s .line + min n (length (s .input)); pending = none; frames = []; calls = s .calls; shared = w; events = s .events })
+skipIn m n (f ∷ fs) w s = skipFrom f fs w s (λ k. skipIn m k fs w s) (passOver m n 0 (f .next))
+
+-- nine parameters; those that the template lacks are empty
+unfoldable pub padded : List Bytes → List Bytes
+padded ps = ps ++ replicate (9 - length ps) []
+
+-- a call of a macro, or 14
+unfoldable pub call : Macro → List Bytes → State → Next
+call x ps s =
+    elim (leb 12 (length (s .frames))) [
+      | true ↦ ended 14 s
+      | false ↦ running (record {
+        input = s .input;
+        line = s .line;
+        pending = none;
+        frames = record { number = suc (s .calls); params = padded ps; delimiters = replicate 9 []; next = x .body; loops = [] } ∷ s .frames;
+        calls = suc (s .calls);
+        shared = s .shared;
+        events = s .events;
+      })
+    ]
+
+-- a line that is no call is written, or 13
+unfoldable pub passThrough : ℕ → Bytes → State → Next
+passThrough room l s =
+    elim (leb (length (s .shared .output) + length l + 1) room) [
+      | true ↦ running (stateWith s none (s .frames) (record { symbols = s .shared .symbols; store = s .shared .store; output = s .shared .output ++ (l ++ (10 ∷ [])) }))
+      | false ↦ ended 13 s
+    ]
+
+unfoldable pub offeredAs : ℕ → Loaded → Bytes → State → Option Reading → Next
+offeredAs room t l s none = passThrough room l s
+offeredAs room t l s (some r) = call (getD (t .macros) (r .which) noMacro) (r .pieces) s
+
+-- an offered line's first reading opens a call; without a reading the line is written
+unfoldable pub offered : ℕ → Loaded → Bytes → State → Next
+offered room t l s = offeredAs room t l s (chosen (t .marks) (templates (t .macros)) l)
+
+-- what a code line of the innermost call makes of the state; fs are its callers
+unfoldable pub stepped : Marks → List Frame → Step → State → Next
+stepped m fs (continues f w) s = running (stateWith s none (f ∷ fs) w)
+stepped m fs (offers l f w) s = running (stateWith s (some l) (f ∷ fs) w)
+stepped m fs (skips n f w) s = skipIn m n (f ∷ fs) w s
+stepped m fs (leaves w) s = running (stateWith s none fs w)
+stepped m fs (halts k w) s = ended k (stateWith s none fs w)
+
+-- what comes without an event: finished calls close, and with none open the next input line is read and measured
+unfoldable pub closed : Frame → List Frame → List Frame → List Bytes → List Frame
+closed f fs outer [] = outer
+closed f fs outer (c ∷ cs) = f ∷ fs
+
+-- the open calls without the finished ones
+unfoldable pub unfinished : List Frame → List Frame
+unfinished [] = []
+unfinished (f ∷ fs) = closed f fs (unfinished fs) (f .next)
+
+-- an input content over 200 bytes ends the run with 11
+unfoldable pub measured : State → Bytes → Bool → Next
+measured s c true = running s
+measured s c false = ended 11 s
+
+-- the next input line, up to mark 1; with none left the run ends with 0
+unfoldable pub readInput : Marks → List Bytes → State → Next
+readInput m [] s = ended 0 (stateWith s none [] (s .shared))
+readInput m (l ∷ ls) s =
+    let c : Bytes = upTo (m .source) l in
+    measured (record { input = ls; line = suc (s .line); pending = some c; frames = []; calls = s .calls; shared = s .shared; events = s .events }) c (leb (length c) 200)
+
+unfoldable pub readyIn : Marks → State → List Frame → Next
+readyIn m s [] = readInput m (s .input) s
+readyIn m s (f ∷ fs) = running (stateWith s none (f ∷ fs) (s .shared))
+
+unfoldable pub readyFor : Marks → State → Option Bytes → Next
+readyFor m s (some l) = running s
+readyFor m s none = readyIn m s (unfinished (s .frames))
+
+-- the machine before its next event
+unfoldable pub ready : Marks → State → Next
+ready m s = readyFor m s (s .pending)
+
+-- the innermost call's next code line is begun
+unfoldable pub beginAt : ℕ → Marks → Frame → List Frame → State → List Bytes → Next
+beginAt room m f fs s [] = running s
+beginAt room m f fs s (c ∷ cs) = stepped m fs (carryOut room m (parse m true c) (resumeAt f (f .loops) cs) (s .shared)) s
+
+unfoldable pub beginLine : ℕ → Marks → List Frame → State → Next
+beginLine room m [] s = running s
+beginLine room m (f ∷ fs) s = beginAt room m f fs s (f .next)
+
+-- an event is counted
+unfoldable pub counted : State → State
+counted s = record { input = s .input; line = s .line; pending = none; frames = s .frames; calls = s .calls; shared = s .shared; events = suc (s .events) }
+
+unfoldable pub eventFor : ℕ → Loaded → State → Option Bytes → Next
+eventFor room t s (some l) = offered room t l (counted s)
+eventFor room t s none = beginLine room (t .marks) (s .frames) (counted s)
+
+-- one event: a line is offered, or a code line begun
+unfoldable pub event : ℕ → Loaded → State → Next
+event room t s = eventFor room t s (s .pending)
+
+unfoldable pub follow : (State → Next) → Next → Next
+follow go (ended k s) = ended k s
+follow go (running s) = go s
+
+-- the machine n events later: ended by then, or just before its next event
+unfoldable pub after : ℕ → ℕ → Loaded → Next → Next
+after zero room t x = follow (λ s. ready (t .marks) s) x
+after (suc n) room t x = follow (λ s. follow (λ s′. after n room t (event room t s′)) (ready (t .marks) s)) x
+
+-- at first no call is open and nothing is stored, written or counted
+unfoldable pub initial : Loaded → State
+initial t = record { input = t .input; line = t .last; pending = none; frames = []; calls = 0; shared = record { symbols = 0; store = []; output = [] }; events = 0 }
+
+-- number, line, events, and what is written to output and store
+pub record Result : Type 0 where
+  pub number : ℕ
+  pub line : ℕ
+  pub events : ℕ
+  pub output : Bytes
+  pub store : Bytes
+
+unfoldable pub resultOf : ℕ → State → Result
+resultOf k s = record { number = k; line = s .line; events = s .events; output = s .shared .output; store = listing (s .shared .store) }
+
+-- a machine that goes on when its fuel is used is spent: 20
+unfoldable pub outcome : Next → Result
+outcome (ended k s) = resultOf k s
+outcome (running s) = resultOf 20 s
+
+-- a run's result, for legal fuel and rooms
+unfoldable pub run : ℕ → ℕ → Load → Result
+run fuel room (refused k n) = record { number = k; line = n; events = 0; output = []; store = [] }
+run fuel room (loaded t) = outcome (after fuel room t (running (initial t)))

@@ -1,0 +1,3 @@
+-- The laws of the row of nodes.
+pub mod Rows
+pub mod Templates

@@ -1,0 +1,4 @@
+-- Laws of parts, lines and bodies; then what the functions' proofs cite.
+pub mod Lines
+pub mod Places
+pub mod FlagLine

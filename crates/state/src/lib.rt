@@ -1,0 +1,101 @@
+// What a run carries from one event to the next, by value. Output and memory are lent slices beside it.
+ghost use mathlib.Core.Path.{_≡_};
+ghost use Prim.Native.Nat.{_+_, _≤_, _<_};
+ghost use Rattle.state.specs.State.{counted, withIndex, withSymbol, withWritten, withInput, withCall};
+use store::Index;
+
+pub struct State {
+    // where the input left starts in the text
+    pub at: usize,
+    // the last input line read
+    pub line: usize,
+    // the last call number
+    pub calls: usize,
+    // the last number of ed2
+    pub symbols: usize,
+    // of the memory
+    pub index: Index,
+    // how many bytes of the output are written
+    pub written: usize,
+    pub events: usize,
+    pub fuel: usize,
+}
+
+// A line that is built or offered: the first len of its bytes.
+pub struct Line {
+    pub len: usize,
+    pub bytes: [u8; 200],
+}
+
+// An event is counted.
+pub fn count_event(s: State) -> State
+    requires { ⌜ (0 < s .fuel) × (s .events + s .fuel ≤ 1000000) ⌝ }
+    ensures { λ r. ⌜ r ≡ counted s ⌝ }
+{
+    let mut t = s;
+    t.events = s.events + 1;
+    t.fuel = s.fuel - 1;
+    t
+}
+
+// Memory has another index.
+pub fn set_index(s: State, index: Index) -> State
+    ensures { λ r. ⌜ r ≡ withIndex s index ⌝ }
+{
+    State {
+        at: s.at,
+        line: s.line,
+        calls: s.calls,
+        symbols: s.symbols,
+        index,
+        written: s.written,
+        events: s.events,
+        fuel: s.fuel,
+    }
+}
+
+// A number of ed2 is stored.
+pub fn add_symbol(s: State, index: Index) -> State
+    requires { ⌜ s .symbols ≤ 1000000 ⌝ }
+    ensures { λ r. ⌜ r ≡ withSymbol s index ⌝ }
+{
+    State {
+        at: s.at,
+        line: s.line,
+        calls: s.calls,
+        symbols: s.symbols + 1,
+        index,
+        written: s.written,
+        events: s.events,
+        fuel: s.fuel,
+    }
+}
+
+// So many bytes of the output are written.
+pub fn set_written(s: State, written: usize) -> State
+    ensures { λ r. ⌜ r ≡ withWritten s written ⌝ }
+{
+    let mut t = s;
+    t.written = written;
+    t
+}
+
+// The input is read up to a place of the text.
+pub fn set_input(s: State, at: usize, line: usize) -> State
+    ensures { λ r. ⌜ r ≡ withInput s at line ⌝ }
+{
+    let mut t = s;
+    t.at = at;
+    t.line = line;
+    t
+}
+
+// A call is opened.
+pub fn add_call(s: State) -> State
+    requires { ⌜ s .calls ≤ 1000000 ⌝ }
+    ensures { λ r. ⌜ r ≡ withCall s ⌝ }
+{
+    let mut t = s;
+    t.calls = s.calls + 1;
+    t
+}

@@ -1,0 +1,235 @@
+//! Writes the vectors that stand at a limit and one past it.
+//!
+//! They are too long to write by hand. What each of them gives is worked out
+//! here from document 01 and not taken from the library, so that the library
+//! can be compared with it.
+
+use std::path::Path;
+use std::process::ExitCode;
+use std::{env, fs, io};
+
+const FLAG: &str = "$!$!0 (+-*/)\n";
+
+/// A text and what `expand` writes for it.
+struct Vector {
+    name: String,
+    text: String,
+    out: String,
+}
+
+fn main() -> ExitCode {
+    let Some(folder) = env::args().nth(1) else {
+        println!("limits: give the folder to write to");
+        return ExitCode::FAILURE;
+    };
+    match vectors().iter().try_for_each(|vector| write(Path::new(&folder), vector)) {
+        Ok(()) => ExitCode::SUCCESS,
+        Err(_) => {
+            println!("limits: {folder} cannot be written to");
+            ExitCode::FAILURE
+        }
+    }
+}
+
+fn write(folder: &Path, vector: &Vector) -> io::Result<()> {
+    fs::write(folder.join(format!("{}.text", vector.name)), &vector.text)?;
+    fs::write(folder.join(format!("{}.out", vector.name)), &vector.out)
+}
+
+fn vectors() -> Vec<Vector> {
+    let mut all = Vec::new();
+    contents(&mut all);
+    texts(&mut all);
+    counts(&mut all);
+    nodes(&mut all);
+    nesting(&mut all);
+    built_lines(&mut all);
+    names(&mut all);
+    memory(&mut all);
+    output(&mut all);
+    fuel(&mut all);
+    all
+}
+
+/// Adds a vector; `body` is what follows the flag line.
+fn add(all: &mut Vec<Vector>, name: &str, body: String, out: String) {
+    all.push(Vector { name: name.to_string(), text: FLAG.to_string() + &body, out });
+}
+
+/// The output's last line.
+fn end(number: u64, line: u64, events: u64) -> String {
+    format!("END {number} {line} {events}\n")
+}
+
+fn contents(all: &mut Vec<Vector>) {
+    let row = |byte: &str, count: usize| byte.repeat(count);
+
+    let template = |count| format!("{0}$ ignored\nfits!F1\n$$\n{0}$ ignored\n", row("A", count));
+    add(all, "limit-template-200", template(200), "fits\n".to_string() + &end(0, 5, 2));
+    add(all, "number-04-template-201", template(201), end(4, 2, 0));
+
+    // The content is the row and the three bytes of the function.
+    let code = |count: usize| format!("T$\n{}!F1$ ignored\n$$\nT\n", row("A", count - 3));
+    add(all, "limit-code-200", code(200), row("A", 197) + "\n" + &end(0, 5, 2));
+    add(all, "number-04-code-201", code(201), end(4, 3, 0));
+    let malformed = format!("T$\n{}!!\n$$\n", row("A", 199));
+    add(all, "number-04-code-201-and-malformed", malformed, end(4, 3, 0));
+
+    let layout = |count| format!("T$\n!F1\n{}$ ignored\n$$\nT\n", row("A", count));
+    add(all, "limit-layout-200", layout(200), row("A", 200) + "\n" + &end(0, 6, 2));
+    add(all, "number-04-layout-201", layout(201), end(4, 4, 0));
+
+    let input = |count| format!("T$\n$$\nfirst\n{}$ ignored\nlast\n", row("x", count));
+    let written = format!("first\n{}\nlast\n", row("x", 200));
+    add(all, "limit-input-200", input(200), written + &end(0, 6, 3));
+    add(all, "number-11-input-201", input(201), "first\n".to_string() + &end(11, 5, 1));
+
+    let dropped = format!("S:!$\n!F4\n$$\nS:1\n{}\nlast\n", row("x", 201));
+    add(all, "limit-input-201-dropped", dropped, "last\n".to_string() + &end(0, 7, 3));
+}
+
+fn texts(all: &mut Vec<Vector>) {
+    // The padding lies behind the source end mark of the only input line.
+    let text = |size: usize| {
+        let start = "T$\n$$\nline$";
+        start.to_string() + &"x".repeat(size - FLAG.len() - start.len())
+    };
+    add(all, "limit-text-65536", text(65_536), "line\n".to_string() + &end(0, 4, 1));
+    add(all, "number-02-text-65537", text(65_537), end(2, 0, 0));
+}
+
+fn counts(all: &mut Vec<Vector>) {
+    // Two lines a macro, so template n has line 2n; the last ends the section.
+    let macros = |count: usize| {
+        let bodies: String = (1..count).map(|n| format!("M{n}$\n$\n")).collect();
+        format!("{bodies}M{count}$\n$$\nM{count}\n")
+    };
+    add(all, "limit-macros-128", macros(128), end(0, 258, 1));
+    add(all, "number-09-macros-129", macros(129), end(9, 258, 0));
+    let unended: String = (1..=129).map(|n| format!("M{n}$\n$\n")).collect();
+    let on_last_line = unended.trim_end_matches("$\n").to_string() + "$\n";
+    add(all, "number-08-beats-09-on-the-last-line", on_last_line, end(8, 258, 0));
+
+    let code = |count: usize| format!("A$\n!F9\n{}$$\nA\n", "\n".repeat(count - 1));
+    add(all, "limit-code-lines-1024", code(1_024), end(0, 1_028, 2));
+    add(all, "number-09-code-lines-1025", code(1_025), end(9, 1_027, 0));
+
+    let layouts = |first: &str| format!("A$\n{first}{}$$\nA\n", "!F1\nx\n".repeat(512));
+    let written = "x\n".repeat(512);
+    add(all, "limit-code-lines-1024-with-layouts", layouts(""), written + &end(0, 1_028, 513));
+    add(all, "number-09-code-lines-1025-with-layouts", layouts("x\n"), end(9, 1_027, 0));
+
+    // The count runs over all bodies: 600 and then 424 or 425 code lines.
+    let two = |second: usize| format!("A$\n{}$\nB$\n{}$$\n", "\n".repeat(600), "\n".repeat(second));
+    add(all, "limit-code-lines-1024-of-two-macros", two(424), end(0, 1_029, 0));
+    add(all, "number-09-code-lines-1025-of-two-macros", two(425), end(9, 1_029, 0));
+}
+
+fn nodes(all: &mut Vec<Vector>) {
+    // The root, and ten templates of 200 bytes and an end: 2,011 nodes.
+    let ten: String = (b'A'..=b'J').map(|byte| (byte as char).to_string().repeat(200) + "$\n$\n").collect();
+    let last = |count: usize| format!("{ten}{0}$\n$$\n{0}\n", "K".repeat(count));
+    add(all, "limit-nodes-2048", last(36), end(0, 24, 1));
+    add(all, "number-09-nodes-2049", last(37), end(9, 22, 0));
+
+    // A template that shares 199 bytes adds its last byte and its end.
+    let shared = |count: usize| format!("{ten}{}B$\n$\n{}$\n$$\n", "A".repeat(199), "K".repeat(count));
+    add(all, "limit-nodes-2048-with-a-shared-beginning", shared(34), end(0, 25, 0));
+    add(all, "number-09-nodes-2049-with-a-shared-beginning", shared(35), end(9, 24, 0));
+
+    // A template that is another's beginning adds its end alone.
+    let beginning = |count: usize| format!("{ten}{}$\n$\n{}$\n$$\n", "A".repeat(100), "K".repeat(count));
+    add(all, "limit-nodes-2048-with-a-beginning", beginning(35), end(0, 25, 0));
+    add(all, "number-09-nodes-2049-with-a-beginning", beginning(36), end(9, 24, 0));
+
+    let nine = "!!!!!!!!!$\n!10,!20,!30,!40,!50,!60,!70,!80,!90!F1\n$$\nABC\n";
+    add(all, "limit-placeholders-9", nine.to_string(), ",,,,,,,,ABC\n".to_string() + &end(0, 5, 2));
+}
+
+fn nesting(all: &mut Vec<Vector>) {
+    // Four iterations of one pass, in a call and in the call it makes.
+    let body = |inner: &str| "1!F7\n".repeat(3) + "A!27,\n" + inner + &"!F8\n".repeat(4);
+    let nested = format!("O$\n{}$\nI$\n{}$$\nO\n", body("I\n"), body("x!F1\n"));
+    add(all, "limit-nesting-4-in-each-call", nested, "x\n".to_string() + &end(0, 24, 20));
+
+    // Each call offers the next template's line; the last writes.
+    let calls = |count: usize| {
+        let chain: String = (1..count).map(|n| format!("C{n}.$\nC{}.\n$\n", n + 1)).collect();
+        format!("{chain}C{count}.$\nx!F1\n$$\nC1.\n")
+    };
+    add(all, "limit-calls-12", calls(12), "x\n".to_string() + &end(0, 38, 24));
+    add(all, "number-14-calls-13", calls(13), end(14, 41, 25));
+}
+
+fn built_lines(all: &mut Vec<Vector>) {
+    let text = |code: &str| format!("D:!$\n{code}\n$$\nD:{}\n", "A".repeat(100));
+    let row = "A".repeat(200) + "\n";
+    add(all, "limit-built-200", text("!10!10!F1"), row.clone() + &end(0, 5, 2));
+    add(all, "limit-built-200-offered", text("!10!10"), row + &end(0, 5, 3));
+    add(all, "number-12-built-201", text("!10!10x!F1"), end(12, 5, 2));
+    add(all, "number-12-built-201-offered", text("!10!10x"), end(12, 5, 2));
+    add(all, "number-12-before-the-functions-cause", text("!10!10/!F7\n!F8"), end(12, 6, 2));
+    add(all, "number-12-before-a-later-conversion", text("!10!10x!98"), end(12, 5, 2));
+    add(all, "number-15-before-bytes-that-would-give-12", text("!10!14x!10"), end(15, 5, 2));
+}
+
+fn names(all: &mut Vec<Vector>) {
+    // Parameter 2 counts the passes; each stores it under the name `n+1`. The
+    // last line of the body replaces a text, which needs no further name.
+    let stored = |count: u64| {
+        format!("N:!$\n0!26\n!10!F7\n!20+1!16\n!14!26\n!F3\n!F8\n0+1!16\n!F3\n!11!F1\n$$\nN:{count}\n")
+    };
+    // Offer, two lines, four lines a pass, three lines.
+    let fits = "256\n".to_string() + &end(0, 13, 3 + 4 * 256 + 3);
+    add(all, "limit-names-256", stored(256), fits);
+    add(all, "number-19-names-257", stored(257), end(19, 13, 3 + 4 * 256 + 3));
+
+    let numbered =
+        |count: u64| format!("N:!$\n0!26\n!10!F7\n!20+1!16\n!14!26\n!12!36\n!F8\n<!32>!F1\n$$\nN:{count}\n");
+    add(all, "number-19-names-257-by-conversion-2", numbered(257), end(19, 11, 3 + 4 * 256 + 3));
+    // The loop's numbers 1 to 255, and then one for the empty name.
+    let fits = "<256>\n".to_string() + &end(0, 11, 3 + 4 * 255 + 1);
+    add(all, "limit-names-256-by-conversion-2", numbered(255), fits);
+}
+
+fn memory(all: &mut Vec<Vector>) {
+    // 41 names of 3 bytes with texts of 194 bytes are 8,077 bytes; a name of 3
+    // and a text of 112 fill memory.
+    let row = |byte: &str, count: usize| byte.repeat(count);
+    let start: String = (10..51).map(|n| format!("S:a{n}={}\n", row("x", 194))).collect();
+    let text = |rest: String| format!("S:!=!$\n!F3\n$$\n{start}{rest}");
+    let replaced = format!("S:b10={}\nS:a10={}\n", row("x", 112), row("y", 194));
+    add(all, "limit-memory-8192", text(replaced), end(0, 47, 86));
+    add(all, "number-19-memory-8193", text(format!("S:b10={}\n", row("x", 113))), end(19, 46, 84));
+    let longer = format!("S:b10={}\nS:b10={}\n", row("x", 112), row("y", 113));
+    add(all, "number-19-memory-8193-by-a-replaced-text", text(longer), end(19, 47, 86));
+    let name = format!("S:b10x={}\n", row("x", 112));
+    add(all, "number-19-memory-8193-by-a-name", text(name), end(19, 46, 84));
+}
+
+fn output(all: &mut Vec<Vector>) {
+    // 512 lines of 127 bytes and byte 10 fill the room of 65,536.
+    let line = "A".repeat(127);
+    let text = |rest: &str| format!("T$\n512!F7\n{line}!F1\n!F8\ndropped!F10\n$$\nT\n{rest}");
+    let written = (line.clone() + "\n").repeat(512);
+    let events = 1 + 1 + 2 * 512 + 1;
+    add(all, "limit-output-65536", text(""), written.clone() + &end(0, 8, events));
+    add(all, "number-13-no-room-for-byte-10", text("\n"), written + &end(13, 9, events + 1));
+
+    // 508 lines of 129 bytes leave four bytes, of which none is written.
+    let long = "A".repeat(128);
+    let cut = format!("T$\n512!F7\n{long}!F1\n!F8\n$$\nT\n");
+    add(all, "number-13-no-room-in-a-body", cut, (long + "\n").repeat(508) + &end(13, 7, 2 + 2 * 508 + 1));
+}
+
+fn fuel(all: &mut Vec<Vector>) {
+    // The offer, the opening line, and an event for each pass.
+    let text = |passes: u64, rest: &str| format!("T$\n{passes}!F7\n!F8\n$$\nT\n{rest}");
+    add(all, "limit-fuel-used-exactly", text(999_998, ""), end(0, 6, 1_000_000));
+    add(all, "number-20-one-event-more", text(999_999, ""), end(20, 6, 1_000_000));
+    add(all, "number-20-at-the-next-input-line", text(999_998, "x\n"), end(20, 7, 1_000_000));
+    let long = "x".repeat(201) + "\n";
+    add(all, "number-11-before-number-20", text(999_998, &long), end(11, 7, 1_000_000));
+    let offered = "T$\n999997!F7\n!F8\nx\n$$\nT\n".to_string();
+    add(all, "number-20-at-a-built-line", offered, end(20, 7, 1_000_000));
+}

@@ -1,0 +1,107 @@
+//! An independent implementation of document 01, STAGE2 for name tables and
+//! export, written from the document alone so that others can be compared
+//! with it.
+//!
+//! The public calls are [`check`], [`fit`] and [`run`]. Each takes the text
+//! itself.
+
+mod atoms;
+mod code;
+pub mod generate;
+mod load;
+mod machine;
+mod number;
+pub mod programs;
+mod store;
+mod text;
+mod tree;
+mod value;
+
+pub use number::Number;
+
+/// The largest legal fuel.
+pub const FUEL_LIMIT: u64 = 1_000_000;
+
+/// The least legal length of the node row.
+pub const NODE_ROW: usize = load::NODE_LIMIT;
+
+/// The least legal length of the store's room.
+pub const STORE_ROOM: usize = store::LISTING_ROOM;
+
+/// What checking a text gives.
+#[derive(Clone, Copy, Debug, Default, PartialEq, Eq)]
+pub struct Checked {
+    pub number: u64,
+    pub line: u64,
+}
+
+/// What fitting a line gives: the template's line, 0 for no call, and where
+/// the nine pieces lie in the line.
+#[derive(Clone, Copy, Debug, Default, PartialEq, Eq)]
+pub struct Fitted {
+    pub number: u64,
+    pub line: u64,
+    pub start: [u64; 9],
+    pub length: [u64; 9],
+}
+
+/// What a run gives; `output` and `store` are lengths.
+#[derive(Clone, Copy, Debug, Default, PartialEq, Eq)]
+pub struct Ran {
+    pub number: u64,
+    pub line: u64,
+    pub events: u64,
+    pub output: u64,
+    pub store: u64,
+}
+
+/// Checks whether a text loads. `nodes` is the length of the lent node row.
+pub fn check(text: &[u8], nodes: usize) -> Checked {
+    match load::load(text, nodes) {
+        Ok(program) => Checked { number: 0, line: program.section_end },
+        Err(refusal) => Checked { number: refusal.number.into(), line: refusal.line },
+    }
+}
+
+/// Fits a line, taken whole, against the templates of a text.
+pub fn fit(text: &[u8], nodes: usize, line: &[u8]) -> Fitted {
+    let program = match load::load(text, nodes) {
+        Ok(program) => program,
+        Err(refusal) => {
+            return Fitted { number: refusal.number.into(), line: refusal.line, ..Fitted::default() };
+        }
+    };
+    if line.len() > text::LINE_LIMIT {
+        return Fitted { number: Number::LongInput.into(), ..Fitted::default() };
+    }
+    match program.tree.first_reading(line, &program.marks) {
+        None => Fitted::default(),
+        Some(reading) => Fitted {
+            number: 0,
+            line: program.macros[reading.template].line,
+            start: reading.pieces.map(|piece| piece.start as u64),
+            length: reading.pieces.map(|piece| piece.length as u64),
+        },
+    }
+}
+
+/// Expands a text's input lines with at most `fuel` events. Bytes of `output`
+/// and `store` beyond the lengths in the result stay as they were.
+pub fn run(text: &[u8], fuel: u64, nodes: usize, output: &mut [u8], store: &mut [u8]) -> Ran {
+    if !(1..=FUEL_LIMIT).contains(&fuel) || store.len() < STORE_ROOM {
+        return Ran { number: Number::Rooms.into(), ..Ran::default() };
+    }
+    match load::load(text, nodes) {
+        Err(refusal) => Ran { number: refusal.number.into(), line: refusal.line, ..Ran::default() },
+        Ok(program) => {
+            let outcome = machine::expand(&program, fuel, output);
+            Ran {
+                number: outcome.number.into(),
+                line: outcome.line,
+                events: outcome.events,
+                output: outcome.output as u64,
+                store: outcome.store.list(store) as u64,
+            }
+        }
+    }
+}

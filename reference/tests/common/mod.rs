@@ -1,0 +1,42 @@
+//! What several test files share.
+
+// No test file uses all of it.
+#![allow(dead_code)]
+
+use std::sync::LazyLock;
+
+use stage2_reference::{run, Ran, NODE_ROW, STORE_ROOM};
+
+/// A run's result with the bytes it left.
+#[derive(Debug, PartialEq, Eq)]
+pub struct Left {
+    pub ran: Ran,
+    pub output: Vec<u8>,
+    pub store: Vec<u8>,
+}
+
+/// Runs a text and gives what was written, after checking that nothing else was.
+pub fn run_text(text: &[u8], fuel: u64, room: usize) -> Left {
+    let mut output = pattern(room);
+    let mut store = pattern(STORE_ROOM + 100);
+    let ran = run(text, fuel, NODE_ROW, &mut output, &mut store);
+    let output = written(output, ran.output);
+    let store = written(store, ran.store);
+    Left { ran, output, store }
+}
+
+/// The first bytes of a room, after checking that the others are unchanged.
+fn written(mut room: Vec<u8>, length: u64) -> Vec<u8> {
+    let length = length as usize;
+    assert_eq!(room[length..], PATTERN[length..room.len()], "bytes beyond the length");
+    room.truncate(length);
+    room
+}
+
+/// Bytes that no run writes in this order by chance.
+pub fn pattern(length: usize) -> Vec<u8> {
+    PATTERN[..length].to_vec()
+}
+
+static PATTERN: LazyLock<Vec<u8>> =
+    LazyLock::new(|| (0..65_536).map(|at: usize| 128 + (at * 37 % 127) as u8).collect());

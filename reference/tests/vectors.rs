@@ -1,0 +1,145 @@
+//! The shared vectors, through the library and through the programs.
+
+use std::ffi::OsStr;
+use std::fs;
+use std::io::Write;
+use std::path::{Path, PathBuf};
+use std::process::{Command, Stdio};
+
+use stage2_reference::programs;
+
+fn vectors() -> PathBuf {
+    Path::new(env!("CARGO_MANIFEST_DIR")).join("../vectors")
+}
+
+/// The files of a folder with an ending, in order of their names.
+fn files(folder: &Path, ending: &str) -> Vec<PathBuf> {
+    let entries = fs::read_dir(folder).unwrap_or_else(|_| panic!("{} cannot be read", folder.display()));
+    let mut files: Vec<PathBuf> = entries.map(|entry| entry.unwrap().path()).collect();
+    files.retain(|file| file.extension() == Some(OsStr::new(ending)));
+    files.sort();
+    files
+}
+
+fn read(path: &Path) -> Vec<u8> {
+    fs::read(path).unwrap_or_else(|_| panic!("{} cannot be read", path.display()))
+}
+
+fn shown(bytes: &[u8]) -> String {
+    String::from_utf8_lossy(bytes).into_owned()
+}
+
+/// Compares every text of a folder with the output beside it; gives the number.
+fn compare_runs(folder: &Path) -> usize {
+    let texts = files(folder, "text");
+    for path in &texts {
+        let expected = read(&path.with_extension("out"));
+        let got = programs::expand(&read(path));
+        assert_eq!(shown(&got), shown(&expected), "{}", path.display());
+        assert_eq!(got, expected, "{}", path.display());
+    }
+    assert_eq!(texts.len(), files(folder, "out").len(), "an output without its text");
+    texts.len()
+}
+
+#[test]
+fn run_vectors() {
+    assert!(compare_runs(&vectors().join("run")) >= 200);
+}
+
+#[test]
+fn published_vectors() {
+    let folder = vectors().join("published");
+    if folder.exists() {
+        compare_runs(&folder);
+    }
+}
+
+/// Every number that `expand` can give has a vector that says so in its name.
+#[test]
+fn run_vectors_have_every_number() {
+    let texts = files(&vectors().join("run"), "text");
+    for number in (0..=20).filter(|number| ![1, 10].contains(number)) {
+        let start = format!("number-{number:02}-");
+        let named =
+            texts.iter().filter(|path| path.file_name().unwrap().to_str().unwrap().starts_with(&start));
+        let mut count = 0;
+        for path in named {
+            let out = shown(&read(&path.with_extension("out")));
+            let end = out.lines().last().unwrap();
+            assert!(end.starts_with(&format!("END {number} ")), "{}: {end}", path.display());
+            count += 1;
+        }
+        assert!(count > 0, "no vector for {number}");
+    }
+}
+
+#[test]
+fn check_vectors() {
+    let expected = shown(&read(&vectors().join("check/expected")));
+    let mut named = Vec::new();
+    for row in expected.lines() {
+        let name = row.split(' ').next().unwrap();
+        assert_eq!(programs::check_row(name, &read(&vectors().join(name))), format!("{row}\n"));
+        named.push(vectors().join(name));
+    }
+    assert_eq!(named, files(&vectors().join("run"), "text"));
+}
+
+#[test]
+fn fit_vectors() {
+    let texts = files(&vectors().join("fit"), "text");
+    assert!(texts.len() >= 15);
+    for path in texts {
+        let rows = programs::fit_rows(&read(&path), &read(&path.with_extension("lines")));
+        assert_eq!(rows, shown(&read(&path.with_extension("out"))), "{}", path.display());
+    }
+}
+
+/// What a program writes to standard output, given arguments and input.
+fn output_of(program: &str, arguments: &[&str], input: &[u8]) -> Vec<u8> {
+    let mut child = Command::new(program)
+        .args(arguments)
+        .current_dir(vectors())
+        .stdin(Stdio::piped())
+        .stdout(Stdio::piped())
+        .stderr(Stdio::piped())
+        .spawn()
+        .expect("the program starts");
+    child.stdin.take().unwrap().write_all(input).unwrap();
+    let output = child.wait_with_output().unwrap();
+    assert!(output.stderr.is_empty(), "{}", shown(&output.stderr));
+    output.stdout
+}
+
+#[test]
+fn program_expand() {
+    for name in ["session", "marks-letters-and-high-bytes", "number-02-text-65537", "limit-output-65536"] {
+        let path = vectors().join("run").join(name).with_extension("text");
+        let got = output_of(env!("CARGO_BIN_EXE_expand"), &[], &read(&path));
+        assert_eq!(shown(&got), shown(&read(&path.with_extension("out"))), "{name}");
+    }
+}
+
+#[test]
+fn program_check_text() {
+    let program = env!("CARGO_BIN_EXE_check_text");
+    let names = ["run/session.text", "run/number-07-missing-layout.text"];
+    let rows = output_of(program, &names, b"");
+    assert_eq!(shown(&rows), "run/session.text 0 7\nrun/number-07-missing-layout.text 7 4\n");
+    let refused = output_of(program, &["run/session.text", "run/absent"], b"");
+    assert_eq!(shown(&refused), "check_text: run/absent cannot be read\n");
+    assert_eq!(shown(&output_of(program, &[], b"")), "check_text: give the names of the files to check\n");
+}
+
+#[test]
+fn program_fit_line() {
+    let program = env!("CARGO_BIN_EXE_fit_line");
+    let rows = output_of(program, &["fit/examples.text", "fit/examples.lines"], b"");
+    assert_eq!(rows, read(&vectors().join("fit/examples.out")));
+    for arguments in [&["fit/examples.text", "absent"][..], &["absent", "fit/examples.lines"]] {
+        assert_eq!(shown(&output_of(program, arguments, b"")), "fit_line: absent cannot be read\n");
+    }
+    let usage = "fit_line: give the file of the text and the file of the lines\n";
+    assert_eq!(shown(&output_of(program, &["fit/examples.text"], b"")), usage);
+}
