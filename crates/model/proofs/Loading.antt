@@ -116,7 +116,7 @@ same-itself [] = refl
 same-itself (x ∷ s) = rw (eq-eqb x x refl, same) (same-itself s)
 
 -- one more macro has one more template
-templates-snoc : (ms : List Macro) (x : Macro) → templates (ms ++ (x ∷ [])) ≡ templates ms ++ (x .template ∷ [])
+pub templates-snoc : (ms : List Macro) (x : Macro) → templates (ms ++ (x ∷ [])) ≡ templates ms ++ (x .template ∷ [])
 unfolding templates
 templates-snoc [] x = refl
 templates-snoc (y ∷ ms) x = ap (λ (l : List Bytes). y .template ∷ l) (templates-snoc ms x)
@@ -194,7 +194,7 @@ nodesFrom-snoc [] earlier x = omega arith
 nodesFrom-snoc (y ∷ ms) earlier x = omega (arith, nodesFrom-snoc ms (y ∷ earlier) x)
 
 -- a macro more has its new beginnings more
-nodes-snoc : (ms : List Macro) (x : Macro) → nodes (ms ++ (x ∷ [])) ≡ nodes ms + fresh [] (x .template) ms
+pub nodes-snoc : (ms : List Macro) (x : Macro) → nodes (ms ++ (x ∷ [])) ≡ nodes ms + fresh [] (x .template) ms
 unfolding nodes begun
 nodes-snoc ms x =
     let e : fresh [] (x .template) (behind ms []) ≡ fresh [] (x .template) ms = fresh-same [] (x .template) (behind ms []) ms (λ q. begun-behind q ms [] ∙ or-none (begun q ms)) in

@@ -23,12 +23,12 @@ use Rattle.model.proofs.Chosen.{Tested, alike, apart, tested, no-call, 
 
 module _ (m : Marks) where
   -- at mark 2, a placeholder
-  elems-hole : (b : ℕ) (t : List ℕ) → b ≡ m .placeholder → elems m (b ∷ t) ≡ hole ∷ elems m t
+  pub elems-hole : (b : ℕ) (t : List ℕ) → b ≡ m .placeholder → elems m (b ∷ t) ≡ hole ∷ elems m t
   unfolding elems
   elems-hole b t e = rw (eq-eqb b (m .placeholder) e, elems) refl
 
   -- at any other byte, a literal
-  elems-lit : (b : ℕ) (t : List ℕ) → ¬ (b ≡ m .placeholder) → elems m (b ∷ t) ≡ lit b ∷ elems m t
+  pub elems-lit : (b : ℕ) (t : List ℕ) → ¬ (b ≡ m .placeholder) → elems m (b ∷ t) ≡ lit b ∷ elems m t
   unfolding elems
   elems-lit b t e = rw (ne-eqb b (m .placeholder) e, elems) refl
 

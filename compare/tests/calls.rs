@@ -1,0 +1,139 @@
+//! The proved calls and the reference on random texts and lines.
+//!
+//! `STAGE2_COUNT` is how many texts of each size are tried, `STAGE2_SEED`
+//! the seed.
+
+use std::collections::BTreeMap;
+use std::env;
+
+use stage2_compare::{check, fit, Node};
+use stage2_reference::generate::{Generator, Size};
+use stage2_reference::{self as reference, NODE_ROW};
+
+/// How many texts are tried unless `STAGE2_COUNT` says otherwise: enough to
+/// meet every number.
+const USUAL_COUNT: u64 = 20_000;
+
+fn count() -> u64 {
+    setting("STAGE2_COUNT", USUAL_COUNT)
+}
+
+fn setting(name: &str, usual: u64) -> u64 {
+    match env::var(name) {
+        Ok(value) => value.parse().unwrap_or_else(|_| panic!("{name} is no number: {value}")),
+        Err(_) => usual,
+    }
+}
+
+/// Calls `test` with random texts of a size, and prints the seed.
+fn for_texts(size: Size, mut test: impl FnMut(&mut Generator, &[u8])) {
+    let (seed, count) = (setting("STAGE2_SEED", 20_261_115), count());
+    println!("STAGE2_SEED={seed} STAGE2_COUNT={count} {size:?}");
+    let mut generator = Generator::new(seed);
+    for _ in 0..count {
+        let text = generator.text(size);
+        test(&mut generator, &text);
+    }
+}
+
+/// A node row whose contents mean nothing.
+fn row(length: usize) -> Vec<Node> {
+    (0..length).map(|at| [at as u16; 6]).collect()
+}
+
+fn shown(bytes: &[u8]) -> String {
+    bytes.escape_ascii().to_string()
+}
+
+/// Compares both calls on a text and a line with a row of nodes; gives the
+/// numbers of the two answers.
+fn compare(text: &[u8], nodes: &mut [Node], line: &[u8]) -> (u64, u64) {
+    let checked = check(text, nodes);
+    assert_eq!(checked, reference::check(text, nodes.len()), "check, {} nodes: {}", nodes.len(), shown(text));
+    let fitted = fit(text, nodes, line);
+    assert_eq!(
+        fitted,
+        reference::fit(text, nodes.len(), line),
+        "fit, {} nodes: {} line: {}",
+        nodes.len(),
+        shown(text),
+        shown(line)
+    );
+    (checked.number, fitted.number)
+}
+
+/// Random texts, each with lines that resemble its templates. All of `expected`
+/// must be met among the numbers of the answers.
+fn compare_random(size: Size, expected: &[u64]) {
+    // The rows are used again and again, so each call meets what the last left.
+    let mut rows = [2_047, 2_048, 3_000].map(row);
+    let mut numbers = BTreeMap::new();
+    let mut turn = 0;
+    for_texts(size, |generator, text| {
+        for _ in 0..3 {
+            let mut line = generator.line(text);
+            // Bytes that no input line of a text can have.
+            if turn % 5 == 0 {
+                line.insert(line.len() / 2, if turn % 2 == 0 { 0 } else { 10 });
+            }
+            // A short row only now and then: with it the text is not even read.
+            let nodes = match turn % 40 {
+                0 => &mut rows[0],
+                odd if odd % 2 == 1 => &mut rows[1],
+                _ => &mut rows[2],
+            };
+            let (checked, fitted) = compare(text, nodes, &line);
+            *numbers.entry(checked).or_insert(0) += 1;
+            *numbers.entry(fitted).or_insert(0) += 1;
+            turn += 1;
+        }
+    });
+    println!("{numbers:?}");
+    let met = expected.iter().all(|number| numbers.contains_key(number));
+    assert!(met || count() < USUAL_COUNT, "a number is never answered: {numbers:?}");
+}
+
+/// Lines of every length up to one past the limit.
+fn compare_lengths(text: &[u8], byte: u8) {
+    let mut nodes = row(NODE_ROW);
+    for length in 0..=201 {
+        let (_, fitted) = compare(text, &mut nodes, &vec![byte; length]);
+        assert_eq!(fitted, if length > 200 { 11 } else { 0 }, "length {length}");
+    }
+}
+
+#[test]
+fn small_texts() {
+    compare_random(Size::Small, &[0, 1, 3, 4, 5, 6, 7, 8, 11]);
+}
+
+#[test]
+fn large_texts() {
+    compare_random(Size::Large, &[0, 1, 2, 3, 4, 5, 6, 7, 8, 9, 11]);
+}
+
+#[test]
+fn lines_of_every_length() {
+    for byte in [b'A', b'x', b'(', b'!', 0, 10, 255] {
+        compare_lengths(b"$!$!0 (+-*/)\n!$\n$\nA!$\n$\n!A!x!$\n$$\n", byte);
+    }
+}
+
+#[test]
+fn rows_of_every_kind() {
+    let text = b"$!$!0 (+-*/)\nA!$\n$$\n";
+    for length in [0, 1, 2_047, 2_048, 2_049, 65_535, 65_536, 70_000] {
+        let (checked, fitted) = compare(text, &mut row(length), b"AB");
+        let expected = if length < 2_048 { 1 } else { 0 };
+        assert_eq!((checked, fitted), (expected, expected), "{length} nodes");
+    }
+}
+
+#[test]
+fn texts_of_the_greatest_length() {
+    for length in [65_535, 65_536, 65_537] {
+        let mut text = b"$!$!0 (+-*/)\nA!$\n$$\n".to_vec();
+        text.resize(length, b'x');
+        compare(&text, &mut row(NODE_ROW), b"AB");
+    }
+}

@@ -1,0 +1,119 @@
+//! The proved programs on the vectors, and against the reference's answers
+//! where a file or an argument is missing.
+
+use std::ffi::OsStr;
+use std::fs;
+use std::path::{Path, PathBuf};
+use std::process::Command;
+
+use stage2_reference::programs;
+
+fn root() -> PathBuf {
+    Path::new(env!("CARGO_MANIFEST_DIR")).join("..")
+}
+
+fn vectors() -> PathBuf {
+    root().join("vectors")
+}
+
+fn read(path: &Path) -> Vec<u8> {
+    fs::read(path).unwrap_or_else(|_| panic!("{} cannot be read", path.display()))
+}
+
+/// The files of a folder with an ending, in order of their names.
+fn files(folder: &Path, ending: &str) -> Vec<PathBuf> {
+    let mut files: Vec<PathBuf> = fs::read_dir(folder).unwrap().map(|entry| entry.unwrap().path()).collect();
+    files.retain(|file| file.extension() == Some(OsStr::new(ending)));
+    files.sort();
+    files
+}
+
+/// What a program prints when it is called in the folder of the vectors.
+fn printed<S: AsRef<OsStr>>(program: &str, arguments: &[S]) -> String {
+    let path = root().join("target/bin").join(program);
+    let output = Command::new(&path)
+        .args(arguments)
+        .current_dir(vectors())
+        .output()
+        .unwrap_or_else(|_| panic!("{} cannot be run: run `rt check {program}` first", path.display()));
+    assert!(output.status.success(), "{program} did not end well");
+    assert!(output.stderr.is_empty(), "{program} wrote to standard error");
+    String::from_utf8(output.stdout).unwrap()
+}
+
+/// A file for a test, which is removed with this.
+struct Scratch(PathBuf);
+
+impl Scratch {
+    fn new(name: &str, bytes: &[u8]) -> Scratch {
+        let path = Path::new(env!("CARGO_TARGET_TMPDIR")).join(name);
+        fs::write(&path, bytes).unwrap();
+        Scratch(path)
+    }
+
+    fn name(&self) -> &str {
+        self.0.to_str().unwrap()
+    }
+}
+
+impl Drop for Scratch {
+    fn drop(&mut self) {
+        let _ = fs::remove_file(&self.0);
+    }
+}
+
+#[test]
+fn check_vectors() {
+    let expected = String::from_utf8(read(&vectors().join("check/expected"))).unwrap();
+    let names: Vec<&str> = expected.lines().map(|row| row.split(' ').next().unwrap()).collect();
+    assert!(names.len() >= 200);
+    assert_eq!(printed("check_text", &names), expected);
+}
+
+#[test]
+fn fit_vectors() {
+    let texts = files(&vectors().join("fit"), "text");
+    assert!(texts.len() >= 15);
+    for text in texts {
+        let expected = String::from_utf8(read(&text.with_extension("out"))).unwrap();
+        let got = printed("fit_line", &[&text, &text.with_extension("lines")]);
+        assert_eq!(got, expected, "{}", text.display());
+    }
+}
+
+#[test]
+fn long_lines_and_texts() {
+    let lines =
+        [&[b'A'; 200][..], &[b'A'; 201], &[b'A'; 70_000], b"", b"AB\0\x80", &[b'B'; 65_536]].join(&b'\n');
+    let mut long = b"$!$!0 (+-*/)\nA!$\n$$\n".to_vec();
+    let lines_file = Scratch::new("long.lines", &lines);
+    for length in [long.len(), 65_536, 65_537, 70_000] {
+        long.resize(length, b'x');
+        let text = Scratch::new("long.text", &long);
+        let names = [text.name(), lines_file.name()];
+        assert_eq!(printed("fit_line", &names), programs::fit_rows(&long, &lines), "length {length}");
+        assert_eq!(
+            printed("check_text", &names[..1]),
+            programs::check_row(names[0], &long),
+            "length {length}"
+        );
+    }
+}
+
+#[test]
+fn missing_files_and_arguments() {
+    let (good, lines) = ("fit/examples.text", "fit/examples.lines");
+    let none: [&str; 0] = [];
+    assert_eq!(printed("check_text", &none), "check_text: give the names of the files to check\n");
+    for bad in ["no such file", "run", ""] {
+        assert_eq!(printed("check_text", &[good, bad, good]), format!("check_text: {bad} cannot be read\n"));
+        assert_eq!(printed("fit_line", &[bad, lines]), format!("fit_line: {bad} cannot be read\n"));
+        assert_eq!(printed("fit_line", &[good, bad]), format!("fit_line: {bad} cannot be read\n"));
+    }
+    let few = "fit_line: give the file of the text and the file of the lines\n";
+    assert_eq!(printed("fit_line", &none), few);
+    assert_eq!(printed("fit_line", &[good]), few);
+    assert_eq!(printed("fit_line", &[good, lines, lines]), few);
+    let long = "n".repeat(100_000);
+    assert_eq!(printed("check_text", &[&long]), format!("check_text: {long} cannot be read\n"));
+}

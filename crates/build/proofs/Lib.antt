@@ -1,0 +1,4 @@
+-- The laws that the proofs cite, and those for callers.
+pub mod Parts
+pub mod Lines
+pub mod Callers

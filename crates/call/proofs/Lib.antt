@@ -1,0 +1,7 @@
+-- The laws of a call.
+pub mod Parts
+pub mod Slots
+pub mod Loops
+pub mod Calls
+pub mod Reading
+pub mod Line

@@ -1,0 +1,4 @@
+-- What the contracts cite.
+pub mod Call
+pub mod Params
+pub mod Line

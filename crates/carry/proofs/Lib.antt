@@ -1,0 +1,2 @@
+-- The laws of a code line.
+pub mod Carrying

@@ -1,0 +1,66 @@
+-- add_symbol: a stored name brings in its text, another is stored first.
+use borrow.Author.Needs.{needs}
+use Rattle.convert.proofs.Symbols.{missing, symbol-there}
+use Rattle.convert.proofs.add_symbol.Statement.{statement}
+use Rattle.convert.proofs.add_symbol.Tie as tie
+
+seek-requires : tie.Need-seek-requires
+seek-requires c κs = search needs
+
+add-end : tie.Need-add-end
+add-end c = search needs
+
+sub-append : tie.Need-sub-append
+sub-append c = search needs
+
+part-append-start : tie.Need-part-append-start
+part-append-start c = search needs
+
+part-append-end : tie.Need-part-append-end
+part-append-end c = search needs
+
+append-requires : tie.Need-append-requires
+append-requires c κs = search needs
+
+answer-requires : tie.Need-answer-requires
+answer-requires c κs = search needs
+
+same-length : tie.Need-same-length
+same-length c = search needs
+
+same-length-2 : tie.Need-same-length-2
+same-length-2 c = search needs
+
+returns : tie.Need-returns
+returns c = search (symbol-there, c .before .before .before .before .before .before .before .before .before .before .before .before .before .before .pre .1 .0)
+
+add-new-symbol-requires : tie.Need-add-new-symbol-requires
+add-new-symbol-requires c κs = search (missing, needs)
+
+same-length-3 : tie.Need-same-length-3
+same-length-3 c = search needs
+
+same-length-4 : tie.Need-same-length-4
+same-length-4 c = search needs
+
+returns-2 : tie.Need-returns-2
+returns-2 c = search needs
+
+pub add-symbol-spec : {M : Type 1} → statement M
+add-symbol-spec =
+    tie.close
+    (tie.spec
+    seek-requires
+    add-end
+    sub-append
+    part-append-start
+    part-append-end
+    append-requires
+    answer-requires
+    same-length
+    same-length-2
+    returns
+    add-new-symbol-requires
+    same-length-3
+    same-length-4
+    returns-2)

@@ -1,0 +1,5 @@
+-- The laws of the search; callers use tree-of of Choose.
+mod Laws
+mod Steps
+mod Pieces
+pub mod Choose

@@ -1,0 +1,4 @@
+-- The laws of iterations.
+pub mod Iterations
+pub mod Passes
+pub mod Repeats

@@ -1,0 +1,66 @@
+-- nest answers by the effect: what is malformed or out of place is wrong.
+use borrow.Author.Needs.{needs}
+use Rattle.load.proofs.Body.{nests-malformed, nests-plain, nests-deep, nests-opens, nests-none, nests-closes, nests-owns}
+use Rattle.load.proofs.nest.Statement.{statement}
+use Rattle.load.proofs.nest.Tie as tie
+
+enum-told : tie.Need-enum-told
+enum-told c = search needs
+
+enum-told-2 : tie.Need-enum-told-2
+enum-told-2 c = search needs
+
+enum-told-3 : tie.Need-enum-told-3
+enum-told-3 c = search needs
+
+returns : tie.Need-returns
+returns c = search (nests-deep, needs)
+
+add-t6 : tie.Need-add-t6
+add-t6 c = search needs
+
+enum-told-4 : tie.Need-enum-told-4
+enum-told-4 c = search needs
+
+returns-2 : tie.Need-returns-2
+returns-2 c = search (nests-none, needs)
+
+sub-t8 : tie.Need-sub-t8
+sub-t8 c = search needs
+
+enum-told-5 : tie.Need-enum-told-5
+enum-told-5 c = search needs
+
+returns-3 : tie.Need-returns-3
+returns-3 c = search nests-malformed
+
+returns-4 : tie.Need-returns-4
+returns-4 c = search nests-plain
+
+returns-5 : tie.Need-returns-5
+returns-5 c = search (nests-opens, needs)
+
+returns-6 : tie.Need-returns-6
+returns-6 c = search (nests-closes, needs)
+
+returns-7 : tie.Need-returns-7
+returns-7 c = search nests-owns
+
+pub nest-spec : {M : Type 1} → statement M
+nest-spec =
+    tie.close
+    (tie.spec
+    enum-told
+    enum-told-2
+    enum-told-3
+    returns
+    add-t6
+    enum-told-4
+    returns-2
+    sub-t8
+    enum-told-5
+    returns-3
+    returns-4
+    returns-5
+    returns-6
+    returns-7)

@@ -1,0 +1,3 @@
+-- What `load` ensures, and what the functions for a line do.
+pub mod Table
+pub mod Lines

@@ -1,0 +1,34 @@
+-- What matching a line answers.
+use mathlib.Core.Path.{_≡_}
+use mathlib.Core.Bool.{true, false}
+use mathlib.Core.Option.{none, some}
+use mathlib.Core.List.{List, []}
+use Prim.Native.Nat.{ℕ, _≤_}
+use lib.ListN.{getD, replicate}
+use Rattle.model.specs.declared.Marks.{Marks}
+use Rattle.model.specs.Text.{Bytes}
+use Rattle.model.specs.Reading.{Reading, chosen}
+use Rattle.model.specs.Load.{templates, Macro, noMacro, Loaded}
+use Rattle.model.specs.Machine.{Frame, padded}
+use Rattle.model.specs.Sizes.{Nested}
+use Rattle.call.specs.declared.Call.{Call}
+use Rattle.call.specs.Call.{frameOf, Placed}
+use Rattle.matching.specs.declared.Match.{Match}
+use Rattle.matching.specs.Book.{Book}
+
+-- a new call of a macro, with the pieces of a reading
+unfoldable pub opened : ℕ → Macro → List Bytes → Frame
+opened number x ps = record { number = number; params = padded ps; delimiters = replicate 9 []; next = x .body; loops = [] }
+
+-- c is the call that the line opens
+pub record Calls (m : Marks) (text : Bytes) (t : Loaded) (line : Bytes) (number : ℕ) (c : Call) : Type 0 where
+  pub reading : Reading
+  pub is : chosen m (templates (t .macros)) line ≡ some reading
+  pub frame : frameOf m text c ≡ opened number (getD (t .macros) (reading .which) noMacro) (reading .pieces)
+  pub placed : number ≤ 1000000 → Placed text c
+  pub nested : Nested m (frameOf m text c)
+
+-- r is what the line opens, for any text that is loaded into the row of nodes and the bodies
+pub record Matches (m : Marks) (rows : List (List ℕ)) (bodies : List ℕ) (line : Bytes) (number : ℕ) (r : Match) : Type 0 where
+  pub no-call : r .found ≡ false → (text : Bytes) (t : Loaded) → Book m text rows bodies t → chosen m (templates (t .macros)) line ≡ none
+  pub call : r .found ≡ true → (text : Bytes) (t : Loaded) → Book m text rows bodies t → Calls m text t line number (r .call)

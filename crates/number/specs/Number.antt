@@ -1,0 +1,51 @@
+-- The value that an answer stands for, and what a step makes of two values.
+use mathlib.Core.Path.{_≡_}
+use mathlib.Core.Option.{Option, none, some}
+use mathlib.Core.List.{List}
+use Prim.Native.Nat.{ℕ, _<_, _≤_}
+use lib.IntN.{ℤ, negℤ, _+ℤ_, _-ℤ_, _*ℤ_}
+use lib.Signed.{mag}
+use mir.Syntax.{Width, w32}
+use Rattle.model.specs.declared.Marks.{Marks}
+use Rattle.model.specs.Text.{part}
+use Rattle.model.specs.Value.{checked, divided, written}
+use Rattle.number.specs.declared.Valued.{Valued}
+use Rattle.number.specs.declared.Valued.the-variants.{Number, Fault}
+use Rattle.number.specs.declared.Step.{Step}
+use Rattle.number.specs.declared.Step.the-variants.{First, Negated, Plus, Minus, Times, Divide}
+
+-- the width of a value, and its range: from minus `end` up to the number before it
+abbrev pub width : Width
+width = w32
+
+abbrev pub end : ℕ
+end = 2147483648
+
+-- the value of an answer; none is 01's number 15
+abbrev pub numberOf : Valued → Option ℤ
+numberOf (Number z) = some z
+numberOf Fault = none
+
+-- `mag z` is n for n and for -(n + 1)
+abbrev pub InRange : Valued → Type 0
+InRange (Number z) = mag z < end
+InRange Fault = Unit {0}
+
+-- r is the answer for the value o
+pub record Gives (r : Valued) (o : Option ℤ) : Type 0 where
+  pub is : numberOf r ≡ o
+  pub fits : InRange r
+
+-- what a step makes of the value so far, a, and the next value, b
+abbrev pub stepped : Step → ℤ → ℤ → Option ℤ
+stepped First a b = some b
+stepped Negated a b = checked (negℤ b)
+stepped Plus a b = checked (a +ℤ b)
+stepped Minus a b = checked (a -ℤ b)
+stepped Times a b = checked (a *ℤ b)
+stepped Divide a b = divided a b
+
+-- the value z in decimal is the first r bytes of out
+pub record Writes (m : Marks) (z : ℤ) (r : ℕ) (out : List ℕ) : Type 0 where
+  pub is : part out 0 r ≡ written m z
+  pub few : r ≤ 21

@@ -1,0 +1,2 @@
+-- The laws of a pass.
+pub mod Pieces

@@ -1,0 +1,77 @@
+// What a pass of an iteration takes from the line it goes over (document 01, "A call's code").
+use atom::next_atom;
+use buffer::wide;
+use model::Marks;
+use scan::has_byte;
+ghost use Prim.Native.Nat.{_≤_, _<_};
+ghost use lib.ListN.{length};
+ghost use Rattle.pass.specs.Pass.{Takes};
+
+// What a pass takes: the piece ends before `end`, and the rest starts at `rest`. Not ok: a bracket begins no atom.
+pub struct Taken {
+    pub ok: bool,
+    pub end: usize,
+    // the byte that ended the piece, or 256 where none did
+    pub delimiter: usize,
+    pub rest: usize,
+}
+
+// With a list of delimiters, a pass takes the shortest row of atoms that stands before one of them or the end.
+fn take_atoms(m: Marks, line: &[u8], at: usize, list: &[u8]) -> Taken
+    requires { ⌜ at ≤ length (now line) ⌝ }
+    requires { ⌜ 0 < length (now list) ⌝ }
+    ensures { λ r. ⌜ Takes m (now (line .entry)) at (now (list .entry)) r ⌝ }
+{
+    let mut i = at;
+    while i < line.len() {
+        let b = line[i];
+        if has_byte(list, b) {
+            return Taken {
+                ok: true,
+                end: i,
+                delimiter: wide(b),
+                rest: i + 1,
+            };
+        }
+        let next = next_atom(line, i, m);
+        if next == 0 {
+            return Taken {
+                ok: false,
+                end: i,
+                delimiter: 256,
+                rest: line.len(),
+            };
+        }
+        i = next;
+    }
+    Taken {
+        ok: true,
+        end: i,
+        delimiter: 256,
+        rest: i,
+    }
+}
+
+// What a pass takes from the line, from `at` on. With no list, it takes one byte.
+pub fn take_piece(m: Marks, line: &[u8], at: usize, list: &[u8]) -> Taken
+    requires { ⌜ at ≤ length (now line) ⌝ }
+    ensures { λ r. ⌜ Takes m (now (line .entry)) at (now (list .entry)) r ⌝ }
+{
+    if 0 < list.len() {
+        return take_atoms(m, line, at, list);
+    }
+    if at == line.len() {
+        return Taken {
+            ok: true,
+            end: at,
+            delimiter: 256,
+            rest: at,
+        };
+    }
+    Taken {
+        ok: true,
+        end: at + 1,
+        delimiter: 256,
+        rest: at + 1,
+    }
+}

@@ -1,0 +1,2 @@
+-- What the proof of prepare cites.
+pub mod Trees

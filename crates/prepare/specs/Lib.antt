@@ -1,0 +1,2 @@
+-- What a prepared text is.
+pub mod Prepares

@@ -1,0 +1,2 @@
+-- What the contracts of the inner functions say.
+pub mod Answers

@@ -1,0 +1,95 @@
+-- The nodes of a tree that is being built, breadth first.
+use mathlib.Core.Path.{_≡_}
+use mathlib.Core.Logic.{_⊎_}
+use mathlib.Core.List.{List, [], _∷_}
+use Prim.Native.Nat.{ℕ, _+_, _-_, _≤_, _<_}
+use lib.ListN.{length, getD}
+use Rattle.nodes.specs.Rows.{field}
+use Rattle.model.specs.Text.{Bytes}
+use Rattle.tree.specs.Keys.{Smalls, Share, cnt, holed, codeOf, keys}
+
+-- the fields of nodes: the template, the height, the element, how many placeholders, the first child, how many children
+pub record Columns : Type 0 where
+  pub template : ℕ → ℕ
+  pub height : ℕ → ℕ
+  pub element : ℕ → ℕ
+  pub holes : ℕ → ℕ
+  pub first : ℕ → ℕ
+  pub number : ℕ → ℕ
+
+abbrev pub columns : List (List ℕ) → Columns
+columns rows = record {
+  template = λ j. field rows j 3;
+  height = λ j. field rows j 4;
+  element = λ j. field rows j 0;
+  holes = λ j. field rows j 5;
+  first = λ j. field rows j 1;
+  number = λ j. field rows j 2;
+}
+
+module _ (f : ℕ → ℕ → ℕ) (len : ℕ → ℕ) (n : ℕ) where
+  -- a node other than the root: the first template that has its beginning, t; its height h, its element's number e, how many
+  -- placeholders its beginning has, o. Its depth is 201 - h
+  pub record Node (t h e o : ℕ) : Type 0 where
+    pub known : t < n
+    pub deep : h < 201
+    pub element : e ≡ codeOf (f t (200 - h))
+    pub first : (m : ℕ) → m < t → Share f m t (201 - h) → ⊥
+    pub live : 200 - h ≤ len t
+    pub placed : o ≡ cnt (holed f t) (201 - h)
+
+  -- the nodes from F up to c are the children of a node of template t and height h for its keys below low, ascending
+  pub record Run (N : Columns) (t h F c low : ℕ) : Type 0 where
+    pub kid : (j : ℕ) → F ≤ j → j < c → Share f (N .template j) t (201 - h) × (N .height j + 1 ≡ h) × (f (N .template j) (201 - h) < low)
+    pub asc : (i j : ℕ) → F ≤ i → i < j → j < c → f (N .template i) (201 - h) < f (N .template j) (201 - h)
+    pub full : (k : ℕ) → k < n → Share f k t (201 - h) → f k (201 - h) < low → (j : ℕ) × (F ≤ j) × (j < c) × (f (N .template j) (201 - h) ≡ f k (201 - h))
+
+  -- node p has its children
+  pub record Done (N : Columns) (p c : ℕ) : Type 0 where
+    pub in-row : N .first p + N .number p ≤ c
+    pub after : p < N .first p
+    pub none : N .element p ≡ 0 → N .number p ≡ 0
+    pub run : (N .element p ≡ 0 → ⊥) → Run N (N .template p) (N .height p) (N .first p) (N .first p + N .number p) 258
+
+  -- c nodes are made, those below i have their children, and i has those from F on, for its keys below low
+  pub record Half (N : Columns) (i c F low : ℕ) : Type 0 where
+    pub begun : i ≤ c
+    pub some-node : 0 < c
+    pub root : (N .template 0 ≡ 0) × (N .height 0 ≡ 201) × (N .element 0 ≡ 2) × (N .holes 0 ≡ 0)
+    pub node : (j : ℕ) → 0 < j → j < c → Node (N .template j) (N .height j) (N .element j) (N .holes j)
+    pub done : (p : ℕ) → p < i → Done N p c
+    pub parent : (j : ℕ) → 0 < j → j < c → ((p : ℕ) × (p < i) × (N .first p ≤ j) × (j < N .first p + N .number p)) ⊎ (F ≤ j)
+    pub distinct : (j l : ℕ) → j < l → l < c → N .template j ≡ N .template l → N .height j ≡ N .height l → ⊥
+    pub from : F ≤ c
+    pub run : Run N (N .template i) (N .height i) F c low
+
+  -- each template stands at the last node of its beginning: of the nodes from i up to c, at just the one whose beginning it has
+  pub record Ahead (N : Columns) (A : ℕ → ℕ) (i c : ℕ) : Type 0 where
+    pub within : (k : ℕ) → k < n → A k < c
+    pub shared : (k j : ℕ) → k < n → i ≤ j → j < c → A k ≡ j → Share f k (N .template j) (201 - N .height j)
+    pub stands : (k j : ℕ) → k < n → i ≤ j → j < c → Share f k (N .template j) (201 - N .height j) → A k ≡ j
+
+  -- at node i stand those that have its beginning and then a key from low on
+  pub record Here (N : Columns) (A : ℕ → ℕ) (i low : ℕ) : Type 0 where
+    pub shared : (k : ℕ) → k < n → A k ≡ i → Share f k (N .template i) (201 - N .height i) × (low ≤ f k (201 - N .height i))
+    pub stands : (k : ℕ) → k < n → Share f k (N .template i) (201 - N .height i) → low ≤ f k (201 - N .height i) → A k ≡ i
+
+module _ (p : ℕ) (ts : List Bytes) (rows : List (List ℕ)) (at : List ℕ) (i c : ℕ) where
+  -- c nodes are made, and those below i have their children
+  pub record Made : Type 0 where
+    pub bytes : Smalls ts
+    pub half : Half (keys p ts) (λ k. length (getD ts k [])) (length ts) (columns rows) i c c 0
+    pub ahead : Ahead (keys p ts) (λ k. length (getD ts k [])) (length ts) (columns rows) (λ k. getD at k 0) i c
+
+  -- and the children of i stand from F on
+  pub record Filled (F : ℕ) : Type 0 where
+    pub bytes : Smalls ts
+    pub more : F ≤ c
+    pub within : c ≤ length rows
+    pub half : Half (keys p ts) (λ k. length (getD ts k [])) (length ts) (columns rows) i c F 258
+    pub ahead : Ahead (keys p ts) (λ k. length (getD ts k [])) (length ts) (columns rows) (λ k. getD at k 0) (i + 1) c
+    pub open-node : field rows i 0 ≡ 0 → ⊥
+
+-- the record of node i with its children, so many from `first` on
+abbrev pub withKids : List (List ℕ) → ℕ → ℕ → ℕ → List ℕ
+withKids rows i first count = field rows i 0 ∷ first ∷ count ∷ field rows i 3 ∷ field rows i 4 ∷ field rows i 5 ∷ []

@@ -1,0 +1,2 @@
+-- What the proofs cite.
+mod Keeping

@@ -1,0 +1,59 @@
+/* STAGE2 for name tables: check a text, and fit a line against a text's templates.
+ *
+ * Link with target/staticlib/libapi.a (x86-64 Linux), which `rt staticlib api` writes. The calls keep nothing between one and
+ * the next, allocate nothing, and may run in several threads at once. They need 256 KB of stack.
+ *
+ * An array is passed as a pointer and a count of elements. No pointer may be NULL, not even with a count of 0, and the node
+ * row overlaps neither text nor line. Nothing else is asked: every content and every count has its answer.
+ */
+#ifndef STAGE2_H
+#define STAGE2_H
+
+#include <stddef.h>
+#include <stdint.h>
+
+#ifdef __cplusplus
+extern "C" {
+#endif
+
+/* The least count of a node row. The calls use no more of it than this. */
+#define STAGE2_NODES 2048
+
+/* The longest line that can be fitted. */
+#define STAGE2_LINE 200
+
+/* A node of the tree of a text's templates. A caller only lends a row of them: what they hold before a call and after it
+ * means nothing. */
+typedef struct {
+    uint16_t field[6];
+} stage2_node;
+
+/* What checking a text gives. */
+typedef struct {
+    uint64_t number; /* 0 where the text loads, else why not: 1 to 9 of the table of numbers */
+    uint64_t line;   /* the section's last line, or the line of the fault; 0 for numbers 1 and 2 */
+} stage2_checked;
+
+/* What fitting a line gives. Fields that say nothing are 0. */
+typedef struct {
+    uint64_t number;    /* 0, or 1 to 9 where the text does not load, or 11 for a line over 200 bytes */
+    uint64_t line;      /* number 0: the template's line in the text, 0 for no call. 1 to 9: the line of the fault */
+    uint64_t start[9];  /* where each parameter's piece starts in the line, counted from 0 */
+    uint64_t length[9]; /* and how many bytes it has */
+} stage2_fitted;
+
+/* Checks whether a text loads. With fewer than STAGE2_NODES nodes the number is 1. Writes to the node row alone. */
+stage2_checked stage2_check(const uint8_t *text, size_t text_count,
+                            stage2_node *nodes, size_t nodes_count);
+
+/* Fits a line, taken whole, against the templates of a text: the first of all its readings, or none. Bytes 0 and 10 and the
+ * text's marks are bytes like any other. With fewer than STAGE2_NODES nodes the number is 1. Writes to the node row alone. */
+stage2_fitted stage2_fit(const uint8_t *text, size_t text_count,
+                         stage2_node *nodes, size_t nodes_count,
+                         const uint8_t *line, size_t line_count);
+
+#ifdef __cplusplus
+}
+#endif
+
+#endif
