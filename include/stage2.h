@@ -1,10 +1,11 @@
-/* STAGE2 for name tables: check a text, and fit a line against a text's templates.
+/* STAGE2 for name tables: check a text, fit a line against a text's templates, and run a text.
  *
  * Link with target/staticlib/libapi.a (x86-64 Linux), which `rt staticlib api` writes. The calls keep nothing between one and
- * the next, allocate nothing, and may run in several threads at once. They need 256 KB of stack.
+ * the next, allocate nothing, and may run in several threads at once. A check and a fit need 256 KB of stack, a run 1 MB.
  *
- * An array is passed as a pointer and a count of elements. No pointer may be NULL, not even with a count of 0, and the node
- * row overlaps neither text nor line. Nothing else is asked: every content and every count has its answer.
+ * An array is passed as a pointer and a count of elements. No pointer may be NULL, not even with a count of 0. The arrays
+ * that a call writes to, the node row, output and store, overlap neither each other nor the text or line. Nothing else is
+ * asked: every content and every count has its answer.
  */
 #ifndef STAGE2_H
 #define STAGE2_H
@@ -21,6 +22,12 @@ extern "C" {
 
 /* The longest line that can be fitted. */
 #define STAGE2_LINE 200
+
+/* The largest fuel; the least is 1. */
+#define STAGE2_FUEL 1000000
+
+/* The least count of a store. No run lists more than this. */
+#define STAGE2_STORE 8704
 
 /* A node of the tree of a text's templates. A caller only lends a row of them: what they hold before a call and after it
  * means nothing. */
@@ -42,6 +49,15 @@ typedef struct {
     uint64_t length[9]; /* and how many bytes it has */
 } stage2_fitted;
 
+/* What a run gives. Fields that say nothing are 0. */
+typedef struct {
+    uint64_t number; /* 0 where the run is done, else what ended it: 11 to 20; or 1 to 9 where no run began */
+    uint64_t line;   /* the last input line read, before any the section's last line. 1 to 9: the line of the fault */
+    uint64_t events; /* how many lines were offered and code lines begun */
+    uint64_t output; /* how many bytes of the output are written */
+    uint64_t store;  /* how many bytes of the store are written */
+} stage2_ran;
+
 /* Checks whether a text loads. With fewer than STAGE2_NODES nodes the number is 1. Writes to the node row alone. */
 stage2_checked stage2_check(const uint8_t *text, size_t text_count,
                             stage2_node *nodes, size_t nodes_count);
@@ -51,6 +67,16 @@ stage2_checked stage2_check(const uint8_t *text, size_t text_count,
 stage2_fitted stage2_fit(const uint8_t *text, size_t text_count,
                          stage2_node *nodes, size_t nodes_count,
                          const uint8_t *line, size_t line_count);
+
+/* Expands the input lines of a text, with at most so many events. The first bytes of the output are what is written; those of
+ * the store are a line of the stored names, byte 0 between them, then a line for each text. All other bytes of both stay as
+ * they were, and for numbers 1 to 9 all bytes do. With a fuel that is not 1 to STAGE2_FUEL, fewer than STAGE2_NODES nodes or
+ * a store below STAGE2_STORE the number is 1. The output may have any count. */
+stage2_ran stage2_run(const uint8_t *text, size_t text_count,
+                      uint64_t fuel,
+                      stage2_node *nodes, size_t nodes_count,
+                      uint8_t *output, size_t output_count,
+                      uint8_t *store, size_t store_count);
 
 #ifdef __cplusplus
 }

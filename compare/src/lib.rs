@@ -1,7 +1,7 @@
 //! The proved calls, wrapped so that they can be called from safe Rust, with
 //! answers of the reference's types.
 
-use stage2_reference::{Checked, Fitted};
+use stage2_reference::{Checked, Fitted, Ran};
 
 /// An element of the lent node row.
 pub type Node = [u16; 6];
@@ -20,6 +20,15 @@ struct RawFitted {
     length: [u64; 9],
 }
 
+#[repr(C)]
+struct RawRan {
+    number: u64,
+    line: u64,
+    events: u64,
+    output: u64,
+    store: u64,
+}
+
 // As include/stage2.h declares them.
 extern "C" {
     fn stage2_check(text: *const u8, text_count: usize, nodes: *mut Node, nodes_count: usize) -> RawChecked;
@@ -31,6 +40,17 @@ extern "C" {
         line: *const u8,
         line_count: usize,
     ) -> RawFitted;
+    fn stage2_run(
+        text: *const u8,
+        text_count: usize,
+        fuel: u64,
+        nodes: *mut Node,
+        nodes_count: usize,
+        output: *mut u8,
+        output_count: usize,
+        store: *mut u8,
+        store_count: usize,
+    ) -> RawRan;
 }
 
 /// Checks a text.
@@ -45,4 +65,22 @@ pub fn fit(text: &[u8], nodes: &mut [Node], line: &[u8]) -> Fitted {
         stage2_fit(text.as_ptr(), text.len(), nodes.as_mut_ptr(), nodes.len(), line.as_ptr(), line.len())
     };
     Fitted { number: raw.number, line: raw.line, start: raw.start, length: raw.length }
+}
+
+/// Runs a text.
+pub fn run(text: &[u8], fuel: u64, nodes: &mut [Node], output: &mut [u8], store: &mut [u8]) -> Ran {
+    let raw = unsafe {
+        stage2_run(
+            text.as_ptr(),
+            text.len(),
+            fuel,
+            nodes.as_mut_ptr(),
+            nodes.len(),
+            output.as_mut_ptr(),
+            output.len(),
+            store.as_mut_ptr(),
+            store.len(),
+        )
+    };
+    Ran { number: raw.number, line: raw.line, events: raw.events, output: raw.output, store: raw.store }
 }

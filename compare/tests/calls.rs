@@ -1,49 +1,11 @@
-//! The proved calls and the reference on random texts and lines.
-//!
-//! `STAGE2_COUNT` is how many texts of each size are tried, `STAGE2_SEED`
-//! the seed.
+//! The proved check and fit, and the reference's, on random texts and lines.
 
-use std::collections::BTreeMap;
-use std::env;
+mod common;
 
+use common::{for_texts, row, shown, Numbers};
 use stage2_compare::{check, fit, Node};
-use stage2_reference::generate::{Generator, Size};
+use stage2_reference::generate::Size;
 use stage2_reference::{self as reference, NODE_ROW};
-
-/// How many texts are tried unless `STAGE2_COUNT` says otherwise: enough to
-/// meet every number.
-const USUAL_COUNT: u64 = 20_000;
-
-fn count() -> u64 {
-    setting("STAGE2_COUNT", USUAL_COUNT)
-}
-
-fn setting(name: &str, usual: u64) -> u64 {
-    match env::var(name) {
-        Ok(value) => value.parse().unwrap_or_else(|_| panic!("{name} is no number: {value}")),
-        Err(_) => usual,
-    }
-}
-
-/// Calls `test` with random texts of a size, and prints the seed.
-fn for_texts(size: Size, mut test: impl FnMut(&mut Generator, &[u8])) {
-    let (seed, count) = (setting("STAGE2_SEED", 20_261_115), count());
-    println!("STAGE2_SEED={seed} STAGE2_COUNT={count} {size:?}");
-    let mut generator = Generator::new(seed);
-    for _ in 0..count {
-        let text = generator.text(size);
-        test(&mut generator, &text);
-    }
-}
-
-/// A node row whose contents mean nothing.
-fn row(length: usize) -> Vec<Node> {
-    (0..length).map(|at| [at as u16; 6]).collect()
-}
-
-fn shown(bytes: &[u8]) -> String {
-    bytes.escape_ascii().to_string()
-}
 
 /// Compares both calls on a text and a line with a row of nodes; gives the
 /// numbers of the two answers.
@@ -67,7 +29,7 @@ fn compare(text: &[u8], nodes: &mut [Node], line: &[u8]) -> (u64, u64) {
 fn compare_random(size: Size, expected: &[u64]) {
     // The rows are used again and again, so each call meets what the last left.
     let mut rows = [2_047, 2_048, 3_000].map(row);
-    let mut numbers = BTreeMap::new();
+    let mut numbers = Numbers::default();
     let mut turn = 0;
     for_texts(size, |generator, text| {
         for _ in 0..3 {
@@ -83,14 +45,12 @@ fn compare_random(size: Size, expected: &[u64]) {
                 _ => &mut rows[2],
             };
             let (checked, fitted) = compare(text, nodes, &line);
-            *numbers.entry(checked).or_insert(0) += 1;
-            *numbers.entry(fitted).or_insert(0) += 1;
+            numbers.add(checked);
+            numbers.add(fitted);
             turn += 1;
         }
     });
-    println!("{numbers:?}");
-    let met = expected.iter().all(|number| numbers.contains_key(number));
-    assert!(met || count() < USUAL_COUNT, "a number is never answered: {numbers:?}");
+    numbers.assert_met(expected);
 }
 
 /// Lines of every length up to one past the limit.

@@ -2,9 +2,9 @@
 //! where a file or an argument is missing.
 
 use std::ffi::OsStr;
-use std::fs;
+use std::fs::{self, File};
 use std::path::{Path, PathBuf};
-use std::process::Command;
+use std::process::{Command, Stdio};
 
 use stage2_reference::programs;
 
@@ -39,6 +39,19 @@ fn printed<S: AsRef<OsStr>>(program: &str, arguments: &[S]) -> String {
     assert!(output.status.success(), "{program} did not end well");
     assert!(output.stderr.is_empty(), "{program} wrote to standard error");
     String::from_utf8(output.stdout).unwrap()
+}
+
+/// What `expand` prints with a file as its standard input.
+fn expanded(input: &Path) -> Vec<u8> {
+    let path = root().join("target/bin/expand");
+    let file = File::open(input).unwrap_or_else(|_| panic!("{} cannot be opened", input.display()));
+    let output = Command::new(&path)
+        .stdin(Stdio::from(file))
+        .output()
+        .unwrap_or_else(|_| panic!("{} cannot be run: run `rt check expand` first", path.display()));
+    assert!(output.status.success(), "expand did not end well");
+    assert!(output.stderr.is_empty(), "expand wrote to standard error");
+    output.stdout
 }
 
 /// A file for a test, which is removed with this.
@@ -116,4 +129,31 @@ fn missing_files_and_arguments() {
     assert_eq!(printed("fit_line", &[good, lines, lines]), few);
     let long = "n".repeat(100_000);
     assert_eq!(printed("check_text", &[&long]), format!("check_text: {long} cannot be read\n"));
+}
+
+#[test]
+fn run_vectors() {
+    for (folder, least) in [("run", 200), ("published", 30)] {
+        let texts = files(&vectors().join(folder), "text");
+        assert!(texts.len() >= least);
+        for text in texts {
+            assert!(expanded(&text) == read(&text.with_extension("out")), "{}", text.display());
+        }
+    }
+}
+
+#[test]
+fn long_texts_expanded() {
+    let mut long = b"$!$!0 (+-*/)\nA!$\n$$\n".to_vec();
+    for length in [0, long.len(), 65_535, 65_536, 65_537, 200_000] {
+        long.resize(length, b'\n');
+        let text = Scratch::new("expanded.text", &long);
+        assert!(expanded(Path::new(text.name())) == programs::expand(&long), "length {length}");
+    }
+}
+
+#[test]
+fn no_standard_input() {
+    assert_eq!(expanded(&vectors()), b"expand: standard input cannot be read\n");
+    assert_eq!(expanded(Path::new("/dev/null")), b"END 3 1 0\n");
 }

@@ -1,12 +1,16 @@
 // The public calls for C and Rust; include/stage2.h declares them. A slice is a pointer and a count.
 ghost use mathlib.Core.Path.{_≡_};
+ghost use mathlib.Core.Bool.{false};
 ghost use Prim.Native.Nat.{_≤_};
 ghost use lib.ListN.{length};
 ghost use Rattle.model.specs.Load.{Loaded, loaded, load};
-ghost use Rattle.model.specs.Results.{checkText, fitLine};
+ghost use Rattle.model.specs.Results.{checkText, fitLine, illegal, runText};
 ghost use Rattle.model.specs.FirstReading.{FitsFirst};
+ghost use Rattle.run.specs.Runs.{Runs};
+ghost use Rattle.run.specs.Demands.{FollowsExpansion};
 use model::Checked;
 use model::Fitted;
+use model::Ran;
 
 #[no_mangle]
 pub extern "C" fn stage2_check(text: &[u8], nodes: &mut [[u16; 6]]) -> Checked
@@ -21,4 +25,18 @@ pub extern "C" fn stage2_fit(text: &[u8], nodes: &mut [[u16; 6]], line: &[u8]) -
     ensures { λ r. ⌜ ((t : Loaded) → load (now (text .entry)) ≡ loaded t → 2048 ≤ length (now (nodes .entry)) → length (now (line .entry)) ≤ 200 → FitsFirst t (now (line .entry)) r) ⌝ }
 {
     stage2::fit(text, nodes, line)
+}
+
+#[no_mangle]
+pub extern "C" fn stage2_run(
+    text: &[u8],
+    fuel: u64,
+    nodes: &mut [[u16; 6]],
+    output: &mut [u8],
+    store: &mut [u8],
+) -> Ran
+    ensures { λ r. ⌜ Runs (runText fuel (length (now (nodes .entry))) (length (now (output .entry))) (length (now (store .entry))) (now (text .entry))) (now (output .entry)) (now (store .entry)) r (now (output .exit)) (now (store .exit)) ⌝ }
+    ensures { λ r. ⌜ ((t : Loaded) → load (now (text .entry)) ≡ loaded t → illegal fuel (length (now (nodes .entry))) (length (now (store .entry))) ≡ false → FollowsExpansion t fuel (now (output .entry)) (now (store .entry)) r (now (output .exit)) (now (store .exit))) ⌝ }
+{
+    run::run(text, fuel, nodes, output, store)
 }

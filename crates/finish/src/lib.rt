@@ -54,6 +54,7 @@ pub struct Carried {
     pub state: State,
 }
 
+// An answer that offers no line.
 pub fn come_to(turn: Turn, call: Call, s: State) -> Carried
     ensures { λ r. ⌜ r ≡ cameTo turn call s ⌝ }
 {
@@ -69,6 +70,7 @@ pub fn come_to(turn: Turn, call: Call, s: State) -> Carried
     }
 }
 
+// The call goes on, or the run ends with the number.
 fn turn_after(ok: bool, number: usize) -> Turn
     ensures { λ r. ⌜ r ≡ turnAfter ok number ⌝ }
 {

@@ -56,12 +56,12 @@ lies-param l =
     sym (l .is m [])
 
 -- a parameter cut
-pub puts-cut : {m : Marks} {c : Call} {d n len : ℕ} {o : Bytes} {w : ℕ} {o′ : Bytes} → Lies c d len → length (c .bytes) ≡ 1800 → d ≤ 9 → n ≤ len
+pub puts-cut : {m : Marks} {c : Call} {d n len : ℕ} {o : Bytes} {w : ℕ} {o′ : Bytes} → Lies c d len → n ≤ len
     → Pasted o w (part (c .bytes) (200 * (d - 1)) (200 * (d - 1) + n)) (length (part (c .bytes) (200 * (d - 1)) (200 * (d - 1) + n))) o′
     → w + n ≤ length o → PutsField m c d o w n o′
-puts-cut {m} {c} {d} {n} {len} {o} {w} l h g k p r =
+puts-cut {m} {c} {d} {n} {len} {o} {w} l k p r =
     let a : ℕ = 200 * (d - 1) in
-    let s = l .short in
+    let s = l .within in
     let e : length (part (c .bytes) a (a + n)) ≡ n = part-long (c .bytes) a n (omega arith) in
     let i : length (paramOf c d) ≡ len = ap (λ (x : Bytes). length x) (sym (lies-param l)) ∙ part-long (c .bytes) a len (omega arith) in
     let y : a + n - a ≡ n = omega arith in
@@ -72,12 +72,12 @@ puts-cut {m} {c} {d} {n} {len} {o} {w} l h g k p r =
     record { adds = adds-as (adds-copy p (omega arith)) (q ∙ sym (field-cut (m .blank) n (paramOf c d) (omega arith))) e }
 
 -- a parameter with blanks after it
-pub puts-filled : {m : Marks} {c : Call} {d n len : ℕ} {o : Bytes} {w : ℕ} {o₁ o₂ : Bytes} → Lies c d len → length (c .bytes) ≡ 1800 → d ≤ 9 → len < n
+pub puts-filled : {m : Marks} {c : Call} {d n len : ℕ} {o : Bytes} {w : ℕ} {o₁ o₂ : Bytes} → Lies c d len → len < n
     → Pasted o w (part (c .bytes) (200 * (d - 1)) (200 * (d - 1) + len)) (length (part (c .bytes) (200 * (d - 1)) (200 * (d - 1) + len))) o₁
     → Adds o₁ (w + len) (replicate (n - len) (m .blank)) (n - len) o₂ → w + n ≤ length o → PutsField m c d o w n o₂
-puts-filled {m} {c} {d} {n} {len} {o} {w} l h g k p b r =
+puts-filled {m} {c} {d} {n} {len} {o} {w} l k p b r =
     let a : ℕ = 200 * (d - 1) in
-    let s = l .short in
+    let s = l .within in
     let e : length (part (c .bytes) a (a + len)) ≡ len = part-long (c .bytes) a len (omega arith) in
     let i : length (paramOf c d) ≡ len = ap (λ (x : Bytes). length x) (sym (lies-param l)) ∙ e in
     let z : len + (n - len) ≡ n = omega arith in

@@ -1,13 +1,8 @@
 -- write_field copies the parameter's first n bytes, or all of them and blanks after.
-use mathlib.Core.Path.{_≡_}
-use lib.ListN.{length}
 use Rattle.write.proofs.Fields.{puts-cut, puts-filled}
 use borrow.Author.Needs.{needs}
 use Rattle.write.proofs.write_field.Statement.{statement}
 use Rattle.write.proofs.write_field.Tie as tie
-
-bytes-long : (c : tie.Start) → length (c .args .call .bytes) ≡ 1800
-bytes-long c = search needs
 
 sub-from : tie.Need-sub-from
 sub-from c = search needs
@@ -28,7 +23,7 @@ part-part-start : tie.Need-part-part-start
 part-part-start c = search needs
 
 part-part-end : tie.Need-part-part-end
-part-part-end c = let l = bytes-long (c .before .before .before .before .before) in search needs
+part-part-end c = search needs
 
 copy-requires : tie.Need-copy-requires
 copy-requires c κs = search needs
@@ -37,7 +32,7 @@ same-length : tie.Need-same-length
 same-length c = search needs
 
 returns : tie.Need-returns
-returns c = let l = bytes-long (c .before .before .before .before .before .before .before .before .before .before) in search (puts-cut, needs)
+returns c = search (puts-cut, needs)
 
 add-to-2 : tie.Need-add-to-2
 add-to-2 c = search needs
@@ -49,7 +44,7 @@ part-part-start-2 : tie.Need-part-part-start-2
 part-part-start-2 c = search needs
 
 part-part-end-2 : tie.Need-part-part-end-2
-part-part-end-2 c = let l = bytes-long (c .before .before .before .before .before) in search needs
+part-part-end-2 c = search needs
 
 copy-requires-2 : tie.Need-copy-requires-2
 copy-requires-2 c κs = search needs
@@ -67,7 +62,7 @@ same-length-2 : tie.Need-same-length-2
 same-length-2 c = search needs
 
 returns-2 : tie.Need-returns-2
-returns-2 c = let l = bytes-long (c .before .before .before .before .before .before .before .before .before .before .before .before .before .before) in search (puts-filled, needs)
+returns-2 c = search (puts-filled, needs)
 
 pub write-field-spec : {M : Type 1} → statement M
 write-field-spec =

@@ -1,0 +1,196 @@
+//! The proved run and the reference's, on random texts, fuels and rooms.
+
+mod common;
+
+use std::sync::LazyLock;
+
+use common::{for_texts, row, shown, Numbers};
+use stage2_compare::{run, Node};
+use stage2_reference::generate::{Generator, Size};
+use stage2_reference::{self as reference, Ran, FUEL_LIMIT, NODE_ROW, STORE_ROOM};
+
+/// The sizes that a run is called with.
+#[derive(Clone, Copy, Debug)]
+struct Rooms {
+    nodes: usize,
+    output: usize,
+    store: usize,
+}
+
+impl Rooms {
+    fn with_output(output: usize) -> Rooms {
+        Rooms { nodes: NODE_ROW, output, store: STORE_ROOM }
+    }
+}
+
+/// A run's answer, with every byte of output and store.
+#[derive(Debug, PartialEq, Eq)]
+struct Left {
+    ran: Ran,
+    output: Vec<u8>,
+    store: Vec<u8>,
+}
+
+impl Left {
+    /// What the run wrote to the output.
+    fn written(&self) -> &[u8] {
+        &self.output[..self.ran.output as usize]
+    }
+}
+
+/// Bytes that no run writes in this order by chance.
+static PATTERN: LazyLock<Vec<u8>> =
+    LazyLock::new(|| (0..80_000).map(|at: usize| 128 + (at * 37 % 127) as u8).collect());
+
+fn pattern(length: usize) -> Vec<u8> {
+    PATTERN[..length].to_vec()
+}
+
+/// Runs a text. Output and store hold a pattern before, and what lies beyond
+/// the lengths in the answer must still be that.
+fn run_proved(text: &[u8], fuel: u64, rooms: Rooms, row: &mut [Node]) -> Left {
+    let (mut output, mut store) = (pattern(rooms.output), pattern(rooms.store));
+    let ran = run(text, fuel, &mut row[..rooms.nodes], &mut output, &mut store);
+    let unchanged =
+        |bytes: &[u8], length: u64| bytes[length as usize..] == PATTERN[length as usize..bytes.len()];
+    assert!(unchanged(&output, ran.output), "output, fuel {fuel}, {rooms:?}: {}", shown(text));
+    assert!(unchanged(&store, ran.store), "store, fuel {fuel}, {rooms:?}: {}", shown(text));
+    Left { ran, output, store }
+}
+
+/// Compares both runs of a text; gives what they left.
+fn compare(text: &[u8], fuel: u64, rooms: Rooms, row: &mut [Node]) -> Left {
+    let left = run_proved(text, fuel, rooms, row);
+    let (mut output, mut store) = (pattern(rooms.output), pattern(rooms.store));
+    let ran = reference::run(text, fuel, rooms.nodes, &mut output, &mut store);
+    let expected = Left { ran, output, store };
+    // The bytes are not printed: there are many.
+    assert_eq!(left.ran, expected.ran, "fuel {fuel}, {rooms:?}: {}", shown(text));
+    assert!(left == expected, "bytes, fuel {fuel}, {rooms:?}: {}", shown(text));
+    left
+}
+
+/// Sizes that are mostly legal.
+fn any_rooms(generator: &mut Generator, turn: u64) -> Rooms {
+    Rooms {
+        nodes: if turn % 50 == 0 { NODE_ROW - 1 } else { NODE_ROW + (turn % 3) as usize * 400 },
+        output: generator.room(),
+        store: if turn % 50 == 1 { STORE_ROOM - 1 } else { STORE_ROOM + (turn % 2) as usize * 100 },
+    }
+}
+
+/// Random texts with random fuels and rooms. All of `expected` must be met
+/// among the numbers of the answers.
+fn compare_random(size: Size, expected: &[u64]) {
+    // The row is used again and again, so each run meets what the last left.
+    let mut row = row(3_000);
+    let mut numbers = Numbers::default();
+    let mut turn = 0;
+    for_texts(size, |generator, text| {
+        let (fuel, rooms) = (generator.fuel(), any_rooms(generator, turn));
+        numbers.add(compare(text, fuel, rooms, &mut row).ran.number);
+        turn += 1;
+    });
+    numbers.assert_met(expected);
+}
+
+/// Random texts with fuels that lie close together: 1, one event too few, just
+/// enough, and more. More fuel changes nothing of a run that ended, and only
+/// adds to the output of a spent one.
+fn compare_fuels(size: Size) {
+    let mut row = row(NODE_ROW);
+    for_texts(size, |generator, text| {
+        let rooms = Rooms::with_output(generator.room());
+        let less = generator.fuel().clamp(1, 2_000);
+        let more = less + generator.fuel().clamp(1, 2_000);
+        let (first, second) = (compare(text, less, rooms, &mut row), compare(text, more, rooms, &mut row));
+        if first.ran.number == 20 {
+            assert_eq!(first.ran.events, less, "{}", shown(text));
+            assert!(second.written().starts_with(first.written()), "{}", shown(text));
+        } else {
+            assert!(first == second, "fuels {less} and {more}: {}", shown(text));
+        }
+        let events = second.ran.events;
+        if events > 0 && second.ran.number != 20 {
+            assert!(compare(text, events, rooms, &mut row) == second, "fuel {events}: {}", shown(text));
+        }
+        if events > 1 {
+            let short = compare(text, events - 1, rooms, &mut row);
+            assert_eq!((short.ran.number, short.ran.events), (20, events - 1), "{}", shown(text));
+        }
+        compare(text, 1, rooms, &mut row);
+    });
+}
+
+/// 01's session.
+const SESSION: &[u8] = b"$!$!0 (+-*/)\nNAME !$\n!10!F1$\n$\nNAME !&amp;!$\nNAME !10&!20$\n$$\n\
+    NAME Kern &amp; Co$\nplain$\n";
+
+/// Stores a name, and would make more passes than any fuel allows.
+const ENDLESS: &[u8] = b"$!$!0 (+-*/)\nGO!$\n1000!F7\n1000!F7\n!12!36\n!F8\n!F8\n$$\nGOname\n";
+
+#[test]
+fn small_texts() {
+    compare_random(Size::Small, &[0, 1, 3, 4, 5, 6, 7, 8, 11, 12, 13, 14, 15, 16, 17, 18, 20]);
+}
+
+#[test]
+fn large_texts() {
+    compare_random(Size::Large, &[0, 1, 2, 3, 4, 5, 6, 7, 8, 9, 11, 12, 13, 14, 15, 16, 17, 18, 19, 20]);
+}
+
+#[test]
+fn fuels_of_small_texts() {
+    compare_fuels(Size::Small);
+}
+
+#[test]
+fn fuels_of_large_texts() {
+    compare_fuels(Size::Large);
+}
+
+#[test]
+fn fuels_at_the_limits() {
+    let mut row = row(NODE_ROW);
+    for fuel in [0, 1, 2, 4, 5, 6, 999_999, FUEL_LIMIT, FUEL_LIMIT + 1, 1 << 32, u64::MAX] {
+        for text in [SESSION, ENDLESS, b""] {
+            let left = compare(text, fuel, Rooms::with_output(1_000), &mut row);
+            let legal = (1..=FUEL_LIMIT).contains(&fuel);
+            assert_eq!(left.ran.number == 1, !legal, "fuel {fuel}");
+            if text == ENDLESS && legal {
+                assert_eq!((left.ran.number, left.ran.events), (20, fuel), "fuel {fuel}");
+            }
+        }
+    }
+}
+
+#[test]
+fn rooms_of_every_kind() {
+    let mut row = row(70_000);
+    for nodes in [0, 2_047, 2_048, 2_049, 65_535, 65_536, 70_000] {
+        for store in [0, 8_703, 8_704, 8_705, 70_000] {
+            for output in [0, 9, 10, 15, 16, 65_536, 70_000] {
+                let rooms = Rooms { nodes, output, store };
+                let left = compare(SESSION, FUEL_LIMIT, rooms, &mut row);
+                let legal = nodes >= 2_048 && store >= 8_704;
+                let number = if !legal {
+                    1
+                } else if output < 16 {
+                    13
+                } else {
+                    0
+                };
+                assert_eq!(left.ran.number, number, "{rooms:?}");
+            }
+        }
+    }
+}
+
+#[test]
+fn texts_of_the_greatest_length() {
+    for length in [65_535, 65_536, 65_537] {
+        let mut text = SESSION.to_vec();
+        text.resize(length, b'\n');
+        compare(&text, FUEL_LIMIT, Rooms::with_output(70_000), &mut row(NODE_ROW));
+    }
+}

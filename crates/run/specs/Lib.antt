@@ -1,0 +1,4 @@
+-- What the contracts cite.
+pub mod Runs
+pub mod Demands
+pub mod Inner

@@ -1,0 +1,209 @@
+// The public call run (document 01, "Events, store and result"): a text is loaded, and its input expanded with the caller's fuel
+// into the caller's output; the names that were stored are listed in the caller's store. It asks nothing of its caller.
+ghost use mathlib.Core.Path.{_≡_};
+ghost use mathlib.Core.Bool.{false};
+ghost use mathlib.Core.List.{[]};
+ghost use Prim.Native.Nat.{_≤_, _<_};
+ghost use lib.ListN.{length};
+ghost use Rattle.model.specs.Load as Load;
+ghost use Rattle.model.specs.Load.{Loaded, loaded};
+ghost use Rattle.model.specs.Machine as Machine;
+ghost use Rattle.model.specs.Results.{illegal, runText, ranAs};
+ghost use Rattle.store.specs.Memory.{Kept, Holds};
+ghost use Rattle.load.specs.Table.{tableOf};
+ghost use Rattle.prepare.specs.Prepares.{Prepares};
+ghost use Rattle.run.specs.Runs.{Runs};
+ghost use Rattle.run.specs.Demands.{FollowsExpansion};
+ghost use Rattle.run.specs.Inner.{Tests, refusal, Ready, startOf, Ends};
+use cycle::Res;
+use cycle::expand;
+use load::Loading;
+use model::Ran;
+use prepare::prepare;
+use state::State;
+use store::Index;
+use store::empty;
+use store::listing;
+
+// A number below 2 to the 64.
+fn wide(n: usize) -> u64
+    ensures { λ r. ⌜ r ≡ n ⌝ }
+{
+    n as u64
+}
+
+// The same on the way in.
+fn count_of(n: u64) -> usize
+    ensures { λ r. ⌜ r ≡ n ⌝ }
+{
+    n as usize
+}
+
+// Whether the fuel is not 1 to 1,000,000, the node row below 2,048 or the store below 8,704.
+fn is_illegal(fuel: u64, rows: usize, store: usize) -> bool
+    ensures { λ r. ⌜ Tests fuel rows store r ⌝ }
+{
+    (fuel < 1) | ((1000000 < fuel) | ((rows < 2048) | (store < 8704)))
+}
+
+// A number and a line; nothing is written.
+fn refuse(number: usize, line: usize) -> Ran
+    ensures { λ r. ⌜ r ≡ ranAs (refusal number line) ⌝ }
+{
+    Ran {
+        number: wide(number),
+        line: wide(line),
+        events: 0,
+        output: 0,
+        store: 0,
+    }
+}
+
+// The state before the first input line, with the names that memory has.
+fn start(loading: Loading, index: Index, fuel: usize) -> State
+    ensures { λ r. ⌜ r ≡ startOf loading index fuel ⌝ }
+{
+    State {
+        at: loading.input,
+        line: loading.line,
+        calls: 0,
+        symbols: 0,
+        index,
+        written: 0,
+        events: 0,
+        fuel,
+    }
+}
+
+// The end of a run: what memory holds is listed in the store.
+fn end(q: Res, memory: &[u8], store: &mut [u8]) -> Ran
+    requires { ⌜ Kept (now memory) (q .state .index) × (8704 ≤ length (now store)) ⌝ }
+    ensures { λ r. ⌜ Ends q (now (memory .entry)) (now (store .entry)) r (now (store .exit)) ⌝ }
+{
+    let s = q.state;
+    let n = listing(memory, s.index, store);
+    Ran {
+        number: wide(q.number),
+        line: wide(s.line),
+        events: wide(s.events),
+        output: wide(s.written),
+        store: wide(n),
+    }
+}
+
+// The run of a text that is loaded.
+fn run_loaded(
+    text: &[u8],
+    nodes: &[[u16; 6]],
+    bodies: &[usize],
+    loading: Loading,
+    fuel: usize,
+    output: &mut [u8],
+    memory: &mut [u8],
+    index: Index,
+    store: &mut [u8],
+) -> Ran
+    requires { ⌜ Ready (now text) (now nodes) (now bodies) loading × Holds (now memory) index [] × (fuel ≤ 1000000) × (8704 ≤ length (now store)) ⌝ }
+    ensures { λ r. ⌜ Runs (Machine.run fuel (length (now (output .entry))) (Load.load (now (text .entry)))) (now (output .entry)) (now (store .entry)) r (now (output .exit)) (now (store .exit)) ⌝ }
+{
+    let made = loading.nodes;
+    let s = start(loading, index, fuel);
+    let q = expand(
+        loading.marks,
+        text,
+        &nodes[0..made],
+        bodies,
+        output,
+        memory,
+        s,
+    );
+    end(q, memory, store)
+}
+
+// The run of a text that is prepared, or refused. At first nothing is stored.
+fn run_prepared(
+    text: &[u8],
+    nodes: &[[u16; 6]],
+    starts: &[usize],
+    lens: &[usize],
+    numbers: &[usize],
+    bodies: &[usize],
+    loading: Loading,
+    fuel: usize,
+    output: &mut [u8],
+    store: &mut [u8],
+) -> Ran
+    requires { ⌜ Prepares (now text) (tableOf (now starts) (now lens) (now numbers) (now bodies)) (now nodes) loading × (length (now bodies) ≡ 128) × (fuel ≤ 1000000) × (8704 ≤ length (now store)) ⌝ }
+    ensures { λ r. ⌜ Runs (Machine.run fuel (length (now (output .entry))) (Load.load (now (text .entry)))) (now (output .entry)) (now (store .entry)) r (now (output .exit)) (now (store .exit)) ⌝ }
+{
+    if loading.number != 0 {
+        return refuse(loading.number, loading.line);
+    }
+    let mut memory = [0u8; 8704];
+    let index = empty(&memory);
+    run_loaded(
+        text,
+        nodes,
+        bodies,
+        loading,
+        fuel,
+        output,
+        &mut memory,
+        index,
+        store,
+    )
+}
+
+// A run with legal fuel and rooms.
+pub fn run_in(
+    text: &[u8],
+    fuel: usize,
+    nodes: &mut [[u16; 6]],
+    output: &mut [u8],
+    store: &mut [u8],
+) -> Ran
+    requires { ⌜ (fuel ≤ 1000000) × (2048 ≤ length (now nodes)) × (length (now nodes) < 65536) × (8704 ≤ length (now store)) ⌝ }
+    ensures { λ r. ⌜ Runs (Machine.run fuel (length (now (output .entry))) (Load.load (now (text .entry)))) (now (output .entry)) (now (store .entry)) r (now (output .exit)) (now (store .exit)) ⌝ }
+{
+    let mut starts = [0usize; 128];
+    let mut lens = [0usize; 128];
+    let mut numbers = [0usize; 128];
+    let mut bodies = [0usize; 128];
+    let loading = prepare(
+        text,
+        nodes,
+        &mut starts,
+        &mut lens,
+        &mut numbers,
+        &mut bodies,
+    );
+    run_prepared(
+        text,
+        nodes,
+        &starts,
+        &lens,
+        &numbers,
+        &bodies,
+        loading,
+        fuel,
+        output,
+        store,
+    )
+}
+
+// Runs a text. No more than 2,048 nodes of the lent row are used; their contents are free.
+pub fn run(
+    text: &[u8],
+    fuel: u64,
+    nodes: &mut [[u16; 6]],
+    output: &mut [u8],
+    store: &mut [u8],
+) -> Ran
+    ensures { λ r. ⌜ Runs (runText fuel (length (now (nodes .entry))) (length (now (output .entry))) (length (now (store .entry))) (now (text .entry))) (now (output .entry)) (now (store .entry)) r (now (output .exit)) (now (store .exit)) ⌝ }
+    ensures { λ r. ⌜ ((t : Loaded) → Load.load (now (text .entry)) ≡ loaded t → illegal fuel (length (now (nodes .entry))) (length (now (store .entry))) ≡ false → FollowsExpansion t fuel (now (output .entry)) (now (store .entry)) r (now (output .exit)) (now (store .exit))) ⌝ }
+{
+    if is_illegal(fuel, nodes.len(), store.len()) {
+        return refuse(1, 0);
+    }
+    run_in(text, count_of(fuel), &mut nodes[0..2048], output, store)
+}

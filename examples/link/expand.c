@@ -1,0 +1,34 @@
+/* Expands one text with the library, and prints the output, the answer and the stored names.
+ *
+ *     rt staticlib api
+ *     cc -Iinclude examples/link/expand.c target/staticlib/libapi.a -o expand_c
+ */
+#include <stdio.h>
+#include <string.h>
+
+#include "stage2.h"
+
+static stage2_node nodes[STAGE2_NODES];
+static uint8_t output[65536];
+static uint8_t store[STAGE2_STORE];
+
+int main(void) {
+    const char *text =
+        "$!$!0 (+-*/)\n"
+        "NAME !&amp;!$\n"
+        "NAME !10&!20$\n"
+        "$\n"
+        "NAME !$\n"
+        "!10!26$\n"
+        "family!16$\n"
+        "!F3$\n"
+        "!20!F13$\n"
+        "$$\n"
+        "NAME Kern &amp; Co$\n";
+    stage2_ran ran = stage2_run((const uint8_t *)text, strlen(text), 1000000, nodes, STAGE2_NODES,
+                                output, sizeof output, store, sizeof store);
+    fwrite(output, 1, ran.output, stdout);
+    printf("number %d, line %d, events %d\n", (int)ran.number, (int)ran.line, (int)ran.events);
+    fwrite(store, 1, ran.store, stdout);
+    return 0;
+}
