@@ -32,7 +32,12 @@ extern "C" {
 /* A node of the tree of a text's templates. A caller only lends a row of them: what they hold before a call and after it
  * means nothing. */
 typedef struct {
-    uint16_t field[6];
+    uint16_t element;   /* the template's end 0, a placeholder 1, a literal byte b is b + 2 */
+    uint16_t first;     /* the first child */
+    uint16_t count;     /* how many children stand from there on */
+    uint16_t template_; /* the number of its template; C++ keeps the name without the underscore */
+    uint16_t height;    /* how many elements follow it at most */
+    uint16_t holes;     /* how many placeholders stand up to and with it */
 } stage2_node;
 
 /* What checking a text gives. */

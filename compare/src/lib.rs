@@ -4,7 +4,16 @@
 use stage2_reference::{Checked, Fitted, Ran};
 
 /// An element of the lent node row.
-pub type Node = [u16; 6];
+#[repr(C)]
+#[derive(Clone, Copy, Default)]
+pub struct Node {
+    pub element: u16,
+    pub first: u16,
+    pub count: u16,
+    pub template: u16,
+    pub height: u16,
+    pub holes: u16,
+}
 
 #[repr(C)]
 struct RawChecked {

@@ -14,13 +14,24 @@ struct Ran {
     store: u64,
 }
 
+#[repr(C)]
+#[derive(Clone, Copy, Default)]
+struct Node {
+    element: u16,
+    first: u16,
+    count: u16,
+    template: u16,
+    height: u16,
+    holes: u16,
+}
+
 // As include/stage2.h declares it.
 extern "C" {
     fn stage2_run(
         text: *const u8,
         text_count: usize,
         fuel: u64,
-        nodes: *mut [u16; 6],
+        nodes: *mut Node,
         nodes_count: usize,
         output: *mut u8,
         output_count: usize,
@@ -31,7 +42,7 @@ extern "C" {
 
 /// Runs a text; gives the answer, the output and the store's listing.
 fn run(text: &[u8], fuel: u64) -> (Ran, Vec<u8>, Vec<u8>) {
-    let mut nodes = vec![[0; 6]; 2048];
+    let mut nodes = vec![Node::default(); 2048];
     let (mut output, mut store) = (vec![0; 65536], vec![0; 8704]);
     // Every slice is passed with its own length, and the mutable ones don't overlap.
     let ran = unsafe {

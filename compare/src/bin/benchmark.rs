@@ -3,7 +3,7 @@
 
 use std::time::{Duration, Instant};
 
-use stage2_compare::run;
+use stage2_compare::{run, Node};
 use stage2_reference::{self as reference, Ran, FUEL_LIMIT, NODE_ROW, STORE_ROOM};
 
 /// How long each library is timed on a case.
@@ -62,7 +62,7 @@ fn table(macros: usize, codes: usize, calls: usize, called: usize) -> String {
 
 /// One row: both libraries run the text and agree.
 fn print(case: &str, text: &str) {
-    let mut nodes = vec![[0; 6]; NODE_ROW];
+    let mut nodes = vec![Node::default(); NODE_ROW];
     let (mut output, mut store) = (vec![0; 65_536], vec![0; STORE_ROOM]);
     let text = text.as_bytes();
     let (proved_ran, proved) = timed(|| run(text, FUEL_LIMIT, &mut nodes, &mut output, &mut store));

@@ -79,7 +79,10 @@ impl Numbers {
 
 /// A node row whose contents mean nothing.
 pub fn row(length: usize) -> Vec<Node> {
-    (0..length).map(|at| [at as u16; 6]).collect()
+    (0..length)
+        .map(|at| at as u16)
+        .map(|x| Node { element: x, first: x, count: x, template: x, height: x, holes: x })
+        .collect()
 }
 
 pub fn shown(bytes: &[u8]) -> String {

@@ -11,16 +11,17 @@ ghost use Rattle.run.specs.Demands.{FollowsExpansion};
 use model::Checked;
 use model::Fitted;
 use model::Ran;
+use nodes::Node;
 
 #[no_mangle]
-pub extern "C" fn stage2_check(text: &[u8], nodes: &mut [[u16; 6]]) -> Checked
+pub extern "C" fn stage2_check(text: &[u8], nodes: &mut [Node]) -> Checked
     ensures { λ r. ⌜ r ≡ checkText (length (now (nodes .entry))) (now (text .entry)) ⌝ }
 {
     stage2::check(text, nodes)
 }
 
 #[no_mangle]
-pub extern "C" fn stage2_fit(text: &[u8], nodes: &mut [[u16; 6]], line: &[u8]) -> Fitted
+pub extern "C" fn stage2_fit(text: &[u8], nodes: &mut [Node], line: &[u8]) -> Fitted
     ensures { λ r. ⌜ r ≡ fitLine (length (now (nodes .entry))) (now (text .entry)) (now (line .entry)) ⌝ }
     ensures { λ r. ⌜ ((t : Loaded) → load (now (text .entry)) ≡ loaded t → 2048 ≤ length (now (nodes .entry)) → length (now (line .entry)) ≤ 200 → FitsFirst t (now (line .entry)) r) ⌝ }
 {
@@ -31,7 +32,7 @@ pub extern "C" fn stage2_fit(text: &[u8], nodes: &mut [[u16; 6]], line: &[u8]) -
 pub extern "C" fn stage2_run(
     text: &[u8],
     fuel: u64,
-    nodes: &mut [[u16; 6]],
+    nodes: &mut [Node],
     output: &mut [u8],
     store: &mut [u8],
 ) -> Ran

@@ -7,12 +7,13 @@ use Prim.Native.Nat.{ℕ, zero, suc, _+_, _-_, _≤_, _<_}
 use native.Mathlib.Numerals.{add-one}
 use native.Mathlib.Omega.{arith}
 use lib.Dec.{eqb, eqb·suc-zero}
-use lib.ListN.{length, getD, drop, drop-of-length-le, length-drop}
-use lib.Seq.{drop-cons, take-suc, getD-drop}
+use lib.ListN.{length, getD, drop, drop-of-length-le}
+use lib.Seq.{drop-cons}
 use borrow.Author.Tests.{eq-eqb, ne-eqb}
 use Rattle.model.specs.declared.Marks.{Marks}
 use Rattle.model.specs.Text.{Bytes, part}
 use Rattle.model.specs.Reading.{group, atom}
+use Rattle.model.proofs.Text.{part-more}
 use Rattle.model.proofs.Chosen.{Tested, alike, apart, tested}
 use Rattle.atom.specs.Atoms.{depthPast, AtomAt}
 
@@ -127,13 +128,6 @@ module _ (m : Marks) where
   unfolding group
   open-end zero p f = absurd (f refl)
   open-end (suc d) p f = refl
-
--- one byte more of a part
-part-more : (line : Bytes) (at i : ℕ) → at ≤ i → i < length line → part line at (i + 1) ≡ part line at i ++ getD line i 0 ∷ []
-part-more line at i le lt =
-    let x : i + 1 - at ≡ suc (i - at) = omega arith in
-    let y : at + (i - at) ≡ i = omega arith in
-    rw x (take-suc (drop at line) (i - at) 0 (simp length-drop (omega arith)) ∙ rw (getD-drop, y) refl)
 
 -- nothing is found
 nothing : (m : Marks) (line : Bytes) (at : ℕ) → atom m (drop at line) ≡ none → AtomAt m line at 0

@@ -15,10 +15,10 @@ use Rattle.model.specs.Machine as Machine
 use Rattle.model.specs.declared.Marks.{Marks}
 use Rattle.model.specs.declared.Effect.{Effect}
 use Rattle.model.specs.declared.Effect.the-variants.{Malformed, Plain, Opens, Closes, Owns}
+use Rattle.model.proofs.Choices.{when-true, when-false}
 use Rattle.scan.specs.declared.CodeLine.{CodeLine}
 use Rattle.scan.specs.Lines.{CodeAt}
 use Rattle.code.specs.Tokens.{Affects}
-use Rattle.code.proofs.Lines.{when-true, when-false}
 use Rattle.body.specs.declared.Passed.{Passed}
 use Rattle.body.specs.declared.Passed.the-variants.{Landed, Beyond, Bad}
 use Rattle.body.specs.declared.Stepped.{Stepped}
@@ -295,11 +295,5 @@ module _ {m : Marks} {text : Bytes} {at n : ℕ} {r : Passed} (s : Passes m text
   pub passes-bad : r ≡ Bad → Machine.passOver m n 0 (bodyAt m text at) ≡ Machine.badLanding
   passes-bad q = s .is ∙ ap (λ x. passedOf m text x) q
 
-  pub landed-from : {p : ℕ} → r ≡ Landed p → at ≤ p
-  landed-from q = subst (λ (x : Passed). Ranged text at n x) q (s .ranged) .0
-
   pub landed-within : {p : ℕ} → r ≡ Landed p → p ≤ length text
   landed-within q = subst (λ (x : Passed). Ranged text at n x) q (s .ranged) .1
-
-  pub beyond-fewer : {j : ℕ} → r ≡ Beyond j → j ≤ n
-  beyond-fewer q = subst (λ (x : Passed). Ranged text at n x) q (s .ranged)

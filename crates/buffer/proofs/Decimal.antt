@@ -7,9 +7,9 @@ use native.Mathlib.Nat.{pow-suc, sub-zero}
 use borrow.Author.Tests.{lt-ltb, le-ltb}
 use lib.ListN.{length, set, take}
 use Rattle.model.specs.Store.{digitsOf, decimal}
+use Rattle.model.proofs.Choices.{when-true, when-false}
 use Rattle.buffer.specs.Written.{Written}
 use Rattle.buffer.specs.Decimal.{Digits, Decimal}
-use Rattle.buffer.proofs.Choices.{when-true, when-false}
 use Rattle.buffer.proofs.Written.{written-none, written-take, written-store}
 
 pub one-digit : {o : List ℕ} {n f : ℕ} → 1 ≤ f → f ≤ length o → n < 10 → Digits o n f 1 (set o 0 (48 + n))

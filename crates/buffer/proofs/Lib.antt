@@ -1,5 +1,4 @@
 -- Laws that the proofs here and in other crates cite.
-pub mod Choices
 pub mod Same
 pub mod Pasted
 pub mod Moves

@@ -4,12 +4,19 @@ use mathlib.Core.List.{List, _++_}
 use Prim.Native.Nat.{ℕ, _+_, _-_, _≤_}
 use native.Mathlib.Omega.{arith}
 use lib.ListN.{length, getD, take, drop, length-append}
-use lib.Seq.{paste, drop-paste, length-paste, take-add, take-take, drop-drop, drop-at, take-append-le, drop-append-le, getD-drop, length-take-le}
+use lib.Seq.{paste, take-paste, take-length, drop-paste, length-paste, take-take, drop-drop, take-append-le, drop-append-le, getD-drop, length-take-le}
+use Rattle.model.proofs.Text.{drop-take}
 use Rattle.buffer.specs.Pasted.{Pasted}
 
 -- the list is as long as before
 pub pasted-long : {d : List ℕ} {at : ℕ} {s : List ℕ} {n : ℕ} {d′ : List ℕ} → Pasted d at s n d′ → at + n ≤ length d → n ≤ length s → length d′ ≡ length d
 pasted-long {d} {at} {s} {n} g h k = ap (λ (x : List ℕ). length x) (g .is) ∙ length-paste d at s n h k
+
+-- what was pasted at the front
+pub front-pasted : {d s d′ : List ℕ} → Pasted d 0 s (length s) d′ → length s ≤ length d → take (length s) d′ ≡ s
+front-pasted {d} {s} {d′} g h =
+    let z : length s ≡ 0 + length s = omega arith in
+    ap₂ (λ (n : ℕ) (x : List ℕ). take n x) z (g .is) ∙ take-paste d 0 s (length s) (omega arith) (omega arith) ∙ take-length s
 
 -- past what was pasted the list is as it was
 pub getD-past : (d : List ℕ) (at : ℕ) (s : List ℕ) (n i : ℕ) → at ≤ length d → n ≤ length s → at + n ≤ i → getD (paste d at s n) i 0 ≡ getD d i 0
@@ -21,9 +28,6 @@ getD-past d at s n i hd hs h =
     ∙ ap (λ (l : List ℕ). getD l k 0) (drop-paste d at s n hd hs)
     ∙ getD-drop (at + n) d k 0
     ∙ ap (λ (j : ℕ). getD d j 0) e
-
-pub drop-take : (k b : ℕ) (d : List ℕ) → k ≤ length d → drop k (take (k + b) d) ≡ take b (drop k d)
-drop-take k b d h = ap (λ (x : List ℕ). drop k x) (take-add k b d) ∙ drop-at (take k d) (take b (drop k d)) k (length-take-le k d h)
 
 -- before what was pasted, too
 pub take-paste-before : (k : ℕ) (d : List ℕ) (a : ℕ) (s : List ℕ) (n : ℕ) → k ≤ a → a ≤ length d → take k (paste d a s n) ≡ take k d
@@ -37,10 +41,11 @@ pub drop-paste-before : (k : ℕ) (d : List ℕ) (b : ℕ) (s : List ℕ) (n : �
 drop-paste-before k d b s n l =
     let e = length-take-le (k + b) d l in
     let f = length-append (take (k + b) d) (take n s) in
+    let y : k + b - k ≡ b = omega arith in
     let z : k + b + n ≡ k + (b + n) = omega arith in
     drop-append-le k (take (k + b) d ++ take n s) (drop (k + b + n) d) (omega arith)
     ∙ ap (λ (x : List ℕ). x ++ drop (k + b + n) d) (drop-append-le k (take (k + b) d) (take n s) (omega arith))
-    ∙ ap₂ (λ (x y : List ℕ). x ++ take n s ++ y) (drop-take k b d (omega arith)) (ap (λ (i : ℕ). drop i d) z ∙ sym (drop-drop (b + n) k d))
+    ∙ ap₂ (λ (x y : List ℕ). x ++ take n s ++ y) (drop-take k (k + b) d ∙ ap (λ (i : ℕ). take i (drop k d)) y) (ap (λ (i : ℕ). drop i d) z ∙ sym (drop-drop (b + n) k d))
 
 pub drop-paste-past : (k : ℕ) (d : List ℕ) (a : ℕ) (s : List ℕ) (n : ℕ) → a ≤ length d → n ≤ length s → a + n ≤ k → drop k (paste d a s n) ≡ drop k d
 drop-paste-past k d a s n l m h =

@@ -10,12 +10,7 @@ use lib.Dec.{eqb}
 use lib.ListN.{length, getD, drop, drop-of-length-le}
 use lib.Seq.{drop-cons}
 use Rattle.model.specs.Text.{same}
-use Rattle.buffer.proofs.Choices.{false-not-true, when-true}
-
-pub same-refl : (l : List ℕ) → same l l ≡ true
-unfolding same
-same-refl [] = refl
-same-refl (a ∷ l) = when-true (same l l) false (eq-eqb a a refl) ∙ same-refl l
+use Rattle.model.proofs.Choices.{false-not-true, when-true}
 
 same-cons : (a b : ℕ) (k l : List ℕ) (q : Bool) → eqb a b ≡ q → (same k l ≡ true → k ≡ l) → elim q as (λ _. Bool) [ true ↦ same k l | false ↦ false ] ≡ true
     → (a ∷ k) ≡ (b ∷ l)

@@ -1,19 +1,17 @@
 -- What callers take from the contract of `build_line`. Assumes nothing.
-use mathlib.Core.Path.{_≡_, _∙_, subst}
+use mathlib.Core.Path.{_≡_, _∙_}
 use mathlib.Core.Bool.{true}
-use Prim.Native.Nat.{ℕ, _≤_}
+use Prim.Native.Nat.{ℕ}
 use native.Mathlib.Omega.{arith}
 use borrow.Author.Tests.{eq-eqb, ne-eqb}
 use Rattle.model.specs.declared.Marks.{Marks}
 use Rattle.model.specs.Text.{Bytes, part}
 use Rattle.model.specs.Code.{parse}
 use Rattle.model.specs.Machine.{halts, finish, carryOut}
-use Rattle.buffer.proofs.Choices.{when-true, when-false}
+use Rattle.model.proofs.Choices.{when-true, when-false}
 use Rattle.state.specs.declared.State.{State}
 use Rattle.state.specs.State.{bytesOf, sharedOf, Sound}
-use Rattle.code.specs.declared.Ending.{Ending}
-use Rattle.code.specs.declared.Ending.the-variants.{Assign, Iterate, Write, Layout}
-use Rattle.code.specs.Tokens.{endingOf, Parameter, Channel, Ranged}
+use Rattle.code.specs.Tokens.{endingOf}
 use Rattle.call.specs.declared.Call.{Call}
 use Rattle.call.specs.Call.{frameOf}
 use Rattle.build.specs.declared.Built.{Built}
@@ -41,22 +39,3 @@ module _ {m : Marks} {text : Bytes} {at to : ℕ} {c : Call} {memory : Bytes} {s
       ≡ halts (r .number) (sharedOf (r .state) o memory′)
   unfolding builtStep
   builds-halts e room o = b .same room o ∙ when-false _ _ (ne-eqb (r .number) 0 e)
-
-  -- the numbers of an ending
-  ranged-as : {k : Ending} → r .ending ≡ k → Ranged at to k
-  ranged-as e = subst (λ (x : Ending). Ranged at to x) e (b .ranged)
-
-  pub builds-assign : {d : ℕ} → r .ending ≡ Assign d → Parameter d
-  builds-assign e = ranged-as e
-
-  pub builds-iterate : {d p : ℕ} → r .ending ≡ Iterate d p → Parameter d
-  builds-iterate e = ranged-as e .0
-
-  pub builds-list : {d p : ℕ} → r .ending ≡ Iterate d p → (at ≤ p) × (p ≤ to)
-  builds-list e = ranged-as e .1
-
-  pub builds-write : {ch : ℕ} → r .ending ≡ Write ch → Channel ch
-  builds-write e = ranged-as e
-
-  pub builds-layout : {ch : ℕ} → r .ending ≡ Layout ch → Channel ch
-  builds-layout e = ranged-as e

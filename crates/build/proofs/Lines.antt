@@ -4,15 +4,15 @@ use mathlib.Core.Bool.{Bool, true, false}
 use mathlib.Core.List.{List, []}
 use Prim.Native.Nat.{ℕ, _≤_}
 use native.Mathlib.Omega.{arith}
-use native.Mathlib.Nat.{sub-zero}
 use borrow.Author.Tests.{eq-eqb, ne-eqb}
-use lib.ListN.{length, take}
+use lib.ListN.{length}
 use Rattle.model.specs.declared.Marks.{Marks}
 use Rattle.model.specs.Text.{Bytes, part}
 use Rattle.model.specs.Code as Code
 use Rattle.model.specs.Code.{parse, effect, effectOf}
 use Rattle.model.specs.Machine.{Frame, Building, built, failed, build, finish, finishBuilt, carryOut}
-use Rattle.buffer.proofs.Choices.{when-true, when-false}
+use Rattle.model.proofs.Choices.{when-true, when-false}
+use Rattle.model.proofs.Text.{part-front}
 use Rattle.store.specs.Memory.{Kept}
 use Rattle.state.specs.declared.State.{State}
 use Rattle.state.specs.State.{sharedOf}
@@ -98,12 +98,11 @@ module _ {m : Marks} {text : Bytes} {at to : ℕ} {c : Call} {memory₀ : Bytes}
     partly-ends {k} q e =
         let f = frameOf m text c in
         let y = ahead-ends (h .ahead) g q in
-        let l : part line 0 (a .len) ≡ take (a .len) line = ap (λ (n : ℕ). take n line) (sub-zero (a .len)) in
         subst (λ (x : Built). Builds m text at to c memory₀ s memory x) (sym e)
         (record {
           same = λ room o. ap (λ x. finishBuilt room m (parse m true (part text at to) .ending) f x)
               (so-far o ∙ ap (λ x. build m f (x .parts) (part line 0 (a .len)) (sharedOf (a .state) o memory)) (says-ends g q))
-              ∙ ap₂ (λ x y. finish room m x y f (sharedOf (a .state) o memory)) (y .is) l
+              ∙ ap₂ (λ x y. finish room m x y f (sharedOf (a .state) o memory)) (y .is) (part-front line (a .len))
               ∙ sym (when-true _ _ (eq-eqb (a .number) 0 z));
           keeps = h .keeps;
           room = h .room;

@@ -69,6 +69,7 @@ fn add_part(
     }
 }
 
+// The answer for a line and its ending.
 fn finish_line(a: Added, bytes: [u8; 200], ending: Ending) -> Built
     ensures { λ r. ⌜ r ≡ builtOf a bytes ending ⌝ }
 {

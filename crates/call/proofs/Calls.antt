@@ -4,7 +4,6 @@ use mathlib.Core.List.{List, [], _∷_, map}
 use Prim.Native.Nat.{ℕ, zero, suc, _+_, _-_, _*_, _≤_, _<_, min}
 use native.Mathlib.Omega.{arith}
 use lib.ListN.{length, getD, set, take, drop, replicate}
-use Rattle.model.specs.declared.Marks.{Marks}
 use Rattle.model.specs.Text.{Bytes}
 use Rattle.model.specs.Load.{bodyAt}
 use Rattle.model.specs.Machine.{param, withParam, resumeAt}
@@ -12,10 +11,9 @@ use Rattle.buffer.specs.Pasted.{Pasted}
 use Rattle.pass.specs.Pass.{delimiterOf}
 use Rattle.call.specs.declared.Iteration.{Iteration}
 use Rattle.call.specs.declared.Call.{Call}
-use Rattle.call.specs.Call.{Capped, iteration, loopsOf, slots, frameOf, PlacedLoop}
+use Rattle.call.specs.Call.{Capped, iteration, loopsOf, slots, PlacedLoop}
 use Rattle.call.specs.Params.{CopiesAll, PlacedInAny, Opens, Lies, Delimiter, Sets, Moves}
 use Rattle.call.proofs.Loops.{none-placed}
-use Rattle.call.proofs.Parts.{part-long}
 use Rattle.call.proofs.Slots.{slots-get, slots-set}
 
 -- ---- open_call
@@ -46,10 +44,6 @@ lies {c} {d} {r} l b h k e =
       short = s;
       within = omega arith;
     }
-
--- and is so long
-pub lies-long : {c : Call} {d r : ℕ} → Lies c d r → (m : Marks) (text : Bytes) → length (param (frameOf m text c) d) ≡ r
-lies-long {c} {d} {r} l m text = ap (λ (s : Bytes). length s) (l .is m text) ∙ part-long (c .bytes) (200 * (d - 1)) r (l .within)
 
 map-get : (ns : List ℕ) (i : ℕ) → i < length ns → getD (map delimiterOf ns) i [] ≡ delimiterOf (getD ns i 0)
 map-get [] i h = absurd (omega arith)

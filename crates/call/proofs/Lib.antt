@@ -1,5 +1,5 @@
 -- The laws of a call.
-pub mod Parts
+pub mod Holding
 pub mod Slots
 pub mod Loops
 pub mod Calls

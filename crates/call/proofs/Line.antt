@@ -1,33 +1,24 @@
 -- A line that is built, and the texts it is built from. Assumes nothing.
-use mathlib.Core.Path.{_≡_, refl, sym, ap, ap₂, _∙_}
+use mathlib.Core.Path.{_≡_, sym, ap, ap₂, _∙_}
 use mathlib.Core.Bool.{Bool, true, false, cond}
 use mathlib.Core.List.{_++_}
-use Prim.Native.Nat.{ℕ, _+_, _-_, _*_, _≤_, _<_}
+use Prim.Native.Nat.{ℕ, _+_, _-_, _≤_, _<_}
 use native.Mathlib.Omega.{arith}
 use borrow.Author.Tests.{le-leb, lt-leb}
 use lib.ListN.{length, take}
 use lib.Seq.{take-paste, take-length, length-take-le}
-use Rattle.model.specs.declared.Marks.{Marks}
 use Rattle.model.specs.Text.{Bytes, part}
-use Rattle.model.specs.Machine.{Shared, built, failed, param, add}
+use Rattle.model.specs.Machine.{built, failed, add}
+use Rattle.model.proofs.Choices.{when-true, when-false}
+use Rattle.model.proofs.Text.{part-front}
 use Rattle.buffer.specs.Pasted.{Pasted}
-use Rattle.buffer.proofs.Choices.{when-true, when-false}
-use Rattle.call.specs.declared.Call.{Call}
-use Rattle.call.specs.declared.Appended.{Appended}
-use Rattle.call.specs.Call.{frameOf}
-use Rattle.call.specs.Params.{Lies}
 use Rattle.call.specs.Line.{Brings, lineStep, Appends}
-use Rattle.call.proofs.Parts.{part-front}
 
 pub brings-memory : {params memory : Bytes} {stored : Bool} {at len : ℕ} → stored ≡ true → Brings params memory stored at len (part memory at (at + len))
 brings-memory {params} {memory} {stored} {at} {len} e = record { is = ap (λ (b : Bool). part (cond b memory params) at (at + len)) (sym e) }
 
 pub brings-params : {params memory : Bytes} {stored : Bool} {at len : ℕ} → stored ≡ false → Brings params memory stored at len (part params at (at + len))
 brings-params {params} {memory} {stored} {at} {len} e = record { is = ap (λ (b : Bool). part (cond b memory params) at (at + len)) (sym e) }
-
--- a parameter is brought in
-pub brought-param : {c : Call} {d n : ℕ} {memory r : Bytes} → Lies c d n → Brings (c .bytes) memory false (200 * (d - 1)) n r → (m : Marks) (text : Bytes) → r ≡ param (frameOf m text c) d
-brought-param l b m text = b .is ∙ sym (l .is m text)
 
 module _ {line : Bytes} {n : ℕ} {s : Bytes} (h : n ≤ 200) (l : length line ≡ 200) where
   pub appends : {line′ : Bytes} → length s ≤ 200 - n → Pasted line n s (length s) line′ → Appends line n s line′ (record { ok = true; len = n + length s })
@@ -50,13 +41,3 @@ module _ {line : Bytes} {n : ℕ} {s : Bytes} (h : n ≤ 200) (l : length line �
       let e = length-take-le n line (omega arith) in
       let q = ap (λ (x : Bytes). length x) (part-front line n) in
       record { is = λ w. when-false (built (part line 0 n ++ s) w) (failed 12 w) (lt-leb (length (part line 0 n) + length s) 200 (omega arith)); short = h }
-
--- what a caller learns by the flag
-module _ {line : Bytes} {n : ℕ} {s line′ : Bytes} {r : Appended} (a : Appends line n s line′ r) (w : Shared) where
-  pub line-built : r .ok ≡ true → add (part line 0 n) s w ≡ built (part line′ 0 (r .len)) w
-  unfolding lineStep
-  line-built e = a .is w ∙ rw (e, lineStep) refl
-
-  pub line-failed : r .ok ≡ false → add (part line 0 n) s w ≡ failed 12 w
-  unfolding lineStep
-  line-failed e = a .is w ∙ rw (e, lineStep) refl

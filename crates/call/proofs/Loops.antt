@@ -11,7 +11,7 @@ use Rattle.model.specs.declared.Marks.{Marks}
 use Rattle.model.specs.Text.{Bytes, part}
 use Rattle.model.specs.Load.{bodyAt}
 use Rattle.model.specs.Machine.{Loop, byPieces, byCount}
-use Rattle.buffer.proofs.Choices.{when-true, when-false}
+use Rattle.model.proofs.Choices.{when-true, when-false}
 use Rattle.call.specs.declared.Iteration.{Iteration}
 use Rattle.call.specs.declared.Call.{Call}
 use Rattle.call.specs.Call.{textOf, noIteration, iteration, loopOf, loopsOf, frameOf, PlacedLoop}

@@ -1,16 +1,16 @@
 -- Texts in places of 200 bytes each. Assumes nothing.
 use mathlib.Core.Path.{_≡_, refl, sym, ap, ap₂, _∙_}
 use mathlib.Core.List.{List, [], _∷_}
-use Prim.Native.Nat.{ℕ, zero, suc, _+_, _-_, _*_, _≤_, _<_, min}
+use Prim.Native.Nat.{ℕ, zero, suc, _+_, _*_, _≤_, _<_, min}
 use native.Mathlib.Omega.{arith}
 use borrow.Author.Count.{below-more}
 use lib.ListN.{length, getD, set, take, drop, length-drop}
 use lib.Seq.{paste, take-paste, take-length, drop-drop, set-getD, getD-set-same, getD-set-other, ext-getD}
 use Rattle.model.specs.Text.{Bytes, part}
+use Rattle.model.proofs.Text.{part-long}
 use Rattle.buffer.proofs.Pasted.{pasted-long, take-paste-before, drop-paste-before, drop-paste-past}
 use Rattle.call.specs.Call.{slots}
 use Rattle.call.specs.Params.{Inside, Copies, Within, piecesAt, CopiesAll}
-use Rattle.call.proofs.Parts.{part-long}
 
 pub slots-get : (ns : List ℕ) (s : Bytes) (i : ℕ) → i < length ns → getD (slots ns s) i [] ≡ take (min (getD ns i 0) 200) (drop (200 * i) s)
 unfolding slots

@@ -18,9 +18,9 @@ use Rattle.build.proofs.Callers.{builds-sound, builds-finish, builds-halts}
 use Rattle.write.specs.Output.{Extends}
 use Rattle.finish.specs.declared.Turn.the-variants.{Halts}
 use Rattle.finish.specs.declared.Carried.{Carried}
-use Rattle.finish.specs.Carried.{cameTo, Comes, Ready, Finishes}
+use Rattle.finish.specs.Carried.{cameTo, Comes}
 use Rattle.finish.proofs.Coming.{comes-as, came}
-use Rattle.carry.specs.Carries.{Carries}
+use Rattle.carry.specs.Carries.{Ready, Finishes, Carries}
 
 -- what comes of the state after building comes of the state before it
 comes-from : {m : Marks} {text : Bytes} {p : Step} {s t : State} {o : Bytes} {r : Carried} {o′ memory memory′ : Bytes} → Keeps s memory t → Comes m text p t o r o′ memory′ → Comes m text p s o r o′ memory′

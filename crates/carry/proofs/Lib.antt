@@ -1,2 +1,3 @@
 -- The laws of a code line.
+pub mod Endings
 pub mod Carrying

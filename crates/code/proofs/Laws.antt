@@ -2,17 +2,15 @@
 use mathlib.Core.Path.{_≡_, refl, ap, _∙_}
 use mathlib.Core.Bool.{Bool, true, false, not, _&&_, _||_, cond}
 use mathlib.Core.List.{[], _∷_}
-use Prim.Native.Nat.{ℕ, suc, _+_, _-_, _≤_, _<_}
-use native.Mathlib.Numerals.{add-one}
-use native.Mathlib.Omega.{arith}
+use Prim.Native.Nat.{ℕ, _+_, _-_, _≤_, _<_}
 use borrow.Author.Tests.{le-leb, lt-leb, eq-eqb, ne-eqb}
 use lib.Dec.{eqb, leb}
 use lib.ListN.{length, getD}
-use lib.Seq.{drop-cons}
 use Rattle.model.specs.Text.{Bytes, part, isDigit}
 use Rattle.model.specs.Code as Code
 use Rattle.model.specs.declared.Marks.{Marks}
 use Rattle.model.specs.declared.Comparison.the-variants.{Equal, Unequal, Less, Greater}
+use Rattle.model.proofs.Text.{part-empty, part-first}
 use Rattle.code.specs.declared.Ending.{Ending}
 use Rattle.code.specs.declared.Token.{Token}
 use Rattle.code.specs.declared.Token.the-variants.{Ends}
@@ -21,23 +19,11 @@ use Rattle.code.specs.Tokens.{endingOf, Ranged, Says, Forms}
 -- what `search` is handed where a function goes by the tests of its definition
 pub ruleset chain = (le-leb, lt-leb, eq-eqb, ne-eqb)
 
--- the part up to a place is empty, or starts with the byte there
-pub part-none : (text : Bytes) (at to : ℕ) → to ≤ at → part text at to ≡ []
-part-none text at to h =
-    let e : to - at ≡ 0 = omega arith in
-    rw e refl
-
-pub part-first : (text : Bytes) (at to : ℕ) → at < to → to ≤ length text → part text at to ≡ getD text at 0 ∷ part text (at + 1) to
-part-first text at to h k =
-    let e : to - at ≡ suc (to - (at + 1)) = omega arith in
-    let l : at < length text = omega arith in
-    rw (e, add-one, drop-cons text at 0) refl
-
 -- ---- what is read from a place on, from what its first byte or its end gives
 
 module _ {text : Bytes} {at to : ℕ} where
   pub says-none : (f : Bytes → Code.Ending) {r : Ending} → to ≤ at → f [] ≡ endingOf text to r → Ranged at to r → Says text at to (f (part text at to)) r
-  says-none f h e g = record { is = ap f (part-none text at to h) ∙ e; ranged = g }
+  says-none f h e g = record { is = ap f (part-empty text at to h) ∙ e; ranged = g }
 
   pub says-first : (f : Bytes → Code.Ending) {k : Code.Ending} {r : Ending} → at < to → to ≤ length text → f (getD text at 0 ∷ part text (at + 1) to) ≡ k
       → k ≡ endingOf text to r → Ranged at to r → Says text at to (f (part text at to)) r
@@ -53,7 +39,7 @@ module _ {text : Bytes} {at to : ℕ} where
   forms-ends s = record { is = ap Code.ends (s .is); ranged = s .ranged }
 
   pub forms-none : (f : Bytes → Code.Form) {g : Code.Form} {r : Token} → to ≤ at → f [] ≡ g → Forms text at to g r → Forms text at to (f (part text at to)) r
-  forms-none f h e s = forms-as (ap f (part-none text at to h) ∙ e) s
+  forms-none f h e s = forms-as (ap f (part-empty text at to h) ∙ e) s
 
   pub forms-first : (f : Bytes → Code.Form) {g h : Code.Form} {r : Token} → at < to → to ≤ length text → f (getD text at 0 ∷ part text (at + 1) to) ≡ g → g ≡ h
       → Forms text at to h r → Forms text at to (f (part text at to)) r

@@ -4,32 +4,22 @@ use mathlib.Core.Bool.{Bool, true, false}
 use mathlib.Core.List.{[], _∷_}
 use Prim.Native.Nat.{ℕ, _+_, _-_, _≤_, _<_}
 use native.Mathlib.Omega.{arith}
-use native.Mathlib.Nat.{min-le-left}
 use borrow.Author.Tests.{eq-eqb, ne-eqb}
 use lib.Dec.{eqb}
-use lib.ListN.{length, getD, drop, length-take}
+use lib.ListN.{length, getD}
 use Rattle.model.specs.Text.{Bytes, part}
 use Rattle.model.specs.Code as Code
 use Rattle.model.specs.declared.Marks.{Marks}
 use Rattle.model.specs.declared.Effect.{Effect}
+use Rattle.model.proofs.Choices.{when-true, when-false}
+use Rattle.model.proofs.Text.{part-most, part-empty, part-first}
 use Rattle.code.specs.declared.Part.{Part}
-use Rattle.code.specs.declared.Part.the-variants.{Byte, Serial, Convert}
+use Rattle.code.specs.declared.Part.the-variants.{Byte}
 use Rattle.code.specs.declared.Ending.{Ending}
 use Rattle.code.specs.declared.Ending.the-variants.{Offer, Assign, Iterate, Stop, Write, Layout, Save, Skip, SkipText, SkipValue, Repeat, Again, Leave, Malformed}
 use Rattle.code.specs.declared.Token.{Token}
 use Rattle.code.specs.declared.Token.the-variants.{Ends, Has}
-use Rattle.code.specs.Tokens.{endingOf, partOf, tokenCode, Parameter, Conversion, Channel, Ranged, RangedPart, RangedToken, Forms, Reads, Finishes, Affects}
-use Rattle.code.proofs.Laws.{part-none, part-first}
-
-part-length : (text : Bytes) (at to : ℕ) → length (part text at to) ≤ to - at
-part-length text at to = simp length-take (omega (arith, min-le-left (to - at) (length (drop at text))))
-
--- a definition that goes by a test, where the test's value is known
-pub when-true : {A : Type 0} {q : Bool} (x y : A) → q ≡ true → elim q as (λ _. A) [ true ↦ x | false ↦ y ] ≡ x
-when-true {A} x y e = subst (λ (b : Bool). elim b as (λ _. A) [ true ↦ x | false ↦ y ] ≡ x) (sym e) refl
-
-pub when-false : {A : Type 0} {q : Bool} (x y : A) → q ≡ false → elim q as (λ _. A) [ true ↦ x | false ↦ y ] ≡ y
-when-false {A} x y e = subst (λ (b : Bool). elim b as (λ _. A) [ true ↦ x | false ↦ y ] ≡ y) (sym e) refl
+use Rattle.code.specs.Tokens.{endingOf, partOf, tokenCode, Ranged, RangedPart, RangedToken, Forms, Reads, Finishes, Affects}
 
 -- ---- one token
 
@@ -82,7 +72,7 @@ three text at to h k =
 module _ {m : Marks} {text : Bytes} {at to : ℕ} {first : Bool} where
   pub token-end : to ≤ at → Reads m text at to first (Ends Offer)
   unfolding Code.parse
-  token-end h = record { is = ap (λ s. Code.parse m first s) (part-none text at to h); ranged = tt }
+  token-end h = record { is = ap (λ s. Code.parse m first s) (part-empty text at to h); ranged = tt }
 
   pub token-byte : at < to → to ≤ length text → (getD text at 0 ≡ m .escape → ⊥) → Reads m text at to first (Has (Byte (getD text at 0)) (at + 1))
   token-byte h k n =
@@ -94,7 +84,7 @@ module _ {m : Marks} {text : Bytes} {at to : ℕ} {first : Bool} where
   pub token-short : at < to → to ≤ length text → getD text at 0 ≡ m .escape → to - at < 3 → Reads m text at to first (Ends Malformed)
   token-short h k e l =
       record {
-        is = ap (λ s. Code.parse m first s) (part-first text at to h k) ∙ parse-short m first _ _ (eq-eqb _ _ e) (omega (arith, part-length text (at + 1) to));
+        is = ap (λ s. Code.parse m first s) (part-first text at to h k) ∙ parse-short m first _ _ (eq-eqb _ _ e) (omega (arith, part-most text (at + 1) to));
         ranged = tt;
       }
 
@@ -115,12 +105,6 @@ module _ {m : Marks} {text : Bytes} {at to : ℕ} {first : Bool} where
 
 -- ---- what callers take from a token
 
-indexed : {d : ℕ} → Parameter d → d - 1 < 9
-indexed p =
-    let l = p .least in
-    let h = p .most in
-    omega arith
-
 module _ {m : Marks} {text : Bytes} {at to : ℕ} {first : Bool} {r : Token} (s : Reads m text at to first r) where
   has-ranged : {p : Part} {e : ℕ} → r ≡ Has p e → RangedPart p × ((at < e) × (e ≤ to))
   has-ranged q = subst (λ (x : Token). RangedToken at to x) q (s .ranged)
@@ -140,65 +124,6 @@ module _ {m : Marks} {text : Bytes} {at to : ℕ} {first : Bool} {r : Token} (s 
       let h = has-after q in
       let k = has-within q in
       omega arith
-
-  pub has-serial : {p : Part} {e k : ℕ} → r ≡ Has p e → p ≡ Serial k → k ≤ 9
-  has-serial q o = subst RangedPart o (has-ranged q .0)
-
-  -- a conversion's parameter, as a number from 1 to 9 and as an index of nine
-  pub has-parameter : {p : Part} {e d k : ℕ} → r ≡ Has p e → p ≡ Convert d k → Parameter d
-  has-parameter q o = subst RangedPart o (has-ranged q .0) .0
-
-  pub has-least : {p : Part} {e d k : ℕ} → r ≡ Has p e → p ≡ Convert d k → 1 ≤ d
-  has-least q o = has-parameter q o .least
-
-  pub has-most : {p : Part} {e d k : ℕ} → r ≡ Has p e → p ≡ Convert d k → d ≤ 9
-  has-most q o = has-parameter q o .most
-
-  pub has-index : {p : Part} {e d k : ℕ} → r ≡ Has p e → p ≡ Convert d k → d - 1 < 9
-  has-index q o = indexed (has-parameter q o)
-
-  pub has-conversion : {p : Part} {e d k : ℕ} → r ≡ Has p e → p ≡ Convert d k → Conversion k
-  has-conversion q o = subst RangedPart o (has-ranged q .0) .1
-
-  pub assign-parameter : {k : Ending} {d : ℕ} → r ≡ Ends k → k ≡ Assign d → Parameter d
-  assign-parameter q o = subst (λ (x : Ending). Ranged at to x) o (ends-ranged q)
-
-  pub assign-least : {k : Ending} {d : ℕ} → r ≡ Ends k → k ≡ Assign d → 1 ≤ d
-  assign-least q o = assign-parameter q o .least
-
-  pub assign-most : {k : Ending} {d : ℕ} → r ≡ Ends k → k ≡ Assign d → d ≤ 9
-  assign-most q o = assign-parameter q o .most
-
-  pub assign-index : {k : Ending} {d : ℕ} → r ≡ Ends k → k ≡ Assign d → d - 1 < 9
-  assign-index q o = indexed (assign-parameter q o)
-
-  ends-iterate : {k : Ending} {d p : ℕ} → r ≡ Ends k → k ≡ Iterate d p → Parameter d × ((at ≤ p) × (p ≤ to))
-  ends-iterate q o = subst (λ (x : Ending). Ranged at to x) o (ends-ranged q)
-
-  pub iterate-parameter : {k : Ending} {d p : ℕ} → r ≡ Ends k → k ≡ Iterate d p → Parameter d
-  iterate-parameter q o = ends-iterate q o .0
-
-  pub iterate-least : {k : Ending} {d p : ℕ} → r ≡ Ends k → k ≡ Iterate d p → 1 ≤ d
-  iterate-least q o = iterate-parameter q o .least
-
-  pub iterate-most : {k : Ending} {d p : ℕ} → r ≡ Ends k → k ≡ Iterate d p → d ≤ 9
-  iterate-most q o = iterate-parameter q o .most
-
-  pub iterate-index : {k : Ending} {d p : ℕ} → r ≡ Ends k → k ≡ Iterate d p → d - 1 < 9
-  iterate-index q o = indexed (iterate-parameter q o)
-
-  -- where an iteration's delimiters start
-  pub iterate-from : {k : Ending} {d p : ℕ} → r ≡ Ends k → k ≡ Iterate d p → at ≤ p
-  iterate-from q o = ends-iterate q o .1 .0
-
-  pub iterate-within : {k : Ending} {d p : ℕ} → r ≡ Ends k → k ≡ Iterate d p → p ≤ to
-  iterate-within q o = ends-iterate q o .1 .1
-
-  pub ends-write : {k : Ending} {ch : ℕ} → r ≡ Ends k → k ≡ Write ch → Channel ch
-  ends-write q o = subst (λ (x : Ending). Ranged at to x) o (ends-ranged q)
-
-  pub ends-layout : {k : Ending} {ch : ℕ} → r ≡ Ends k → k ≡ Layout ch → Channel ch
-  ends-layout q o = subst (λ (x : Ending). Ranged at to x) o (ends-ranged q)
 
   -- what the line says: what the token does, and the rest
   pub says-ends : {k : Ending} → r ≡ Ends k → Code.parse m first (part text at to) ≡ Code.only (endingOf text to k)

@@ -76,6 +76,7 @@ fn read_channel(first: bool, text: &[u8], at: usize, to: usize) -> Ending
     Ending::Malformed
 }
 
+// The test of F5: 0 for equal texts, 1 for unequal ones.
 fn read_text_test(text: &[u8], at: usize, to: usize) -> Ending
     requires { ⌜ (at ≤ to) × (to ≤ length (now text)) ⌝ }
     ensures { λ r. ⌜ Says (now (text .entry)) at to (textTest (part (now (text .entry)) at to)) r ⌝ }
@@ -93,6 +94,7 @@ fn read_text_test(text: &[u8], at: usize, to: usize) -> Ending
     Ending::Malformed
 }
 
+// The test of F6: 0 for equal values, 1 for unequal ones, a minus for less, a plus for greater.
 fn read_value_test(m: Marks, text: &[u8], at: usize, to: usize) -> Ending
     requires { ⌜ (at ≤ to) × (to ≤ length (now text)) ⌝ }
     ensures { λ r. ⌜ Says (now (text .entry)) at to (valueTest m (part (now (text .entry)) at to)) r ⌝ }
@@ -145,6 +147,7 @@ fn read_line_function(m: Marks, b: u8, text: &[u8], at: usize, to: usize) -> End
     Ending::Malformed
 }
 
+// The function b: F1 and F7 may stand anywhere in a line.
 fn read_function(m: Marks, first: bool, b: u8, text: &[u8], at: usize, to: usize) -> Ending
     requires { ⌜ (at ≤ to) × (to ≤ length (now text)) ⌝ }
     ensures { λ r. ⌜ Forms (now (text .entry)) at to (function m first b (part (now (text .entry)) at to)) (Token.Ends r) ⌝ }
@@ -245,6 +248,7 @@ pub fn read_ending(m: Marks, text: &[u8], at: usize, to: usize) -> Ending
     }
 }
 
+// What an ending does to the iterations around the lines after it.
 fn effect_of(k: Ending) -> Effect
     ensures { λ r. ⌜ ((text : List ℕ) (to : ℕ) → r ≡ effectOf (endingOf text to k)) ⌝ }
 {

@@ -14,7 +14,7 @@ use Rattle.model.specs.Text.{Bytes, part}
 use Rattle.model.specs.Store.{decimal}
 use Rattle.model.specs.Value.{written}
 use Rattle.model.specs.Machine.{Shared, Building, built, failed, add, addValue, addByteValue}
-use Rattle.buffer.proofs.Choices.{when-false}
+use Rattle.model.proofs.Choices.{when-false}
 use Rattle.store.specs.Memory.{Kept}
 use Rattle.number.specs.declared.Valued.{Valued}
 use Rattle.number.specs.declared.Valued.the-variants.{Number, Fault}

@@ -2,13 +2,11 @@
 use mathlib.Core.Path.{_≡_, sym, ap, _∙_, subst}
 use mathlib.Core.Bool.{Bool, true, false}
 use mathlib.Core.List.{[], _∷_, _++_, append-nil}
-use Prim.Native.Nat.{ℕ, _+_, _-_, _≤_, _<_}
+use Prim.Native.Nat.{ℕ, _+_, _≤_, _<_}
 use native.Mathlib.Omega.{arith}
-use native.Mathlib.Nat.{min-le-left}
-use borrow.Author.Tests.{le-leb, lt-ltb, le-ltb}
+use borrow.Author.Tests.{le-leb}
 use lib.IntN.{ℤ}
-use lib.ListN.{length, take, drop, length-take}
-use lib.Seq.{take-length}
+use lib.ListN.{length}
 use mir.Val.{SFits, toZ, ofZ}
 use mir.Facts.{toZ-ofZ}
 use Rattle.model.specs.declared.Marks.{Marks}
@@ -16,10 +14,12 @@ use Rattle.model.specs.Text.{Bytes, part}
 use Rattle.model.specs.Store.{decimal}
 use Rattle.model.specs.Value.{written}
 use Rattle.model.specs.Machine.{built, failed, add}
+use Rattle.model.proofs.Choices.{when-true}
+use Rattle.model.proofs.Text.{part-most, part-whole}
 use Rattle.buffer.specs.Decimal.{Decimal}
-use Rattle.buffer.proofs.Choices.{when-true, when-false}
 use Rattle.number.specs.Number.{width, Writes}
 use Rattle.pass.specs.Pass.{delimiterOf}
+use Rattle.pass.proofs.Pieces.{delimiter-none, delimiter-byte}
 use Rattle.store.specs.declared.Index.{Index}
 use Rattle.store.specs.declared.Seen.{Seen}
 use Rattle.store.specs.Memory.{held}
@@ -37,9 +37,9 @@ module _ {stored : Bool} {s memory : Bytes} {x : Index} where
 
   pub finds-own : stored ≡ false → Finds stored s memory x (record { at = 0; len = length s })
   finds-own e =
-      let z : 0 + length s - 0 ≡ length s = omega arith in
+      let z : 0 + length s ≡ length s = omega arith in
       subst (λ (b : Bool). Finds b s memory x (record { at = 0; len = length s })) (sym e)
-      (record { is = ap (λ (i : ℕ). take i s) z ∙ take-length s; within = omega arith })
+      (record { is = ap (λ (i : ℕ). part s 0 i) z ∙ part-whole s; within = omega arith })
 
 -- ---- one text for another
 
@@ -60,14 +60,13 @@ module _ {line : Bytes} {n : ℕ} {line′ : Bytes} {a : Appended} where
   appends-word f b p = appends-as (b .is ∙ f .is) p
 
   pub appends-delimiter : {d b : ℕ} → d < 256 → b ≡ d → Appends line n (b ∷ []) line′ a → Appends line n (delimiterOf d) line′ a
-  unfolding delimiterOf
-  appends-delimiter {d} {b} h e p = appends-as (ap (λ (i : ℕ). i ∷ []) e ∙ sym (when-true (d ∷ []) [] (lt-ltb d 256 h))) p
+  appends-delimiter {d} h e p = appends-as (ap (λ (i : ℕ). i ∷ []) e ∙ sym (delimiter-byte d h)) p
 
 -- no delimiter adds nothing
 pub appends-none : {line : Bytes} {n d : ℕ} → n ≤ 200 → 256 ≤ d → Appends line n (delimiterOf d) line (record { ok = true; len = n })
-unfolding delimiterOf add lineStep
+unfolding add lineStep
 appends-none {line} {n} {d} h e =
     let l : Bytes = part line 0 n in
-    let k : length l ≤ n = simp length-take (omega (arith, min-le-left (n - 0) (length (drop 0 line)))) in
-    appends-as (sym (when-false (d ∷ []) [] (le-ltb d 256 e)))
+    let k = part-most line 0 n in
+    appends-as (sym (delimiter-none d e))
     (record { is = λ w. when-true (built (l ++ []) w) (failed 12 w) (le-leb (length l + 0) 200 (omega arith)) ∙ ap (λ (x : Bytes). built x w) (append-nil l); short = h })

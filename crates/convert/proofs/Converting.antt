@@ -9,7 +9,7 @@ use Rattle.model.specs.Text.{Bytes, part}
 use Rattle.model.specs.Store.{find, decimal}
 use Rattle.model.specs.Value.{valueOf}
 use Rattle.model.specs.Machine.{Frame, Shared, Building, param, orNothing, add, addSymbol, addValue, addByteValue, addConverted}
-use Rattle.buffer.proofs.Choices.{when-false}
+use Rattle.model.proofs.Choices.{when-false}
 use Rattle.pass.specs.Pass.{delimiterOf}
 use Rattle.store.specs.Memory.{held, Kept}
 use Rattle.state.specs.declared.State.{State}

@@ -50,6 +50,7 @@ pub fn answer(a: Appended, s: State) -> Added
     }
 }
 
+// A number ends the run.
 fn stop(number: usize, s: State) -> Added
     ensures { λ r. ⌜ r ≡ stopped number s ⌝ }
 {
@@ -60,6 +61,7 @@ fn stop(number: usize, s: State) -> Added
     }
 }
 
+// One byte.
 pub fn add_byte(b: u8, line: &mut [u8], n: usize) -> Appended
     requires { ⌜ (n ≤ 200) × (length (now line) ≡ 200) ⌝ }
     ensures { λ r. ⌜ Appends (now (line .entry)) n (b ∷ []) (now (line .exit)) r ⌝ }

@@ -17,7 +17,7 @@ use Rattle.model.specs.Machine as Machine
 use Rattle.model.specs.Machine.{Frame, Shared, Step, continues, offers, skips, leaves, halts, resumeAt, carryOut, Next, running, ended, stateWith, Passed, landed, beyond, badLanding, passOver, skipFrom, skipIn, call, passThrough, offeredAs, offered, stepped, after, outcome}
 use Rattle.model.proofs.Fuel.{after-ended}
 use Rattle.model.proofs.Steps as Steps
-use Rattle.buffer.proofs.Choices.{when-true, when-false}
+use Rattle.model.proofs.Choices.{when-true, when-false}
 use Rattle.state.specs.declared.State.{State}
 use Rattle.state.specs.State.{sharedOf, stateOf, counted, withInput, withCall}
 use Rattle.matching.specs.Matches.{opened}

@@ -21,14 +21,14 @@ use Rattle.body.specs.declared.Passed.the-variants.{Landed, Beyond, Bad}
 use Rattle.body.specs.Steps.{Passes}
 use Rattle.body.proofs.Laws.{passes-landed, passes-beyond, passes-bad, landed-within}
 use Rattle.buffer.specs.Pasted.{Pasted}
-use Rattle.buffer.proofs.Choices.{when-true, when-false, false-not-true}
+use Rattle.model.proofs.Choices.{when-true, when-false, false-not-true}
 use Rattle.state.specs.declared.State.{State}
 use Rattle.state.specs.declared.Line.{Line}
 use Rattle.state.specs.State.{sharedOf, stateOf, bytesOf, Sound, withInput}
 use Rattle.call.specs.declared.Call.{Call}
 use Rattle.call.specs.Call.{frameOf}
 use Rattle.call.specs.Params.{Moves}
-use Rattle.call.proofs.Parts.{front-pasted}
+use Rattle.buffer.proofs.Pasted.{front-pasted}
 use Rattle.finish.specs.declared.Turn.{Turn}
 use Rattle.finish.specs.declared.Turn.the-variants.{Continues, Offers, Skips, Leaves, Halts}
 use Rattle.finish.specs.declared.Carried.{Carried}

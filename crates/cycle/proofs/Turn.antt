@@ -21,7 +21,8 @@ use Rattle.model.proofs.Nesting.{Passing, passing, nested-few}
 use Rattle.model.proofs.Frames.{StepOk, carryOut-nested}
 use Rattle.scan.specs.declared.CodeLine.{CodeLine}
 use Rattle.scan.specs.Lines.{CodeAt}
-use Rattle.buffer.proofs.Choices.{when-true, when-false, false-not-true}
+use Rattle.model.proofs.Choices.{when-true, when-false, false-not-true}
+use Rattle.nodes.specs.declared.Node.{Node}
 use Rattle.state.specs.declared.State.{State}
 use Rattle.state.specs.State.{sharedOf, stateOf, bytesOf, Sound, counted, withCall}
 use Rattle.call.specs.declared.Call.{Call}
@@ -29,6 +30,7 @@ use Rattle.call.specs.Call.{frameOf, Placed}
 use Rattle.call.specs.Params.{Moves}
 use Rattle.call.proofs.Loops.{frame-depth}
 use Rattle.write.specs.Output.{Extends}
+use Rattle.write.proofs.Adding.{extends-none, extends-more}
 use Rattle.finish.specs.declared.Turn.{Turn}
 use Rattle.finish.specs.declared.Turn.the-variants.{Continues, Offers, Skips, Leaves, Halts}
 use Rattle.finish.specs.declared.Carried.{Carried}
@@ -57,29 +59,6 @@ below-call h = omega arith
 
 -- ---- the states that follow one another
 
--- bytes beyond more of what is written
-beyond-more : (a b : ℕ) (o o′ : Bytes) → a ≤ b → drop a o′ ≡ drop a o → drop b o′ ≡ drop b o
-beyond-more a b o o′ h e =
-    let z : b ≡ a + (b - a) = omega arith in
-    ap (λ (n : ℕ). drop n o′) z ∙ sym (drop-drop (b - a) a o′) ∙ ap (drop (b - a)) e ∙ drop-drop (b - a) a o ∙ ap (λ (n : ℕ). drop n o) (sym z)
-
--- bytes before less of it
-before-less : (a b : ℕ) (o o′ : Bytes) → a ≤ b → take b o′ ≡ take b o → take a o′ ≡ take a o
-before-less a b o o′ h e =
-    sym (take-take a b o′ h) ∙ ap (take a) e ∙ take-take a b o h
-
-pub extends-trans : {o o₁ o₂ : Bytes} {a b c : ℕ} → Extends o a o₁ b → Extends o₁ b o₂ c → Extends o a o₂ c
-extends-trans {o} {o₁} {o₂} {a} {b} {c} g h = record {
-  front = before-less a b o₁ o₂ (g .more) (h .front) ∙ g .front;
-  rest = h .rest ∙ beyond-more b c o o₁ (h .more) (g .rest);
-  long = h .long ∙ g .long;
-  more = omega (arith, g .more, h .more);
-  fits = omega (arith, h .fits, g .long);
-}
-
-pub extends-none : {o : Bytes} {a : ℕ} → a ≤ length o → Extends o a o a
-extends-none h = record { front = refl; rest = refl; long = refl; more = omega arith; fits = h }
-
 pub follows-itself : {s : State} {o w : Bytes} → Sound s o w → Follows s o s o w
 follows-itself h = record { sound = h; at = refl; line = refl; fuel = omega arith; extends = extends-none (h .written) }
 
@@ -89,7 +68,7 @@ follows-trans g h = record {
   at = h .at ∙ g .at;
   line = h .line ∙ g .line;
   fuel = omega (arith, g .fuel, h .fuel);
-  extends = extends-trans (g .extends) (h .extends);
+  extends = extends-more (g .extends) (h .extends);
 }
 
 -- an event is counted
@@ -128,23 +107,23 @@ called-less h k e f = omega (arith, ap (λ (y : State). y .fuel) (f ∙ ap withC
 -- ---- offering a line
 
 -- no fuel is left
-pub offer-stops : {m : Marks} {text : Bytes} {rows : List (List ℕ)} {bodies : List ℕ} {l : Bytes} {depth : ℕ} {s : State} {o w : Bytes} {r : Res}
-    → Sound s o w → s .fuel ≡ 0 → r ≡ endsWith 20 s → Meets m text rows bodies (some l) [] depth s o w r o w
+pub offer-stops : {m : Marks} {text : Bytes} {row : List Node} {bodies : List ℕ} {l : Bytes} {depth : ℕ} {s : State} {o w : Bytes} {r : Res}
+    → Sound s o w → s .fuel ≡ 0 → r ≡ endsWith 20 s → Meets m text row bodies (some l) [] depth s o w r o w
 unfolding resumed
-offer-stops {m} {text} {rows} {bodies} {l} {depth} {s} {o} {w} sound spent er = subst (λ (x : Res). Meets m text rows bodies (some l) [] depth s o w x o w) (sym er)
+offer-stops {m} {text} {row} {bodies} {l} {depth} {s} {o} {w} sound spent er = subst (λ (x : Res). Meets m text row bodies (some l) [] depth s o w x o w) (sym er)
     record { follows = follows-itself sound; same = λ t b fs k. offer-spent (length o) m text t s o w spent l fs }
 
 -- the call that is opened
-pub called-open : {m : Marks} {text : Bytes} {rows : List (List ℕ)} {bodies : List ℕ} {l : Bytes} {number : ℕ} {q : Match} {s x : State} {o w : Bytes}
-    → Sound s o w → 0 < s .fuel → x ≡ counted s → Matches m rows bodies l number q → number ≡ x .calls + 1 → q .found ≡ true → Prepared m text rows bodies → Open m text (q .call)
+pub called-open : {m : Marks} {text : Bytes} {row : List Node} {bodies : List ℕ} {l : Bytes} {number : ℕ} {q : Match} {s x : State} {o w : Bytes}
+    → Sound s o w → 0 < s .fuel → x ≡ counted s → Matches m row bodies l number q → number ≡ x .calls + 1 → q .found ≡ true → Prepared m text row bodies → Open m text (q .call)
 called-open {text = text} sound some-fuel ex h at e p =
     let c = h .call e text (p .table) (p .book) in
     record { placed = c .placed (omega (arith, at, ap (λ (y : State). y .calls) ex, sound .calls, sound .total)); nested = c .nested }
 
-module _ {m : Marks} {text : Bytes} {rows : List (List ℕ)} {bodies : List ℕ} {l : Bytes} {depth number : ℕ} {s x : State} {o w : Bytes} {q : Match}
-    (sound : Sound s o w) (some-fuel : 0 < s .fuel) (ex : x ≡ counted s) (h : Matches m rows bodies l number q) where
+module _ {m : Marks} {text : Bytes} {row : List Node} {bodies : List ℕ} {l : Bytes} {depth number : ℕ} {s x : State} {o w : Bytes} {q : Match}
+    (sound : Sound s o w) (some-fuel : 0 < s .fuel) (ex : x ≡ counted s) (h : Matches m row bodies l number q) where
   -- the line has no reading
-  pub offer-writes : {r : Res} {o′ : Bytes} → q .found ≡ false → PutsLine l x o r o′ → Meets m text rows bodies (some l) [] depth s o w r o′ w
+  pub offer-writes : {r : Res} {o′ : Bytes} → q .found ≡ false → PutsLine l x o r o′ → Meets m text row bodies (some l) [] depth s o w r o′ w
   offer-writes {r} {o′} e p =
       let k : PutsLine l (counted s) o r o′ = subst (λ (y : State). PutsLine l y o r o′) ex p in
       record {
@@ -153,19 +132,19 @@ module _ {m : Marks} {text : Bytes} {rows : List (List ℕ)} {bodies : List ℕ}
       }
 
   -- it opens a thirteenth call
-  pub offer-deep : {r : Res} → q .found ≡ true → depth ≡ 12 → r ≡ endsWith 14 x → Meets m text rows bodies (some l) [] depth s o w r o w
+  pub offer-deep : {r : Res} → q .found ≡ true → depth ≡ 12 → r ≡ endsWith 14 x → Meets m text row bodies (some l) [] depth s o w r o w
   unfolding resumed
-  offer-deep e deep er = subst (λ (y : Res). Meets m text rows bodies (some l) [] depth s o w y o w) (sym (er ∙ ap (endsWith 14) ex)) record {
+  offer-deep e deep er = subst (λ (y : Res). Meets m text row bodies (some l) [] depth s o w y o w) (sym (er ∙ ap (endsWith 14) ex)) record {
     follows = counted-follows sound some-fuel;
     same = λ t b fs n. let c = h .call e text t b in too-deep (length o) m text t s o w (b .marks) some-fuel l fs (c .reading) (c .is) (le-leb 12 (length fs) (omega arith));
   }
 
   -- it opens a call
   pub offer-enters : {u : State} {r : Res} {o′ w′ : Bytes} → number ≡ x .calls + 1 → q .found ≡ true → depth ≤ 12 → ¬ (depth ≡ 12) → u ≡ withCall x
-      → Meets m text rows bodies none (frameOf m text (q .call) ∷ []) depth u o w r o′ w′ → Meets m text rows bodies (some l) [] depth s o w r o′ w′
+      → Meets m text row bodies none (frameOf m text (q .call) ∷ []) depth u o w r o′ w′ → Meets m text row bodies (some l) [] depth s o w r o′ w′
   offer-enters {u} {r} {o′} {w′} at e few shallow eu p =
-      let k : Meets m text rows bodies none (frameOf m text (q .call) ∷ []) depth (withCall (counted s)) o w r o′ w′ =
-      subst (λ (y : State). Meets m text rows bodies none (frameOf m text (q .call) ∷ []) depth y o w r o′ w′) (eu ∙ ap withCall ex) p in
+      let k : Meets m text row bodies none (frameOf m text (q .call) ∷ []) depth (withCall (counted s)) o w r o′ w′ =
+      subst (λ (y : State). Meets m text row bodies none (frameOf m text (q .call) ∷ []) depth y o w r o′ w′) (eu ∙ ap withCall ex) p in
       record {
         follows = follows-trans (called-follows sound some-fuel) (k .follows);
         same = λ t b fs n.
@@ -243,9 +222,9 @@ module _ {m : Marks} {text : Bytes} {c c₁ : Call} {line : CodeLine} (is-open :
     carried-open : goesOn (q .turn) ≡ true → Open m text (q .call)
     carried-open e = record { placed = came .placed; nested = nested-after m text q o₁ w₁ step-nested e }
 
-    module _ {rows : List (List ℕ)} {bodies : List ℕ} {depth : ℕ} {a : Advanced} where
+    module _ {row : List Node} {bodies : List ℕ} {depth : ℕ} {a : Advanced} where
       -- it offers nothing
-      pub advance-takes : isOffer (q .turn) ≡ false → TakesTurn m text q a → Advances m text rows bodies c depth s o w a o₁ w₁
+      pub advance-takes : isOffer (q .turn) ≡ false → TakesTurn m text q a → Advances m text row bodies c depth s o w a o₁ w₁
       advance-takes e k = record {
         follows = subst (λ (y : State). Follows s o y o₁ w₁) (sym (k .state)) carried-follows;
         less = omega (arith, ap (λ (y : State). y .fuel) (k .state), carried-less);
@@ -254,8 +233,8 @@ module _ {m : Marks} {text : Bytes} {c c₁ : Call} {line : CodeLine} (is-open :
       }
 
       -- the line that it builds is offered
-      pub advance-offers : {r : Res} {o₂ w₂ : Bytes} → isOffer (q .turn) ≡ true → Meets m text rows bodies (some (bytesOf (q .line))) [] (depth + 1) (q .state) o₁ w₁ r o₂ w₂
-          → Lands m text (q .call) r a → Advances m text rows bodies c depth s o w a o₂ w₂
+      pub advance-offers : {r : Res} {o₂ w₂ : Bytes} → isOffer (q .turn) ≡ true → Meets m text row bodies (some (bytesOf (q .line))) [] (depth + 1) (q .state) o₁ w₁ r o₂ w₂
+          → Lands m text (q .call) r a → Advances m text row bodies c depth s o w a o₂ w₂
       unfolding stepped stateWith
       advance-offers {r} {o₂} {w₂} e p k =
           let z : q .turn ≡ Offers = offer-turn (q .turn) e in
@@ -273,41 +252,41 @@ module _ {m : Marks} {text : Bytes} {c c₁ : Call} {line : CodeLine} (is-open :
 -- ---- a body
 
 -- what the expansion comes to from the call c₀ on, it comes to from the call c on
-pub record Running (m : Marks) (text : Bytes) (rows : List (List ℕ)) (bodies : List ℕ) (depth : ℕ) (c₀ : Call) (s₀ : State) (o₀ w₀ : Bytes) (c : Call) (s : State) (o w : Bytes) : Type 0 where
+pub record Running (m : Marks) (text : Bytes) (row : List Node) (bodies : List ℕ) (depth : ℕ) (c₀ : Call) (s₀ : State) (o₀ w₀ : Bytes) (c : Call) (s : State) (o w : Bytes) : Type 0 where
   pub follows : Follows s₀ o₀ s o w
   pub is-open : Open m text c
-  pub same : (t : Loaded) → Book m text rows bodies t → (fs : List Frame) → length fs ≡ depth
+  pub same : (t : Loaded) → Book m text row bodies t → (fs : List Frame) → length fs ≡ depth
       → comesTo (s₀ .fuel) (length o₀) t (running (stateOf text none (frameOf m text c₀ ∷ fs) s₀ o₀ w₀)) ≡ comesTo (s .fuel) (length o₀) t (running (stateOf text none (frameOf m text c ∷ fs) s o w))
 
-pub running-starts : {m : Marks} {text : Bytes} {rows : List (List ℕ)} {bodies : List ℕ} {depth : ℕ} {c : Call} {s : State} {o w : Bytes}
-    → Sound s o w → Open m text c → Running m text rows bodies depth c s o w c s o w
+pub running-starts : {m : Marks} {text : Bytes} {row : List Node} {bodies : List ℕ} {depth : ℕ} {c : Call} {s : State} {o w : Bytes}
+    → Sound s o w → Open m text c → Running m text row bodies depth c s o w c s o w
 running-starts sound is-open = record { follows = follows-itself sound; is-open = is-open; same = λ t b fs n. refl }
 
-module _ {m : Marks} {text : Bytes} {rows : List (List ℕ)} {bodies : List ℕ} {depth : ℕ} {c₀ : Call} {s₀ : State} {o₀ w₀ : Bytes} {c : Call} {s : State} {o w : Bytes}
-    (i : Running m text rows bodies depth c₀ s₀ o₀ w₀ c s o w) where
+module _ {m : Marks} {text : Bytes} {row : List Node} {bodies : List ℕ} {depth : ℕ} {c₀ : Call} {s₀ : State} {o₀ w₀ : Bytes} {c : Call} {s : State} {o w : Bytes}
+    (i : Running m text row bodies depth c₀ s₀ o₀ w₀ c s o w) where
   -- no code line is left
-  pub body-closes : {line : CodeLine} {r : Res} → CodeAt m text (c .next) line → line .there ≡ false → r ≡ goesBack 0 s → Meets m text rows bodies none (frameOf m text c₀ ∷ []) depth s₀ o₀ w₀ r o w
-  body-closes code e er = subst (λ (x : Res). Meets m text rows bodies none (frameOf m text c₀ ∷ []) depth s₀ o₀ w₀ x o w) (sym er)
+  pub body-closes : {line : CodeLine} {r : Res} → CodeAt m text (c .next) line → line .there ≡ false → r ≡ goesBack 0 s → Meets m text row bodies none (frameOf m text c₀ ∷ []) depth s₀ o₀ w₀ r o w
+  body-closes code e er = subst (λ (x : Res). Meets m text row bodies none (frameOf m text c₀ ∷ []) depth s₀ o₀ w₀ x o w) (sym er)
       record { follows = i .follows; same = λ t b fs n. i .same t b fs n ∙ closes (length o₀) m text t s o w (frameOf m text c) fs (code .ended e) }
 
   -- no fuel is left
-  pub body-stops : {line : CodeLine} {r : Res} → CodeAt m text (c .next) line → line .there ≡ true → s .fuel ≡ 0 → r ≡ endsWith 20 s → Meets m text rows bodies none (frameOf m text c₀ ∷ []) depth s₀ o₀ w₀ r o w
+  pub body-stops : {line : CodeLine} {r : Res} → CodeAt m text (c .next) line → line .there ≡ true → s .fuel ≡ 0 → r ≡ endsWith 20 s → Meets m text row bodies none (frameOf m text c₀ ∷ []) depth s₀ o₀ w₀ r o w
   unfolding resumed
-  body-stops {line} code e spent er = subst (λ (x : Res). Meets m text rows bodies none (frameOf m text c₀ ∷ []) depth s₀ o₀ w₀ x o w) (sym er)
+  body-stops {line} code e spent er = subst (λ (x : Res). Meets m text row bodies none (frameOf m text c₀ ∷ []) depth s₀ o₀ w₀ x o w) (sym er)
       record { follows = i .follows; same = λ t b fs n. i .same t b fs n ∙ code-spent (length o₀) m text t s o w spent (frameOf m text c) fs (part text (c .next) (line .end)) (bodyAt m text (line .next)) (code .more e) }
 
-  module _ {a : Advanced} {o′ w′ : Bytes} (h : Advances m text rows bodies c depth s o w a o′ w′) where
-    advanced-same : (t : Loaded) → Book m text rows bodies t → (fs : List Frame) → length fs ≡ depth
+  module _ {a : Advanced} {o′ w′ : Bytes} (h : Advances m text row bodies c depth s o w a o′ w′) where
+    advanced-same : (t : Loaded) → Book m text row bodies t → (fs : List Frame) → length fs ≡ depth
         → comesTo (s₀ .fuel) (length o₀) t (running (stateOf text none (frameOf m text c₀ ∷ fs) s₀ o₀ w₀)) ≡ continued (length o₀) m text t fs a o′ w′
     advanced-same t b fs n = i .same t b fs n
         ∙ subst (λ (room : ℕ). comesTo (s .fuel) room t (running (stateOf text none (frameOf m text c ∷ fs) s o w)) ≡ continued room m text t fs a o′ w′) (i .follows .extends .long) (h .same t b fs n)
 
     -- the call is left, or the run has ended
-    pub body-left : a .left ≡ true → Meets m text rows bodies none (frameOf m text c₀ ∷ []) depth s₀ o₀ w₀ (a .res) o′ w′
+    pub body-left : a .left ≡ true → Meets m text row bodies none (frameOf m text c₀ ∷ []) depth s₀ o₀ w₀ (a .res) o′ w′
     unfolding continued
     body-left e = record { follows = follows-trans (i .follows) (h .follows); same = λ t b fs n. advanced-same t b fs n ∙ when-true _ _ e }
 
     -- the call goes on
-    pub running-on : a .left ≡ false → Running m text rows bodies depth c₀ s₀ o₀ w₀ (a .call) (a .res .state) o′ w′
+    pub running-on : a .left ≡ false → Running m text row bodies depth c₀ s₀ o₀ w₀ (a .call) (a .res .state) o′ w′
     unfolding continued
     running-on e = record { follows = follows-trans (i .follows) (h .follows); is-open = h .stays e; same = λ t b fs n. advanced-same t b fs n ∙ when-false _ _ e }

@@ -10,6 +10,7 @@ use Rattle.model.specs.Text.{Bytes, part, lines}
 use Rattle.model.specs.Load.{Loaded}
 use Rattle.model.specs.Machine.{Frame, running, stepped, passThrough}
 use Rattle.model.specs.Sizes.{Nested}
+use Rattle.nodes.specs.declared.Node.{Node}
 use Rattle.state.specs.declared.State.{State}
 use Rattle.state.specs.declared.Line.{Line}
 use Rattle.state.specs.State.{Sound, stateOf, bytesOf, withInput}
@@ -36,10 +37,10 @@ pub record Follows (s : State) (output : Bytes) (s′ : State) (output′ memory
 -- ---- the members of the cycle. They hold for every loaded text that the nodes and bodies are of, and for all callers
 
 -- r is what the expansion comes to, with a line that is perhaps to be offered, and the calls `own` above its callers, of whom there are `depth`
-pub record Meets (m : Marks) (text : Bytes) (rows : List (List ℕ)) (bodies : List ℕ) (pending : Option Bytes) (own : List Frame) (depth : ℕ)
+pub record Meets (m : Marks) (text : Bytes) (row : List Node) (bodies : List ℕ) (pending : Option Bytes) (own : List Frame) (depth : ℕ)
     (s : State) (output memory : Bytes) (r : Res) (output′ memory′ : Bytes) : Type 0 where
   pub follows : Follows s output (r .state) output′ memory′
-  pub same : (t : Loaded) → Book m text rows bodies t → (fs : List Frame) → length fs ≡ depth
+  pub same : (t : Loaded) → Book m text row bodies t → (fs : List Frame) → length fs ≡ depth
       → comesTo (s .fuel) (length output) t (running (stateOf text pending (own ++ fs) s output memory)) ≡ resumed (length output) m text t fs r output′ memory′
 
 -- what is asked of an open call
@@ -48,12 +49,12 @@ pub record Open (m : Marks) (text : Bytes) (c : Call) : Type 0 where
   pub nested : Nested m (frameOf m text c)
 
 -- a is what the next code line of the call c comes to
-pub record Advances (m : Marks) (text : Bytes) (rows : List (List ℕ)) (bodies : List ℕ) (c : Call) (depth : ℕ)
+pub record Advances (m : Marks) (text : Bytes) (row : List Node) (bodies : List ℕ) (c : Call) (depth : ℕ)
     (s : State) (output memory : Bytes) (a : Advanced) (output′ memory′ : Bytes) : Type 0 where
   pub follows : Follows s output (a .res .state) output′ memory′
   pub less : a .res .state .fuel < s .fuel
   pub stays : a .left ≡ false → Open m text (a .call)
-  pub same : (t : Loaded) → Book m text rows bodies t → (fs : List Frame) → length fs ≡ depth
+  pub same : (t : Loaded) → Book m text row bodies t → (fs : List Frame) → length fs ≡ depth
       → comesTo (s .fuel) (length output) t (running (stateOf text none (frameOf m text c ∷ fs) s output memory)) ≡ continued (length output) m text t fs a output′ memory′
 
 -- ---- leaves
@@ -112,8 +113,8 @@ pub record Drops (text : Bytes) (n : ℕ) (s s′ : State) : Type 0 where
 -- ---- the whole run
 
 -- r is the expansion's result
-pub record Expands (m : Marks) (text : Bytes) (rows : List (List ℕ)) (bodies : List ℕ) (s : State) (output memory : Bytes) (r : Res) (output′ memory′ : Bytes) : Type 0 where
+pub record Expands (m : Marks) (text : Bytes) (row : List Node) (bodies : List ℕ) (s : State) (output memory : Bytes) (r : Res) (output′ memory′ : Bytes) : Type 0 where
   pub sound : Sound (r .state) output′ memory′
   pub extends : Extends output (s .written) output′ (r .state .written)
-  pub same : (t : Loaded) → Book m text rows bodies t
+  pub same : (t : Loaded) → Book m text row bodies t
       → comesTo (s .fuel) (length output) t (running (stateOf text none [] s output memory)) ≡ resultOf r output′ memory′

@@ -16,6 +16,7 @@ use call::Call;
 use finish::Carried;
 use finish::Turn;
 use model::Marks;
+use nodes::Node;
 use scan::CodeLine;
 use state::Line;
 use state::State;
@@ -98,9 +99,10 @@ fn land(m: Marks, text: &[u8], call: Call, r: Res) -> Advanced
 }
 
 // Whether a code line has built a line to be offered.
-fn is_offer(turn: Turn) -> bool
-    ensures { λ r. ⌜ r ≡ isOffer turn ⌝ }
+fn is_offer(q: Carried) -> bool
+    ensures { λ r. ⌜ r ≡ isOffer (q .turn) ⌝ }
 {
+    let turn = q.turn;
     match turn {
         Turn::Continues => false,
         Turn::Offers => true,
@@ -144,7 +146,7 @@ fn put_line(output: &mut [u8], line: Line, s: State) -> Res
 fn offer(
     m: Marks,
     text: &[u8],
-    nodes: &[[u16; 6]],
+    nodes: &[Node],
     bodies: &[usize],
     output: &mut [u8],
     memory: &mut [u8],
@@ -175,7 +177,7 @@ fn offer(
 fn body(
     m: Marks,
     text: &[u8],
-    nodes: &[[u16; 6]],
+    nodes: &[Node],
     bodies: &[usize],
     output: &mut [u8],
     memory: &mut [u8],
@@ -210,7 +212,7 @@ fn body(
 fn advance(
     m: Marks,
     text: &[u8],
-    nodes: &[[u16; 6]],
+    nodes: &[Node],
     bodies: &[usize],
     output: &mut [u8],
     memory: &mut [u8],
@@ -219,8 +221,7 @@ fn advance(
     depth: usize,
     s: State,
 ) -> Advanced
-    requires { ⌜ Prepared m (now text) (now nodes) (now bodies) × Sound s (now output) (now memory) × Open m (now text) call × (depth < 12) × (0 < s .fuel) ⌝ }
-    requires { ⌜ CodeAt m (now text) (call .next) line × (line .there ≡ true) ⌝ }
+    requires { ⌜ Prepared m (now text) (now nodes) (now bodies) × Sound s (now output) (now memory) × Open m (now text) call × (depth < 12) × (0 < s .fuel) × CodeAt m (now text) (call .next) line × (line .there ≡ true) ⌝ }
     ensures { λ a. ⌜ Advances m (now (text .entry)) (now (nodes .entry)) (now (bodies .entry)) call depth s (now (output .entry)) (now (memory .entry)) a (now (output .exit)) (now (memory .exit)) ⌝ }
 {
     let at = call.next;
@@ -229,8 +230,7 @@ fn advance(
     let moved = call::move_to(call, next);
     let counted = state::count_event(s);
     let q = carry::carry(m, text, at, end, moved, output, memory, counted);
-    let turn = q.turn;
-    if is_offer(turn) {
+    if is_offer(q) {
         let built = q.line;
         let t = q.state;
         let c = q.call;
@@ -277,7 +277,7 @@ fn drop_lines(text: &[u8], n: usize, s: State) -> State
 pub fn expand(
     m: Marks,
     text: &[u8],
-    nodes: &[[u16; 6]],
+    nodes: &[Node],
     bodies: &[usize],
     output: &mut [u8],
     memory: &mut [u8],

@@ -16,10 +16,9 @@ fn print_end(r: Ran) {
 
 // Expands a text with all the fuel there is.
 fn expand_text(text: &[u8]) {
-    let mut nodes = [[0u16; 6]; 2048];
     let mut output = [0u8; 65536];
     let mut store = [0u8; 8704];
-    let r = run::run(text, 1000000, &mut nodes, &mut output, &mut store);
+    let r = own_row::run(text, 1000000, &mut output, &mut store);
     let n = r.output as usize;
     io::write_all(STDOUT_FILENO, &output[0..n]);
     print_end(r);

@@ -1,20 +1,20 @@
 -- What an answer comes to. Assumes nothing.
 use mathlib.Core.Path.{_≡_, refl, sym, ap, subst, _∙_}
 use mathlib.Core.Bool.{Bool, true, false}
-use Prim.Native.Nat.{ℕ, _<_}
+use Prim.Native.Nat.{ℕ}
 use native.Mathlib.Omega.{arith}
 use Rattle.model.specs.declared.Marks.{Marks}
 use Rattle.model.specs.Text.{Bytes, part}
 use Rattle.model.specs.Machine.{Shared, Step, continues, halts}
+use Rattle.model.proofs.Text.{part-front}
 use Rattle.state.specs.declared.State.{State}
 use Rattle.state.specs.declared.Line.{Line}
 use Rattle.state.specs.State.{bytesOf, sharedOf, Sound}
 use Rattle.call.specs.declared.Call.{Call}
 use Rattle.call.specs.Call.{frameOf, Placed}
-use Rattle.call.proofs.Parts.{part-front}
 use Rattle.write.proofs.Adding.{extends-none}
 use Rattle.finish.specs.declared.Turn.{Turn}
-use Rattle.finish.specs.declared.Turn.the-variants.{Skips, Halts}
+use Rattle.finish.specs.declared.Turn.the-variants.{Halts}
 use Rattle.finish.specs.declared.Carried.{Carried}
 use Rattle.finish.specs.Carried.{noLine, cameTo, turnAfter, turned, Few, Stays, Comes}
 
@@ -60,10 +60,6 @@ after-halts {b} {k} e = ap (λ (q : Bool). turnAfter q k) (sym e)
 pub after-few : (b : Bool) (k : ℕ) → Few (turnAfter b k)
 after-few true k = tt
 after-few false k = tt
-
--- a skip of an answer fits a value
-pub skip-few : {m : Marks} {text : Bytes} {p : Step} {s : State} {o : Bytes} {r : Carried} {o′ memory′ : Bytes} {n : ℕ} → Comes m text p s o r o′ memory′ → r .turn ≡ Skips n → n < 2147483648
-skip-few h e = subst Few e (h .few)
 
 -- the bytes of a line by value
 pub line-part : (l : Line) → part (l .bytes) 0 (l .len) ≡ bytesOf l

@@ -2,6 +2,4 @@
 pub mod Coming
 pub mod Lines
 pub mod Storing
-pub mod Skipping
 pub mod Iterating
-pub mod Endings

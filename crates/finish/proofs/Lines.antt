@@ -9,7 +9,7 @@ use lib.ListN.{length}
 use Rattle.model.specs.declared.Marks.{Marks}
 use Rattle.model.specs.Text.{Bytes, part}
 use Rattle.model.specs.Machine.{Frame, Step, writeTo, writeLayout}
-use Rattle.buffer.proofs.Choices.{when-true, when-false}
+use Rattle.model.proofs.Choices.{when-true, when-false}
 use Rattle.scan.specs.declared.CodeLine.{CodeLine}
 use Rattle.scan.specs.Lines.{CodeAt}
 use Rattle.state.specs.declared.State.{State}

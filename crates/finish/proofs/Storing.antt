@@ -7,8 +7,8 @@ use Rattle.model.specs.declared.Marks.{Marks}
 use Rattle.model.specs.Text.{Bytes, part}
 use Rattle.model.specs.Store.{Store, put, within}
 use Rattle.model.specs.Machine.{continues, param, withStore, saveText}
+use Rattle.model.proofs.Choices.{when-true, when-false}
 use Rattle.model.proofs.Sizes.{put-grows}
-use Rattle.buffer.proofs.Choices.{when-true, when-false}
 use Rattle.store.specs.declared.Index.{Index}
 use Rattle.store.specs.declared.Stored.{Stored}
 use Rattle.store.specs.declared.Stored.the-variants.{Now, Full}

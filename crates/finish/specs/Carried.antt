@@ -2,15 +2,10 @@
 use mathlib.Core.Path.{_≡_}
 use mathlib.Core.Bool.{Bool, true, false}
 use Prim.Native.Nat.{ℕ, _≤_, _<_}
-use lib.IntN.{ℤ, pos, negsuc}
-use lib.ListN.{length, replicate}
+use lib.ListN.{replicate}
 use Rattle.model.specs.declared.Marks.{Marks}
-use Rattle.model.specs.declared.Effect.the-variants.{Opens}
 use Rattle.model.specs.Text.{Bytes}
-use Rattle.model.specs.Code.{effectOf}
-use Rattle.model.specs.Machine.{Shared, Step, continues, offers, skips, leaves, halts, finish}
-use Rattle.code.specs.declared.Ending.{Ending}
-use Rattle.code.specs.Tokens.{endingOf, Ranged}
+use Rattle.model.specs.Machine.{Shared, Step, continues, offers, skips, leaves, halts}
 use Rattle.state.specs.declared.State.{State}
 use Rattle.state.specs.declared.Line.{Line}
 use Rattle.state.specs.State.{bytesOf, sharedOf, Sound}
@@ -20,8 +15,6 @@ use Rattle.write.specs.Output.{Extends}
 use Rattle.finish.specs.declared.Turn.{Turn}
 use Rattle.finish.specs.declared.Turn.the-variants.{Continues, Offers, Skips, Leaves, Halts}
 use Rattle.finish.specs.declared.Carried.{Carried}
-
--- ---- answers
 
 -- no line
 abbrev pub noLine : Line
@@ -35,11 +28,6 @@ cameTo t c s = record { turn = t; call = c; line = noLine; state = s }
 abbrev pub turnAfter : Bool → ℕ → Turn
 turnAfter true k = Continues
 turnAfter false k = Halts k
-
--- a skip by a value: 18 where it is negative
-abbrev pub turnBy : ℤ → Turn
-turnBy (pos n) = Skips n
-turnBy (negsuc n) = Halts 18
 
 -- what a turn stands for, with the call and the line of its answer
 abbrev pub turned : Marks → Bytes → Turn → Call → Line → Shared → Step
@@ -78,16 +66,3 @@ pub record Comes (m : Marks) (text : Bytes) (p : Step) (s : State) (o : Bytes) (
   pub few : Few (r .turn)
   pub stays : Stays s (r .state)
   pub extends : Extends o (s .written) o′ (r .state .written)
-
--- ---- the end of a code line
-
--- what was read of a code line's end, and the line built: an iteration is opened only where it may be
-pub record Ready (text : Bytes) (to : ℕ) (c : Call) (k : Ending) (line : Line) : Type 0 where
-  pub from : ℕ
-  pub ranged : Ranged from to k
-  pub within : to ≤ length text
-  pub depth : effectOf (endingOf text to k) ≡ Opens → c .depth < 4
-  pub short : line .len ≤ 200
-
-pub record Finishes (m : Marks) (text : Bytes) (to : ℕ) (c : Call) (k : Ending) (line : Line) (s : State) (o memory : Bytes) (r : Carried) (o′ memory′ : Bytes) : Type 0 where
-  pub comes : Comes m text (finish (length o) m (endingOf text to k) (bytesOf line) (frameOf m text c) (sharedOf s o memory)) s o r o′ memory′

@@ -13,7 +13,7 @@ use Rattle.model.specs.Text.{Bytes}
 use Rattle.model.specs.Reading.{atom}
 use Rattle.model.specs.Fitting.{Balanced, empty}
 use Rattle.model.specs.Parts.{Elem, lit, hole, stop, Part, byte, piece, text, Good, elements, Earlier, end-piece, byte-piece, less-piece, later}
-use Rattle.model.proofs.Chosen.{clash}
+use Rattle.model.proofs.Choices.{false-not-true}
 use Rattle.atom.proofs.Rows.{none-some, Atom, atom-sound, Headed, atom-complete}
 use Rattle.nodes.specs.Templates.{walk}
 use Rattle.nodes.proofs.Templates.{onward-inv}
@@ -152,7 +152,7 @@ module _ (m : Marks) (kid : ℕ → Elem → ℕ) (holey : ℕ → Bool) where
 
   -- only at a placeholder's node is a piece open
   no-atom : (F : Bytes → Option Found) (t : Bool) (s : Bytes) (f : Found) → t ≡ false → byAtom m F t s ≡ some f → f .rest ≡ []
-  no-atom F true s f e h = clash (sym e)
+  no-atom F true s f e h = false-not-true (sym e)
   no-atom F false s f e h = none-some h
 
   -- where no piece is open, none is found open
@@ -195,7 +195,7 @@ module _ (m : Marks) (kid : ℕ → Elem → ℕ) (holey : ℕ → Bool) (at-lit
   is-atom i s a t g e h (j, w, k, x) = (
     j,
     w,
-    record { rest-balanced = h .then-balanced (g .rest) (k .rest-balanced); only-hole = λ z. clash (sym z ∙ e); good = k .good; leads = k .leads },
+    record { rest-balanced = h .then-balanced (g .rest) (k .rest-balanced); only-hole = λ z. false-not-true (sym z ∙ e); good = k .good; leads = k .leads },
     append-assoc a (g .rest) (text (g .parts)) ∙ ap (λ (l : Bytes). a ++ l) x ∙ sym (h .joined),
   )
 
@@ -272,7 +272,7 @@ module _ (m : Marks) (differ : ¬ (m .left ≡ m .right)) (kid : ℕ → Elem �
       let l = falls i hole c k in
       let t = at-hole i c k in
       rw k (lift-piece (search m kid holey n (suc c) (p ++ text r)) p r
-      (ih (suc c) p r j (omega arith) (record { rest-balanced = h .good .0; only-hole = λ e. clash (sym e ∙ t); good = h .good .1; leads = w })))
+      (ih (suc c) p r j (omega arith) (record { rest-balanced = h .good .0; only-hole = λ e. false-not-true (sym e ∙ t); good = h .good .1; leads = w })))
 
   -- by an atom more
   atom-finds : (n i : ℕ) (q : Bytes) (r : List Part) (j : ℕ) (t : Bool) → holey i ≡ t → Complete n → rank i + length (q ++ text r) < suc n → ReadsFrom m kid holey i q r j → Headed m q
@@ -284,7 +284,7 @@ module _ (m : Marks) (differ : ¬ (m .left ≡ m .right)) (kid : ℕ → Elem �
   atom-finds n i q r j true e ih lt h d =
       let u = text r in
       let g = ih i (d .tail) r j (omega (arith, d .some-byte, ap length (d .joined), length-append (d .head) (d .tail), length-append q u, length-append (d .tail) u))
-      (record { rest-balanced = d .balanced; only-hole = λ k. clash (sym k ∙ e); good = h .good; leads = h .leads }) in
+      (record { rest-balanced = d .balanced; only-hole = λ k. false-not-true (sym k ∙ e); good = h .good; leads = h .leads }) in
       let w = lift-atom (d .head) (search m kid holey n i (d .tail ++ u)) (d .tail) r g in
       rw (d .is-atom u) (subst (λ (l : Bytes). Finds (withAtom (d .head) (search m kid holey n i (d .tail ++ u))) l r) (sym (d .joined)) w)
 

@@ -16,6 +16,7 @@ use Rattle.model.specs.Reading.{Pieces}
 use Rattle.model.specs.Parts.{Elem, lit, hole, stop, Part, byte, piece, elems, text, elements, pieces}
 use Rattle.model.specs.Results.{startsOf, nine}
 use Rattle.model.proofs.Chosen.{Tested, alike, apart, tested}
+use Rattle.nodes.specs.declared.Node.{Node}
 use Rattle.nodes.specs.Rows.{kid, holes, Tree}
 use Rattle.nodes.specs.Templates.{walk}
 use Rattle.nodes.proofs.Rows.{kid-child, holes-lit, holes-hole}
@@ -138,7 +139,7 @@ module _ (m : Marks) where
 
 -- ---- how many pieces
 
-module _ (rows : List (List ℕ)) (tree : Tree rows) where
+module _ (rows : List Node) (tree : Tree rows) where
   -- a node has as many placeholders as the reading that leads there has pieces
   holes-pieces : (r : List Part) (i j : ℕ) → walk (kid rows) i (elements r) ≡ suc j → holes rows (suc j) ≡ holes rows i + length (pieces r)
   holes-pieces [] i j w =

@@ -1,11 +1,13 @@
 // The first reading of a line by the templates (document 01, "Fitting a line"): a recursive search over node and position.
 ghost use mathlib.Core.Path.{_≡_};
 ghost use Prim.Native.Nat.{_+_, _≤_, _<_, _^_};
-ghost use lib.ListN.{length};
-ghost use Rattle.nodes.specs.Rows.{Tree};
-ghost use Rattle.fit.specs.Outcome.{blank, storePiece, passAtom, Searched};
-ghost use Rattle.fit.specs.Chosen.{Chooses};
+ghost use lib.ListN.{length, take};
+ghost use Rattle.atom.specs.Atoms.{AtomAt};
+ghost use Rattle.nodes.specs.Rows.{code};
+ghost use Rattle.fit.specs.Outcome.{blank, storePiece, passAtom, elementAt, Asks, SearchedIn, ByteSearched, PieceSearched, AtomSearched};
+ghost use Rattle.fit.specs.Chosen.{noChoice, choiceOf, Chooses};
 use model::Marks;
+use nodes::Node;
 
 // What a search finds: the node of the template's end, 0 where there is none; the length of what is left of the piece
 // that is open where the search starts; and where each piece that is opened later starts, and its length.
@@ -51,42 +53,92 @@ fn pass_atom(o: Outcome, n: usize) -> Outcome
     r
 }
 
-// The first reading from the node and the place `at` on. The node's height and what is left of the line fall at each call.
-pub fn search(m: Marks, nodes: &[[u16; 6]], line: &[u8], node: usize, at: usize) -> Outcome
-    requires { ⌜ Tree (now nodes) × (node < length (now nodes)) × (at ≤ length (now line)) ⌝ }
-    ensures { λ r. ⌜ Searched m (now (nodes .entry)) (now (line .entry)) node at r ⌝ }
+// The element that leads on at a place of the first `end` bytes of a line: the byte's, or the template's end.
+fn element_at(line: &[u8], end: usize, at: usize) -> u16
+    requires { ⌜ (at ≤ end) × (end ≤ length (now line)) ⌝ }
+    ensures { λ r. ⌜ r ≡ code (elementAt (take end (now (line .entry))) at) ⌝ }
 {
-    if at < line.len() {
-        let c = nodes::child(nodes, node, nodes::literal(line[at]));
-        if c != 0 {
-            let next = search(m, nodes, line, c, at + 1);
-            if next.node != 0 {
-                return next;
-            }
-        }
-    } else {
-        let c = nodes::child(nodes, node, 0);
-        if c != 0 {
-            return no_piece(c);
-        }
+    if at < end {
+        return nodes::literal(line[at]);
     }
-    let h = nodes::child(nodes, node, 1);
-    if h != 0 {
-        let piece = search(m, nodes, line, h, at);
-        if piece.node != 0 {
-            return store_piece(piece, nodes::holes_of(nodes, node), at);
-        }
+    0
+}
+
+// Past the atom at a place of the first `end` bytes of a line, or 0 where there is none.
+fn next_atom(m: Marks, line: &[u8], end: usize, at: usize) -> usize
+    requires { ⌜ (at ≤ end) × (end ≤ length (now line)) ⌝ }
+    ensures { λ r. ⌜ AtomAt m (take end (now (line .entry))) at r ⌝ }
+{
+    atom::next_atom(&line[0..end], at, m)
+}
+
+// The first reading from the node and the place `at` on, in the first `end` bytes of the line: by the next byte or the template's
+// end, else by a placeholder, else by an atom more. The node's height and what is left of the line fall from search to search.
+fn search(m: Marks, nodes: &[Node], line: &[u8], end: usize, node: usize, at: usize) -> Outcome
+    requires { ⌜ Asks (now nodes) (now line) end node at ⌝ }
+    ensures { λ r. ⌜ SearchedIn m (now (nodes .entry)) (take end (now (line .entry))) node at r ⌝ }
+{
+    let byte = search_byte(m, nodes, line, end, node, at);
+    if byte.node != 0 {
+        return byte;
     }
-    if nodes::element_of(nodes, node) == 1 {
-        let e = atom::next_atom(line, at, m);
-        if e != 0 {
-            let longer = search(m, nodes, line, node, e);
-            if longer.node != 0 {
-                return pass_atom(longer, e - at);
-            }
-        }
+    let piece = search_piece(m, nodes, line, end, node, at);
+    if piece.node != 0 {
+        return piece;
     }
-    no_piece(0)
+    search_atom(m, nodes, line, end, node, at)
+}
+
+// To the child for the next byte, or for the template's end.
+fn search_byte(m: Marks, nodes: &[Node], line: &[u8], end: usize, node: usize, at: usize) -> Outcome
+    requires { ⌜ Asks (now nodes) (now line) end node at ⌝ }
+    ensures { λ r. ⌜ ByteSearched m (now (nodes .entry)) (take end (now (line .entry))) node at r ⌝ }
+{
+    let c = nodes::child(nodes, node, element_at(line, end, at));
+    if c == 0 {
+        return no_piece(0);
+    }
+    if at == end {
+        return no_piece(c);
+    }
+    search(m, nodes, line, end, c, at + 1)
+}
+
+// To the placeholder's child, where a piece starts.
+fn search_piece(
+    m: Marks,
+    nodes: &[Node],
+    line: &[u8],
+    end: usize,
+    node: usize,
+    at: usize,
+) -> Outcome
+    requires { ⌜ Asks (now nodes) (now line) end node at ⌝ }
+    ensures { λ r. ⌜ PieceSearched m (now (nodes .entry)) (take end (now (line .entry))) node at r ⌝ }
+{
+    let c = nodes::child(nodes, node, 1);
+    if c == 0 {
+        return no_piece(0);
+    }
+    let piece = search(m, nodes, line, end, c, at);
+    let n = nodes::node_at(nodes, node);
+    store_piece(piece, nodes::holes_of(n), at)
+}
+
+// An atom more in the open piece, if the node is a placeholder's.
+fn search_atom(m: Marks, nodes: &[Node], line: &[u8], end: usize, node: usize, at: usize) -> Outcome
+    requires { ⌜ Asks (now nodes) (now line) end node at ⌝ }
+    ensures { λ r. ⌜ AtomSearched m (now (nodes .entry)) (take end (now (line .entry))) node at r ⌝ }
+{
+    if !nodes::has_element(nodes::node_at(nodes, node), 1) {
+        return no_piece(0);
+    }
+    let e = next_atom(m, line, end, at);
+    if e == 0 {
+        return no_piece(0);
+    }
+    let longer = search(m, nodes, line, end, node, e);
+    pass_atom(longer, e - at)
 }
 
 // What a line is: a call of a template, with where each piece starts and its length, or no call.
@@ -97,28 +149,42 @@ pub struct Choice {
     pub lens: [usize; 9],
 }
 
-// The first of all readings of the line by the templates of the tree.
-pub fn first_reading(m: Marks, nodes: &[[u16; 6]], line: &[u8]) -> Choice
-    requires { ⌜ Tree (now nodes) × (0 < length (now nodes)) ⌝ }
-    ensures { λ r. ⌜ Chooses m (now (nodes .entry)) (now (line .entry)) r ⌝ }
+// No call.
+fn no_choice() -> Choice
+    ensures { λ r. ⌜ r ≡ noChoice ⌝ }
 {
-    let r = search(m, nodes, line, 0, 0);
-    let j = r.node;
-    if j == 0 {
-        return Choice {
-            found: false,
-            template: 0,
-            starts: [0; 9],
-            lens: [0; 9],
-        };
+    Choice {
+        found: false,
+        template: 0,
+        starts: [0; 9],
+        lens: [0; 9],
     }
-    let template = nodes::template_of(nodes, j);
-    let starts = r.starts;
-    let lens = r.lens;
+}
+
+// The call of a template.
+fn make_choice(o: Outcome, template: usize) -> Choice
+    ensures { λ r. ⌜ r ≡ choiceOf o template ⌝ }
+{
+    let starts = o.starts;
+    let lens = o.lens;
     Choice {
         found: true,
         template,
         starts,
         lens,
     }
+}
+
+// The first of all readings of the first `end` bytes of a line by the templates of the tree.
+pub fn first_reading(m: Marks, nodes: &[Node], line: &[u8], end: usize) -> Choice
+    requires { ⌜ Asks (now nodes) (now line) end 0 0 ⌝ }
+    ensures { λ r. ⌜ Chooses m (now (nodes .entry)) (take end (now (line .entry))) r ⌝ }
+{
+    let found = search(m, nodes, line, end, 0, 0);
+    let j = found.node;
+    if j == 0 {
+        return no_choice();
+    }
+    let n = nodes::node_at(nodes, j);
+    make_choice(found, nodes::template_of(n))
 }

@@ -37,8 +37,7 @@ fn print_unreadable(name: &[u8]) {
 }
 
 fn fit_one(text: &[u8], line: &[u8]) {
-    let mut nodes = [[0u16; 6]; 2048];
-    print_row(stage2::fit(text, &mut nodes, line));
+    print_row(own_row::fit(text, line));
 }
 
 // The next byte of a line of which n are read: byte 10 ends it. A line that is too long for the buffer keeps its beginning.

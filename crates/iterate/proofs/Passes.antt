@@ -5,12 +5,12 @@ use mathlib.Core.Option.{Option}
 use mathlib.Core.List.{List, [], _∷_}
 use Prim.Native.Nat.{ℕ, suc, _+_, _-_, _*_, _≤_, _<_}
 use native.Mathlib.Omega.{arith}
-use lib.ListN.{length, take, drop, length-take, length-drop}
-use lib.Seq.{take-all, length-take-le}
+use lib.ListN.{length, drop, length-take, length-drop}
 use Rattle.model.specs.declared.Marks.{Marks}
 use Rattle.model.specs.Text.{Bytes, part}
 use Rattle.model.specs.Load.{bodyAt}
-use Rattle.model.specs.Machine.{Loop, byPieces, byCount, Frame, Shared, continues, halts, param, withParam, resumeAt, Piece, passOf, takePass, nextPass, endPass}
+use Rattle.model.specs.Machine.{Loop, byPieces, byCount, Frame, Shared, continues, param, withParam, resumeAt, Piece, passOf, takePass, nextPass, endPass}
+use Rattle.model.proofs.Text.{part-length, part-most, part-rest, part-empty}
 use Rattle.pass.specs.declared.Taken.{Taken}
 use Rattle.pass.specs.Pass.{delimiterOf, Takes}
 use Rattle.pass.proofs.Pieces.{piece-taken, piece-lacking}
@@ -58,10 +58,8 @@ module _ {m : Marks} {text : Bytes} {c : Call} {i : ℕ} {x : Iteration} {line :
       → SetsPass c i x (part line 0 (t .end)) (t .delimiter) (part line (t .rest) (length line)) r → Passes m text c i x line (record { ok = true; call = r })
   unfolding takePass passStep
   pass-goes-on {r} e p q s =
-      let rest : part line (t .rest) (length line) ≡ drop (t .rest) line =
-      take-all (length line - t .rest) (drop (t .rest) line) (omega (arith, length-drop (t .rest) line)) in
       let frame : frameOf m text r ≡ passed m text c i x (part line 0 (t .end)) (delimiterOf (t .delimiter)) (drop (t .rest) line) =
-      s .frame m text ∙ ap (λ (l : Bytes). passed m text c i x (part line 0 (t .end)) (delimiterOf (t .delimiter)) l) rest in
+      s .frame m text ∙ ap (λ (l : Bytes). passed m text c i x (part line 0 (t .end)) (delimiterOf (t .delimiter)) l) (part-rest line (t .rest)) in
       record {
         step = λ w.
             ap (λ (o : Option Piece). takePass (x .param) o (part text (x .list) (x .end)) (textOf (x .old)) (bodyAt m text (x .after)) (loopsOf m text (c .iterations) i) (frameOf m text c) w)
@@ -73,10 +71,8 @@ module _ {m : Marks} {text : Bytes} {c : Call} {i : ℕ} {x : Iteration} {line :
 -- what set_pass asks
 pub piece-short : {m : Marks} {line list : Bytes} {t : Taken} → Takes m line 0 list t → length line ≤ 200 → (length (part line 0 (t .end)) ≤ 200) × (length (part line (t .rest) (length line)) ≤ 200)
 piece-short {m} {line} {list} {t} k h =
-    let a = length-take (t .end - 0) line in
-    let b = length-take (length line - t .rest) (drop (t .rest) line) in
-    let d = length-drop (t .rest) line in
-    (omega arith, omega arith)
+    let a = part-rest line (t .rest) in
+    (omega (arith, length-take (t .end - 0) line), omega (arith, ap (λ (s : Bytes). length s) a, length-drop (t .rest) line))
 
 -- ---- start_pass
 
@@ -117,7 +113,7 @@ module _ {c : Call} {i : ℕ} {x : Iteration} {r : Call} where
 -- ---- end_piece
 
 pub measured-short : {h : Held} {n : ℕ} → Measures h n → length (part (h .bytes) 0 n) ≤ 200
-measured-short {h} {n} k = let s = k .short in omega (arith, length-take (n - 0) (h .bytes))
+measured-short {h} {n} k = omega (arith, k .short, part-most (h .bytes) 0 n)
 
 next-some : (m : Marks) (d : ℕ) (s ds old : Bytes) (after : List Bytes) (ls : List Loop) (f : Frame) (w : Shared) → 0 < length s → nextPass m d s ds old after ls f w ≡ takePass d (passOf m ds s) ds old after ls f w
 unfolding nextPass
@@ -127,8 +123,7 @@ next-some m d (b ∷ s) ds old after ls f w h = refl
 module _ {m : Marks} {text : Bytes} {c : Call} {i : ℕ} {x : Iteration} where
   pub piece-goes-on : {n : ℕ} {r : Passing} → Measures (x .rest) n → 0 < n → Passes m text c i x (part (x .rest .bytes) 0 n) r → EndsPiece m text c i x r
   piece-goes-on {n} {r} k h p =
-      let s = k .within in
-      let z : length (textOf (x .rest)) ≡ n - 0 = ap (λ (s : Bytes). length s) (sym (k .is)) ∙ length-take-le (n - 0) (x .rest .bytes) (omega arith) in
+      let z : length (textOf (x .rest)) ≡ n - 0 = ap (λ (s : Bytes). length s) (sym (k .is)) ∙ part-length (x .rest .bytes) 0 n (k .within) in
       record {
         step = λ w.
             next-some m (x .param) (textOf (x .rest)) (part text (x .list) (x .end)) (textOf (x .old)) (bodyAt m text (x .after)) (loopsOf m text (c .iterations) i) (frameOf m text c) w (omega arith)
@@ -141,8 +136,7 @@ module _ {m : Marks} {text : Bytes} {c : Call} {i : ℕ} {x : Iteration} where
       → EndsPiece m text c i x (record { ok = true; call = r })
   unfolding nextPass passStep resumeAt withParam
   piece-ends {n} {k} {a} {r} s h p o v t =
-      let z : n - 0 ≡ 0 = omega arith in
-      let empty : textOf (x .rest) ≡ [] = sym (s .is) ∙ ap (λ (j : ℕ). take j (x .rest .bytes)) z in
+      let empty : textOf (x .rest) ≡ [] = sym (s .is) ∙ part-empty (x .rest .bytes) 0 n h in
       let frame : frameOf m text r ≡ resumeAt (withParam (frameOf m text c) (x .param) (textOf (x .old))) (loopsOf m text (c .iterations) i) (frameOf m text c .next) =
       t .frame m text ∙ ap (λ (f : Frame). withParam f (x .param) (part (x .old .bytes) 0 k)) (o .frame m text)
       ∙ ap (λ (s : Bytes). withParam (resumeAt (frameOf m text c) (loopsOf m text (c .iterations) i) (frameOf m text c .next)) (x .param) s) (v .is) in
@@ -188,13 +182,3 @@ module _ {m : Marks} {text : Bytes} {c : Call} (p : Placed text c) where
             ∙ q .step w;
         placed = q .placed;
       }
-
--- ---- what a caller learns by the flag
-
-pub pass-continues : (m : Marks) (text : Bytes) (r : Passing) (w : Shared) → r .ok ≡ true → passStep m text r w ≡ continues (frameOf m text (r .call)) w
-unfolding passStep
-pass-continues m text r w e = rw (e, passStep) refl
-
-pub pass-halts : (m : Marks) (text : Bytes) (r : Passing) (w : Shared) → r .ok ≡ false → passStep m text r w ≡ halts 17 w
-unfolding passStep
-pass-halts m text r w e = rw (e, passStep) refl

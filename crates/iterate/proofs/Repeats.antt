@@ -15,7 +15,7 @@ use mir.Facts.{toZ-ofZ}
 use Rattle.model.specs.declared.Marks.{Marks}
 use Rattle.model.specs.Text.{Bytes}
 use Rattle.model.specs.Machine.{Loop, Frame, Shared, continues, param, resumeAt, startRepeat}
-use Rattle.buffer.proofs.Choices.{false-not-true}
+use Rattle.model.proofs.Choices.{false-not-true}
 use Rattle.body.specs.Steps.{Leaves}
 use Rattle.call.specs.declared.Held.{Held}
 use Rattle.call.specs.declared.Call.{Call}

@@ -14,24 +14,16 @@ use Rattle.model.specs.declared.Effect.the-variants.{Malformed, Plain, Opens, C
 use Rattle.model.specs.Text.{Bytes, part, startsWith, upTo}
 use Rattle.model.specs.Load as Load
 use Rattle.model.specs.Load.{effectHere, unmatched, openAfter, isOwner, lowest, unless, codeLine, endLine, lineSeen}
-use Rattle.model.proofs.Chosen.{clash}
+use Rattle.model.proofs.Choices.{false-not-true, when-true, when-false}
+use Rattle.model.proofs.Text.{part-drop}
 use Rattle.scan.specs.Lines.{Found, Begins}
-use Rattle.scan.proofs.Lines.{part-drop}
 use Rattle.scan.proofs.Places.{found-length, begins-inside}
 use Rattle.code.specs.Tokens.{Affects}
 use Rattle.load.specs.declared.Nested.{Nested}
 use Rattle.load.specs.declared.Progress.{Progress}
 use Rattle.load.specs.declared.Step.the-variants.{Fault, More, Ends}
 use Rattle.load.specs.Table.{Table, macrosOf}
-use Rattle.load.specs.Lines.{progressOf, BodyLine, BodySeen, EffectHere, Nests}
-
--- ---- a definition by cases on a test whose answer is known
-
-pub when-true : {A : Type 0} {b : Bool} (x y : A) → b ≡ true → _≡_ {A = A} (elim b [ true ↦ x | false ↦ y ]) x
-when-true x y e = rw e
-
-pub when-false : {A : Type 0} {b : Bool} (x y : A) → b ≡ false → _≡_ {A = A} (elim b [ true ↦ x | false ↦ y ]) y
-when-false x y e = rw e
+use Rattle.load.specs.Lines.{standing, progressOf, BodyLine, BodySeen, EffectHere, Nests}
 
 -- ---- effect_here
 
@@ -45,37 +37,40 @@ effect-code e h = record { is = rw (e, effectHere) (h .is) }
 
 -- ---- nest
 
-nests-as : (d : Effect) {e : Effect} {n : ℕ} {r : Nested} → e ≡ d → Nests d n r → Nests e n r
-nests-as d e h = rw e h
+nests-as : (d : Effect) {e : Effect} {n : ℕ} {r x : Nested} → e ≡ d → r ≡ x → Nests d n x → Nests e n r
+nests-as d q z h = rw (q, z) h
 
 module _ {e : Effect} {n : ℕ} where
+  -- out of its place
   pub nests-malformed : e ≡ Malformed → Nests e n (record { wrong = true; opened = n; due = false })
   unfolding unmatched openAfter isOwner
-  nests-malformed q = nests-as Malformed q (record { wrong = refl; opened = λ _. refl; due = refl })
-
-  pub nests-plain : e ≡ Plain → Nests e n (record { wrong = false; opened = n; due = false })
-  unfolding unmatched openAfter isOwner
-  nests-plain q = nests-as Plain q (record { wrong = refl; opened = λ _. refl; due = refl })
+  nests-malformed q = nests-as Malformed q refl (record { wrong = refl; opened = λ _. refl; due = refl })
 
   pub nests-deep : e ≡ Opens → 4 ≤ n → Nests e n (record { wrong = true; opened = n; due = false })
   unfolding unmatched openAfter isOwner
-  nests-deep q h = nests-as Opens q (record { wrong = sym (le-leb 4 n h); opened = λ f. clash (sym f); due = refl })
-
-  pub nests-opens : e ≡ Opens → n < 4 → Nests e n (record { wrong = false; opened = n + 1; due = false })
-  unfolding unmatched openAfter isOwner
-  nests-opens q h = nests-as Opens q (record { wrong = sym (lt-leb 4 n h); opened = λ _. add-one n; due = refl })
+  nests-deep q h = nests-as Opens q refl (record { wrong = sym (le-leb 4 n h); opened = λ f. false-not-true (sym f); due = refl })
 
   pub nests-none : e ≡ Closes → n ≡ 0 → Nests e n (record { wrong = true; opened = n; due = false })
   unfolding unmatched openAfter isOwner
-  nests-none q h = nests-as Closes q (record { wrong = sym (eq-eqb n 0 h); opened = λ _. omega arith; due = refl })
+  nests-none q h = nests-as Closes q refl (record { wrong = sym (eq-eqb n 0 h); opened = λ _. omega arith; due = refl })
 
-  pub nests-closes : e ≡ Closes → ¬ (n ≡ 0) → Nests e n (record { wrong = false; opened = n - 1; due = false })
-  unfolding unmatched openAfter isOwner
-  nests-closes q h = nests-as Closes q (record { wrong = sym (ne-eqb n 0 h); opened = λ _. refl; due = refl })
+  -- in its place
+  module _ {r : Nested} where
+    pub nests-plain : e ≡ Plain → r ≡ standing n false → Nests e n r
+    unfolding unmatched openAfter isOwner
+    nests-plain q z = nests-as Plain q z (record { wrong = refl; opened = λ _. refl; due = refl })
 
-  pub nests-owns : e ≡ Owns → Nests e n (record { wrong = false; opened = n; due = true })
-  unfolding unmatched openAfter isOwner
-  nests-owns q = nests-as Owns q (record { wrong = refl; opened = λ _. refl; due = refl })
+    pub nests-opens : e ≡ Opens → n < 4 → r ≡ standing (n + 1) false → Nests e n r
+    unfolding unmatched openAfter isOwner
+    nests-opens q h z = nests-as Opens q z (record { wrong = sym (lt-leb 4 n h); opened = λ _. add-one n; due = refl })
+
+    pub nests-closes : e ≡ Closes → ¬ (n ≡ 0) → r ≡ standing (n - 1) false → Nests e n r
+    unfolding unmatched openAfter isOwner
+    nests-closes q h z = nests-as Closes q z (record { wrong = sym (ne-eqb n 0 h); opened = λ _. refl; due = refl })
+
+    pub nests-owns : e ≡ Owns → r ≡ standing n true → Nests e n r
+    unfolding unmatched openAfter isOwner
+    nests-owns q z = nests-as Owns q z (record { wrong = refl; opened = λ _. refl; due = refl })
 
 -- ---- a code line
 

@@ -13,6 +13,7 @@ use Rattle.model.specs.Load.{Macro, noMacro, templates, bodyAt, count, nodes, l
 use Rattle.model.specs.Fitting.{Distinct}
 use Rattle.model.specs.Legal.{Legal}
 use Rattle.model.proofs.Loading.{templates-snoc, load-legal}
+use Rattle.nodes.specs.declared.Node.{Node}
 use Rattle.tree.specs.Table.{content, table}
 use Rattle.tree.specs.Count.{beginnings}
 use Rattle.tree.specs.Built.{Ready}
@@ -71,9 +72,9 @@ module _ (m : Marks) (text : Bytes) (t : Table) (k start len number body : ℕ) 
 -- ---- for callers of load
 
 -- the templates that are loaded are ready for their tree, in a row of 2,048 nodes or more
-pub loads-ready : {text starts lens numbers bodies : List ℕ} {r : Loading} {rows : List (List ℕ)} → Loads (load text) text (tableOf starts lens numbers bodies) r → r .number ≡ 0
-    → 2048 ≤ length rows → length rows < 65536 → Ready (r .marks .placeholder) (table text starts lens (r .count)) rows
-loads-ready {text} {starts} {lens} {numbers} {bodies} {r} {rows} h e a b =
+pub loads-ready : {text starts lens numbers bodies : List ℕ} {r : Loading} {rows : List Node} → Loads (load text) text (tableOf starts lens numbers bodies) r → r .number ≡ 0
+    → 2048 ≤ length rows → Ready (r .marks .placeholder) (table text starts lens (r .count)) rows
+loads-ready {text} {starts} {lens} {numbers} {bodies} {r} {rows} h e a =
     let ms : List Macro = macrosOf (r .marks) text (tableOf starts lens numbers bodies) (r .count) in
     let t : templates ms ≡ table text starts lens (r .count) = macros-templates (r .marks) text (tableOf starts lens numbers bodies) (r .count) in
     let l : Legal (r .marks) ms = load-legal text (loadedOf text (tableOf starts lens numbers bodies) r) (h .loads e) .1 in
@@ -83,5 +84,5 @@ loads-ready {text} {starts} {lens} {numbers} {bodies} {r} {rows} h e a b =
       short = λ k. subst (λ (ts : List Bytes). length (getD ts k []) ≤ 200) t (l .short k);
       nine = λ k. subst (λ (ts : List Bytes). count (r .marks .placeholder) (getD ts k []) ≤ 9) t (l .nine k);
       room = omega (arith, l .tree);
-      small = b;
+      small = omega (arith, l .tree);
     }

@@ -13,10 +13,11 @@ use lib.Seq.{getD-set-same, getD-set-other}
 use Rattle.model.specs.declared.Marks.{Marks}
 use Rattle.model.specs.Text.{Bytes, part, upTo, lines}
 use Rattle.model.specs.Load as Load
-use Rattle.model.specs.Load.{Macro, templates, bodyAt, bodyOf, lowest, count, met, fresh, nodes, templateFault, unless, templateLine, lineSeen}
-use Rattle.model.proofs.Loading.{nodes-snoc}
+use Rattle.model.specs.Load.{Macro, bodyAt, bodyOf, lowest, count, met, fresh, nodes, templateFault, unless, templateLine, lineSeen}
+use Rattle.model.proofs.Choices.{when-true, when-false}
+use Rattle.model.proofs.Text.{part-long, part-cons, part-empty}
+use Rattle.model.proofs.Loading.{templates-length, nodes-snoc}
 use Rattle.scan.specs.Lines.{Found, Begins}
-use Rattle.scan.proofs.Lines.{part-length, part-cons, part-empty}
 use Rattle.tree.specs.Table.{table}
 use Rattle.tree.specs.Count.{Counted}
 use Rattle.tree.proofs.Table.{one-more, table-length, entries-store}
@@ -27,7 +28,6 @@ use Rattle.load.specs.declared.Weighed.{Weighed}
 use Rattle.load.specs.Table.{Table, Room, macrosOf, Inside}
 use Rattle.load.specs.Lines.{progressOf, Sound, Counts, faultOf, Known, Weighs, BodyLine, Kept, BodySeen, Left, Sees}
 use Rattle.load.proofs.Tables.{macros-templates, put, put-macros, put-macro}
-use Rattle.load.proofs.Body.{when-true, when-false}
 
 -- ---- count_byte
 
@@ -68,17 +68,9 @@ template-tests : (m : Marks) (ms : List Macro) (c : Bytes) (long ten old full : 
 unfolding templateFault
 template-tests m ms c long ten old full p q r s = rw (p, q, r, s, templateFault)
 
-templates-length : (ms : List Macro) → length (templates ms) ≡ length ms
-unfolding templates
-templates-length [] = refl
-templates-length (x ∷ ms) = ap suc (templates-length ms)
-
 either : (a b : Bool) → b ≡ true → (a || b) ≡ true
 either true b e = refl
 either false b e = e
-
-content-length : (text : Bytes) (at len : ℕ) → at + len ≤ length text → length (part text at (at + len)) ≡ len
-content-length text at len h = part-length text at (at + len) h ∙ omega arith
 
 known-length : (text starts lens : List ℕ) (p : Progress) (ms : List Macro) → Known text starts lens p ms → length ms ≡ p .count
 known-length text starts lens p ms h = sym (templates-length ms) ∙ ap length (h .stand) ∙ table-length text starts lens (p .count)
@@ -89,12 +81,12 @@ record Small (m : Marks) (text : Bytes) (at len : ℕ) : Type 0 where
   nine : ltb 9 (count (m .placeholder) (part text at (at + len))) ≡ false
 
 small : (m : Marks) (text : Bytes) (at len holes : ℕ) → at + len ≤ length text → len ≤ 200 → Counts text at (at + len) (m .placeholder) holes → holes ≤ 9 → Small m text at len
-small m text at len holes h l c k = record { short = le-ltb 200 (length (part text at (at + len))) (omega (arith, content-length text at len h)); nine = le-ltb 9 (count (m .placeholder) (part text at (at + len))) (omega (arith, c .is)) }
+small m text at len holes h l c k = record { short = le-ltb 200 (length (part text at (at + len))) (omega (arith, part-long text at len h)); nine = le-ltb 9 (count (m .placeholder) (part text at (at + len))) (omega (arith, c .is)) }
 
 module _ (m : Marks) (text starts lens : List ℕ) (p : Progress) (at len : ℕ) where
   -- the fault is the same, whatever macros the table holds
   weighs-fault : (k : ℕ) → k < 9 → ((ms : List Macro) → Known text starts lens p ms → templateFault m ms (part text at (at + len)) ≡ some (suc k))
-      → Weighs m text starts lens p at len (record { number = suc k; nodes = 0 })
+      → Weighs m text starts lens p at len (record { fault = suc k; nodes = 0 })
   weighs-fault k h f = record {
     is = f;
     counted = λ ms q z. absurd (omega arith);
@@ -114,35 +106,35 @@ module _ (m : Marks) (text starts lens : List ℕ) (p : Progress) (at len : ℕ)
     unmet full f = template-tests m ms (part text at (at + len)) false false false full (s .short) (s .nine) (d .anew (omega arith) ms (h .stand)) f
 
 module _ {m : Marks} {text starts lens : List ℕ} {p : Progress} {at len : ℕ} where
-  pub weighs-long : at + len ≤ length text → 200 < len → Weighs m text starts lens p at len (record { number = 4; nodes = 0 })
+  pub weighs-long : at + len ≤ length text → 200 < len → Weighs m text starts lens p at len (record { fault = 4; nodes = 0 })
   unfolding lowest
   weighs-long h l =
       weighs-fault m text starts lens p at len 3 (omega arith)
-      (λ ms k. template-tests m ms (part text at (at + len)) true _ _ _ (lt-ltb 200 (length (part text at (at + len))) (omega (arith, content-length text at len h))) refl refl refl)
+      (λ ms k. template-tests m ms (part text at (at + len)) true _ _ _ (lt-ltb 200 (length (part text at (at + len))) (omega (arith, part-long text at len h))) refl refl refl)
 
-  pub weighs-ten : {holes : ℕ} → at + len ≤ length text → len ≤ 200 → Counts text at (at + len) (m .placeholder) holes → 9 < holes → Weighs m text starts lens p at len (record { number = 5; nodes = 0 })
+  pub weighs-ten : {holes : ℕ} → at + len ≤ length text → len ≤ 200 → Counts text at (at + len) (m .placeholder) holes → 9 < holes → Weighs m text starts lens p at len (record { fault = 5; nodes = 0 })
   unfolding lowest
   weighs-ten h l c k =
       weighs-fault m text starts lens p at len 4 (omega arith)
-      (λ ms q. template-tests m ms (part text at (at + len)) false true _ _ (le-ltb 200 (length (part text at (at + len))) (omega (arith, content-length text at len h)))
+      (λ ms q. template-tests m ms (part text at (at + len)) false true _ _ (le-ltb 200 (length (part text at (at + len))) (omega (arith, part-long text at len h)))
       (lt-ltb 9 (count (m .placeholder) (part text at (at + len))) (omega (arith, c .is))) refl refl)
 
   module _ {holes : ℕ} (h : at + len ≤ length text) (l : len ≤ 200) (c : Counts text at (at + len) (m .placeholder) holes) (k : holes ≤ 9)
       {new : ℕ} (d : Counted (table text starts lens (p .count)) (part text at (at + len)) new) where
-    pub weighs-met : new ≡ 0 → Weighs m text starts lens p at len (record { number = 6; nodes = 0 })
+    pub weighs-met : new ≡ 0 → Weighs m text starts lens p at len (record { fault = 6; nodes = 0 })
     unfolding lowest
     weighs-met z =
         let s = small m text at len holes h l c k in
         weighs-fault m text starts lens p at len 5 (omega arith) (λ ms q. template-tests m ms (part text at (at + len)) false false true _ (s .short) (s .nine) (d .before z ms (q .stand)) refl)
 
-    pub weighs-full : ¬ (new ≡ 0) → 128 ≤ p .count → Weighs m text starts lens p at len (record { number = 9; nodes = 0 })
+    pub weighs-full : ¬ (new ≡ 0) → 128 ≤ p .count → Weighs m text starts lens p at len (record { fault = 9; nodes = 0 })
     unfolding lowest
     weighs-full v f =
         let s = small m text at len holes h l c k in
         weighs-fault m text starts lens p at len 8 (omega arith)
         (λ ms q. unmet m text starts lens p at len s new d v ms q true (rw (le-leb 128 (length ms) (omega (arith, known-length text starts lens p ms q)))))
 
-    pub weighs-many : ¬ (new ≡ 0) → 2048 - p .nodes < new → Weighs m text starts lens p at len (record { number = 9; nodes = 0 })
+    pub weighs-many : ¬ (new ≡ 0) → 2048 - p .nodes < new → Weighs m text starts lens p at len (record { fault = 9; nodes = 0 })
     unfolding lowest
     weighs-many v f =
         let s = small m text at len holes h l c k in
@@ -150,7 +142,7 @@ module _ {m : Marks} {text starts lens : List ℕ} {p : Progress} {at len : ℕ}
         (λ ms q. unmet m text starts lens p at len s new d v ms q true
         (either (leb 128 (length ms)) (ltb 2048 (nodes ms + fresh [] (part text at (at + len)) ms)) (lt-ltb 2048 (nodes ms + fresh [] (part text at (at + len)) ms) (omega (arith, sum m text starts lens p at len s new d v ms q)))))
 
-    pub weighs-new : ¬ (new ≡ 0) → p .count < 128 → p .nodes ≤ 2048 → new ≤ 2048 - p .nodes → Weighs m text starts lens p at len (record { number = 0; nodes = p .nodes + new })
+    pub weighs-new : ¬ (new ≡ 0) → p .count < 128 → p .nodes ≤ 2048 → new ≤ 2048 - p .nodes → Weighs m text starts lens p at len (record { fault = 0; nodes = p .nodes + new })
     unfolding lowest
     weighs-new v f a b =
         let s = small m text at len holes h l c k in
@@ -186,12 +178,12 @@ module _ (m : Marks) (text : Bytes) (t : Table) (p : Progress) (n at end next st
 
   -- what the line comes to by the number of its fault
   template-line : lineSeen m (progressOf m text t p) n (part text at end) (lines (drop next text))
-      ≡ unless (faultOf (w .number)) (record { macros = macrosOf m text t (p .count) ++ (newMacro m text n at (stop - at) next ∷ []); codes = p .codes; inBody = true; opened = 0; due = false })
+      ≡ unless (faultOf (w .fault)) (record { macros = macrosOf m text t (p .count) ++ (newMacro m text n at (stop - at) next ∷ []); codes = p .codes; inBody = true; opened = 0; due = false })
   template-line =
       let z : at + (stop - at) ≡ stop = omega (arith, f .low) in
       let c : upTo (m .source) (part text at end) ≡ part text at (at + (stop - at)) = sym (f .is) ∙ ap (part text at) (sym z) in
       seen-template m (progressOf m text t p) n (part text at end) (lines (drop next text)) i
-      ∙ template-tested m (progressOf m text t p) n (part text at end) (part text at (at + (stop - at))) (lines (drop next text)) (w .number) c
+      ∙ template-tested m (progressOf m text t p) n (part text at end) (part text at (at + (stop - at))) (lines (drop next text)) (w .fault) c
       (h .is (macrosOf m text t (p .count)) known)
 
 unless-fault : (o : ℕ) (r : Load.Progress) → ¬ (o ≡ 0) → unless (faultOf o) r ≡ Load.fault o
@@ -204,9 +196,9 @@ unfolding unless
 unless-none o r e = rw e
 
 pub macro-fault : {m : Marks} {text : Bytes} {t : Table} {p : Progress} {n at end next stop : ℕ} {w : Weighed} → Sound m text t p → p .inside ≡ false → Found text at end (m .source) stop
-    → Weighs m text (t .starts) (t .lens) p at (stop - at) w → ¬ (w .number ≡ 0) → Sees m text t p n at end next t (Fault (w .number))
+    → Weighs m text (t .starts) (t .lens) p at (stop - at) w → ¬ (w .fault ≡ 0) → Sees m text t p n at end next t (Fault (w .fault))
 macro-fault {m} {text} {t} {p} {n} {at} {end} {next} {stop} {w} s i f h v = record {
-  is = template-line m text t p n at end next stop i f w s h ∙ unless-fault (w .number) _ v;
+  is = template-line m text t p n at end next stop i f w s h ∙ unless-fault (w .fault) _ v;
   left = (omega arith, h .most);
 }
 
@@ -232,12 +224,12 @@ put-next m text t k at len n next r f =
     ap (macrosOf m text (put t k at len n next)) (add-one k) ∙ (λ i. put-macros m text t k at len n next k (omega arith) i ++ (put-macro m text t k at len n next r f i ∷ []))
 
 pub macro-more : {m : Marks} {text : Bytes} {t : Table} {p : Progress} {n at end next stop : ℕ} {w : Weighed} → Sound m text t p → p .inside ≡ false → at ≤ end → end ≤ next → next ≤ length text
-    → Found text at end (m .source) stop → Weighs m text (t .starts) (t .lens) p at (stop - at) w → w .number ≡ 0
+    → Found text at end (m .source) stop → Weighs m text (t .starts) (t .lens) p at (stop - at) w → w .fault ≡ 0
     → Sees m text t p n at end next (put t (p .count) at (stop - at) n next) (More (record { count = p .count + 1; nodes = w .nodes; codes = p .codes; inside = true; opened = 0; due = false }))
 macro-more {m} {text} {t} {p} {n} {at} {end} {next} {stop} {w} s i a b d f h v =
     let e = put-next m text t (p .count) at (stop - at) n next (s .room) (h .few v) in
     record {
-      is = template-line m text t p n at end next stop i f w s h ∙ unless-none (w .number) _ v ∙ rw e;
+      is = template-line m text t p n at end next stop i f w s h ∙ unless-none (w .fault) _ v ∙ rw e;
       left = record {
         room = put-room t (p .count) at (stop - at) n next (s .room);
         inside = put-inside text t (p .count) at (stop - at) n next (s .room) (s .inside) (h .few v) (omega (arith, f .low, f .high)) (h .short v) d;
@@ -248,7 +240,7 @@ macro-more {m} {text} {t} {p} {n} {at} {end} {next} {stop} {w} s i a b d f h v =
     }
 
 -- a column of the table has room for one more
-pub macro-room : {m : Marks} {text starts lens : List ℕ} {p : Progress} {at len n : ℕ} {w : Weighed} → Weighs m text starts lens p at len w → w .number ≡ 0 → n ≡ 128 → p .count < n
+pub macro-room : {m : Marks} {text starts lens : List ℕ} {p : Progress} {at len n : ℕ} {w : Weighed} → Weighs m text starts lens p at len w → w .fault ≡ 0 → n ≡ 128 → p .count < n
 macro-room h v e = omega (arith, h .few v)
 
 -- ---- see_line

@@ -102,12 +102,12 @@ pub record Known (text starts lens : List ℕ) (p : Progress) (ms : List Macro) 
 
 -- the template text[at..at + len] is weighed, whatever macros stand in the table
 pub record Weighs (m : Marks) (text starts lens : List ℕ) (p : Progress) (at len : ℕ) (r : Weighed) : Type 0 where
-  pub is : (ms : List Macro) → Known text starts lens p ms → templateFault m ms (part text at (at + len)) ≡ faultOf (r .number)
-  pub counted : (ms : List Macro) → Known text starts lens p ms → r .number ≡ 0 → nodes ms + fresh [] (part text at (at + len)) ms ≡ r .nodes
-  pub most : r .number ≤ 9
-  pub short : r .number ≡ 0 → len ≤ 200
-  pub few : r .number ≡ 0 → p .count < 128
-  pub tree : r .number ≡ 0 → r .nodes ≤ 2048
+  pub is : (ms : List Macro) → Known text starts lens p ms → templateFault m ms (part text at (at + len)) ≡ faultOf (r .fault)
+  pub counted : (ms : List Macro) → Known text starts lens p ms → r .fault ≡ 0 → nodes ms + fresh [] (part text at (at + len)) ms ≡ r .nodes
+  pub most : r .fault ≤ 9
+  pub short : r .fault ≡ 0 → len ≤ 200
+  pub few : r .fault ≡ 0 → p .count < 128
+  pub tree : r .fault ≡ 0 → r .nodes ≤ 2048
 
 -- ---- a line of a body
 
@@ -132,6 +132,10 @@ pub record BodySeen (m : Marks) (text : Bytes) (p : Progress) (at end : ℕ) (r 
 -- the effect of the content text[at..end] of a code line or a layout
 pub record EffectHere (m : Marks) (text : Bytes) (due : Bool) (at end : ℕ) (r : Effect) : Type 0 where
   pub is : r ≡ effectHere m due (part text at end)
+
+-- a code line in its place, after which so many iterations are open
+abbrev pub standing : ℕ → Bool → Nested
+standing n due = record { wrong = false; opened = n; due = due }
 
 -- a code line with the effect e, where n iterations are open
 pub record Nests (e : Effect) (n : ℕ) (r : Nested) : Type 0 where

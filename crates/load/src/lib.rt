@@ -18,7 +18,7 @@ ghost use Rattle.model.specs.Load.{noneRead, loadFrom};
 ghost use Rattle.model.specs.Load as model-load;
 ghost use Rattle.tree.specs.Table.{Entries};
 ghost use Rattle.load.specs.Table.{tableOf, Room, Loads};
-ghost use Rattle.load.specs.Lines.{Refuses, RefusesAt, SectionAt, Heads, Sound, Counts, Weighs, BodyLine, BodySeen, EffectHere, Nests, Sees, Turns};
+ghost use Rattle.load.specs.Lines.{standing, Refuses, RefusesAt, SectionAt, Heads, Sound, Counts, Weighs, BodyLine, BodySeen, EffectHere, Nests, Sees, Turns};
 
 // What loading comes to. Number 0: the text is loaded; line is its section's last line, the input starts at `input`, the first
 // `count` entries of the table are its macros, and their tree has so many nodes. Any other number is the fault at line.
@@ -67,7 +67,7 @@ enum Turn {
 
 // What a template comes to: the number of its fault, or 0 and how many nodes the tree has with it.
 struct Weighed {
-    number: usize,
+    fault: usize,
     nodes: usize,
 }
 
@@ -111,38 +111,23 @@ fn weigh_template(
     ensures { λ r. ⌜ Weighs m (now (text .entry)) (now (starts .entry)) (now (lens .entry)) p at len r ⌝ }
 {
     if 200 < len {
-        return Weighed {
-            number: 4,
-            nodes: 0,
-        };
+        return Weighed { fault: 4, nodes: 0 };
     }
     if 9 < count_byte(text, at, at + len, m.placeholder) {
-        return Weighed {
-            number: 5,
-            nodes: 0,
-        };
+        return Weighed { fault: 5, nodes: 0 };
     }
     let new = count_new(text, starts, lens, p.count, at, len);
     if new == 0 {
-        return Weighed {
-            number: 6,
-            nodes: 0,
-        };
+        return Weighed { fault: 6, nodes: 0 };
     }
     if 128 <= p.count {
-        return Weighed {
-            number: 9,
-            nodes: 0,
-        };
+        return Weighed { fault: 9, nodes: 0 };
     }
     if 2048 - p.nodes < new {
-        return Weighed {
-            number: 9,
-            nodes: 0,
-        };
+        return Weighed { fault: 9, nodes: 0 };
     }
     Weighed {
-        number: 0,
+        fault: 0,
         nodes: p.nodes + new,
     }
 }
@@ -168,9 +153,9 @@ fn add_macro(
     let stop = find_byte(text, at, end, m.source);
     let len = stop - at;
     let w = weigh_template(m, text, starts, lens, p, at, len);
-    let number = w.number;
-    if number != 0 {
-        return Step::Fault(number);
+    let fault = w.fault;
+    if fault != 0 {
+        return Step::Fault(fault);
     }
     let k = p.count;
     starts[k] = at;
@@ -198,6 +183,17 @@ fn effect_here(m: Marks, text: &[u8], due: bool, at: usize, end: usize) -> Effec
     read_effect(m, text, at, end)
 }
 
+// A code line in its place, after which so many iterations are open.
+fn stand(opened: usize, due: bool) -> Nested
+    ensures { λ r. ⌜ r ≡ standing opened due ⌝ }
+{
+    Nested {
+        wrong: false,
+        opened,
+        due,
+    }
+}
+
 // A code line with this effect, where n iterations are open.
 fn nest(e: Effect, n: usize) -> Nested
     ensures { λ r. ⌜ Nests e n r ⌝ }
@@ -209,36 +205,20 @@ fn nest(e: Effect, n: usize) -> Nested
     };
     match e {
         Effect::Malformed => wrong,
-        Effect::Plain => Nested {
-            wrong: false,
-            opened: n,
-            due: false,
-        },
+        Effect::Plain => stand(n, false),
         Effect::Opens => {
             if 4 <= n {
                 return wrong;
             }
-            Nested {
-                wrong: false,
-                opened: n + 1,
-                due: false,
-            }
+            stand(n + 1, false)
         }
         Effect::Closes => {
             if n == 0 {
                 return wrong;
             }
-            Nested {
-                wrong: false,
-                opened: n - 1,
-                due: false,
-            }
+            stand(n - 1, false)
         }
-        Effect::Owns => Nested {
-            wrong: false,
-            opened: n,
-            due: true,
-        },
+        Effect::Owns => stand(n, true),
     }
 }
 
@@ -320,6 +300,7 @@ fn see_line(
     add_macro(m, text, starts, lens, numbers, bodies, p, n, at, end, next)
 }
 
+// The answer for a fault.
 fn refuse(number: usize, line: usize) -> Loading
     ensures { λ r. ⌜ Refuses number line r ⌝ }
 {

@@ -1,3 +1,2 @@
--- Laws of matching a line, and of what it asks.
+-- Laws of matching a line.
 pub mod Matching
-pub mod Books

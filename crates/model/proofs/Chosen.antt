@@ -14,6 +14,7 @@ use borrow.Author.Tests.{eqb-true, eqb-false, lt-ltb, le-ltb, eq-eqb, ne-eqb}
 use Rattle.model.specs.declared.Marks.{Marks}
 use Rattle.model.specs.Reading.{balancedFrom, balanced, cuts, Pieces, withPiece, withLiteral, readings, rank, less, Reading, asReadings, allReadings, leastOf, least, chosen}
 use Rattle.model.specs.Fitting.{Balanced, empty, byte-then, group-then, Fits, end, literal, placeholder, Before, end-first, literal-first, shorter, after-literal, after-piece, Reads, Distinct, First}
+use Rattle.model.proofs.Choices.{false-not-true}
 
 -- ---- tools
 
@@ -29,10 +30,6 @@ tested a b = go (eqb a b) refl
     go : (t : Bool) → eqb a b ≡ t → Tested a b t
     go true e = alike (eqb-true a b e)
     go false e = apart (eqb-false a b e)
-
--- two truth values are never equal
-pub clash : {A : Type 0} → false ≡ true → A
-clash e = let z : _≡_ {A = ℕ} 0 1 = cc in absurd (omega arith)
 
 -- x is an element of the list
 abbrev pub In {ℓ} : {A : Type ℓ} → A → List A → Type ℓ
@@ -70,7 +67,7 @@ module _ (m : Marks) where
             | false ↦ elim r [ true ↦ elim (eqb d 0) [ true ↦ false | false ↦ balancedFrom m (d - 1) s ] | false ↦ balancedFrom m d s ]
           ]) true → Rows m d (x ∷ s)
       by true r (alike a) t d ih h = rw a (rows-left d s (ih (suc d) h))
-      by false true (apart a) (alike b) zero ih h = clash h
+      by false true (apart a) (alike b) zero ih h = false-not-true h
       by false true (apart a) (alike b) (suc d) ih h =
           let z : suc d - 1 ≡ d = omega arith in
           rw b (more d [] s empty (ih d (rw (eqb·suc-zero d, z) at h)))
@@ -374,15 +371,15 @@ ahead x y s t e = by (order x y)
     by : Order x y → (x < y) ⊎ ((x ≡ y) × (less t s ≡ false))
     by (lower h) = inl h
     by (level h) = inr (h, sym (less-later x t s) ∙ (rw (← h) at e))
-    by (upper h) = clash (sym e ∙ less-here y x t s h)
+    by (upper h) = false-not-true (sym e ∙ less-here y x t s h)
 
 -- not later than: it goes on from one to the next
 less-chain : (a b c : List ℕ) → less b a ≡ false → less c b ≡ false → less c a ≡ false
 unfolding less
 less-chain [] b [] h k = refl
 less-chain [] b (z ∷ u) h k = refl
-less-chain (x ∷ s) [] c h k = clash (sym h)
-less-chain (x ∷ s) (y ∷ t) [] h k = clash (sym k)
+less-chain (x ∷ s) [] c h k = false-not-true (sym h)
+less-chain (x ∷ s) (y ∷ t) [] h k = false-not-true (sym k)
 less-chain (x ∷ s) (y ∷ t) (z ∷ u) h k = by (ahead x y s t h) (ahead y z t u k) (λ f g. less-chain s t u f g)
   where
     by : (x < y) ⊎ ((x ≡ y) × (less t s ≡ false)) → (y < z) ⊎ ((y ≡ z) × (less u t ≡ false)) → (less t s ≡ false → less u t ≡ false → less u s ≡ false) → less (z ∷ u) (x ∷ s) ≡ false
@@ -394,15 +391,15 @@ less-chain (x ∷ s) (y ∷ t) (z ∷ u) h k = by (ahead x y s t h) (ahead y z t
 -- of two ranks at most one is below the other
 less-once : (a b : List ℕ) → less a b ≡ true → less b a ≡ false
 unfolding less
-less-once [] [] e = clash e
+less-once [] [] e = false-not-true e
 less-once [] (y ∷ t) e = refl
-less-once (x ∷ s) [] e = clash e
+less-once (x ∷ s) [] e = false-not-true e
 less-once (x ∷ s) (y ∷ t) e = by (order x y) (λ h. less-once s t h)
   where
     by : Order x y → (less s t ≡ true → less t s ≡ false) → less (y ∷ t) (x ∷ s) ≡ false
     by (lower h) ih = less-never y x t s h
     by (level h) ih = rw h (less-later y t s ∙ ih (sym (less-later y s t) ∙ (rw h at e)))
-    by (upper h) ih = clash (sym (less-never x y s t h) ∙ e)
+    by (upper h) ih = false-not-true (sym (less-never x y s t h) ∙ e)
 
 -- of two readings of one line, the one with the lower rank is the one that comes before
 pub rank-before : (m : Marks) (t : List ℕ) (ps : Pieces) (u : List ℕ) (qs : Pieces) (s : List ℕ) → Fits m t ps s → Fits m u qs s
@@ -410,9 +407,9 @@ pub rank-before : (m : Marks) (t : List ℕ) (ps : Pieces) (u : List ℕ) (qs : 
 rank-before m t ps u qs s h k = (λ e. by e (compare m t ps s u qs s h k refl), before-rank m t ps u qs)
   where
     by : less (rank m t ps) (rank m u qs) ≡ true → Compared m t ps u qs → Before m t ps u qs
-    by e (same a b) = clash (sym (less-same (rank m u qs)) ∙ (ap₂ (λ x y. less (rank m x y) (rank m u qs)) (sym a) (sym b) ∙ e))
+    by e (same a b) = false-not-true (sym (less-same (rank m u qs)) ∙ (ap₂ (λ x y. less (rank m x y) (rank m u qs)) (sym a) (sym b) ∙ e))
     by e (first b) = b
-    by e (second b) = clash (sym (less-once (rank m u qs) (rank m t ps) (before-rank m u qs t ps b)) ∙ e)
+    by e (second b) = false-not-true (sym (less-once (rank m u qs) (rank m t ps) (before-rank m u qs t ps b)) ∙ e)
 
 -- the least is one of the readings
 leastOf-in : (r : Reading) (xs : List Reading) → In (leastOf r xs) (r ∷ xs)
@@ -567,7 +564,7 @@ module _ (m : Marks) (apart-brackets : ¬ (m .left ≡ m .right)) (ts : List (Li
           at : Compared m (getD ts (r .which) []) (r .pieces) (getD ts j []) qs → ((r .which ≡ j) × (r .pieces ≡ qs)) ⊎ Before m (getD ts (r .which) []) (r .pieces) (getD ts j []) qs
           at (same t p) = inl (d (r .which) j (g .place) (h .place) t, p)
           at (first b) = inr b
-          at (second b) = clash (sym k ∙ before-rank m _ _ _ _ b)
+          at (second b) = false-not-true (sym k ∙ before-rank m _ _ _ _ b)
 
   -- a first reading is the chosen one
   pub first-chosen : (i : ℕ) (ps : Pieces) → First m ts line i ps → (r : Reading) × (chosen m ts line ≡ some r) × (i ≡ r .which) × (ps ≡ r .pieces)
@@ -577,4 +574,4 @@ module _ (m : Marks) (apart-brackets : ¬ (m .left ≡ m .right)) (ts : List (Li
       by none e = absurd (none-reads e i ps (h .reads))
       by (some r) e =
           let l = chosen-least r e i ps (h .reads) in
-          ⊎-elim (λ s. (r, e, s .0, s .1)) (λ b. clash (sym (l .1) ∙ before-rank m _ _ _ _ b)) (h .before (r .which) (r .pieces) (l .0))
+          ⊎-elim (λ s. (r, e, s .0, s .1)) (λ b. false-not-true (sym (l .1) ∙ before-rank m _ _ _ _ b)) (h .before (r .which) (r .pieces) (l .0))

@@ -15,8 +15,7 @@ use Rattle.model.specs.Store.{Store}
 use Rattle.model.specs.Value.{Read, andThen, giving, number, isMark, nameOf, closing, expression, sum, product, factors, operand, whole, valueOf}
 use Rattle.model.specs.Reading.{atom}
 use Rattle.model.specs.Machine.{Piece, longer, pieceOf}
-use Rattle.model.proofs.Fuel.{both}
-use Rattle.model.proofs.Nesting.{split}
+use Rattle.model.proofs.Choices.{both, split}
 use Rattle.model.proofs.Sizes.{AtomSmall, atom-small}
 
 -- ---- tools
@@ -50,7 +49,7 @@ then-same k none r′ f g h e q = ap (λ (x : Read). andThen x g) e
 then-same k (some r) r′ f g h e q = q (r .0) (r .1) h ∙ ap (λ (x : Read). andThen x g) e
 
 -- digits are taken from the front
-number-leaves : (n : ℕ) (s : List ℕ) → length (number n s .1) ≤ length s
+pub number-leaves : (n : ℕ) (s : List ℕ) → length (number n s .1) ≤ length s
 unfolding number
 number-leaves n [] = omega arith
 number-leaves n (x ∷ s) = both (λ (p : ℕ × List ℕ). length (p .1) ≤ suc (length s)) (isDigit x) (number (n * 10 + (x - 48)) s) (n, x ∷ s) (omega (arith, number-leaves (n * 10 + (x - 48)) s)) (omega arith)

@@ -1,30 +1,22 @@
 -- The answer of fit is the first reading of the line. The theorem, at the end: fit-first.
 use mathlib.Core.Path.{_≡_, refl, ap, sym, _∙_, subst}
-use mathlib.Core.Bool.{Bool, true, false}
 use mathlib.Core.Option.{Option, none, some}
 use mathlib.Core.List.{List, [], _∷_}
 use Prim.Native.Nat.{ℕ, zero, suc, _≤_, _<_}
 use native.Mathlib.Omega.{arith}
-use lib.Dec.{ltb}
 use lib.ListN.{length, getD}
 use borrow.Author.Tests.{le-ltb}
 use Rattle.model.specs.declared.Marks.{Marks}
-use Rattle.model.specs.declared.Fitted.{Fitted}
 use Rattle.model.specs.Text.{Bytes, lines}
-use Rattle.model.specs.Reading.{Pieces, Reading, chosen}
-use Rattle.model.specs.Load.{Macro, noMacro, templates, Loaded, Load, loaded, load}
-use Rattle.model.specs.Results.{shortRow, nine, startsOf, noPieces, fittedAs, fittedIn, fitLine}
-use Rattle.model.specs.Fitting.{Reads, First}
-use Rattle.model.specs.FirstReading.{Names, FitsFirst}
-use Rattle.model.specs.Legal.{MacroAt, MacrosAt}
-use Rattle.model.proofs.Loading.{loaded-no-call, loaded-chosen}
+use Rattle.model.specs.Reading.{Reading, chosen}
+use Rattle.model.specs.Load.{Macro, noMacro, templates, Loaded, loaded, load}
+use Rattle.model.specs.Results.{shortRow, noPieces, fittedAs, fittedIn, fitLine}
+use Rattle.model.specs.Fitting.{First}
+use Rattle.model.specs.FirstReading.{FitsFirst}
+use Rattle.model.specs.Legal.{MacrosAt}
+use Rattle.model.proofs.Choices.{when-false}
+use Rattle.model.proofs.Loading.{templates-length, loaded-no-call, loaded-chosen}
 use Rattle.model.proofs.Input.{load-at}
-
--- as many templates as macros
-templates-length : (ms : List Macro) → length (templates ms) ≡ length ms
-unfolding templates
-templates-length [] = refl
-templates-length (x ∷ ms) = ap suc (templates-length ms)
 
 -- each macro stands at a line from 1 on
 line-positive : (m : Marks) (all : List Bytes) (ms : List Macro) (i : ℕ) → MacrosAt m all ms → i < length ms → 0 < getD ms i noMacro .line
@@ -55,10 +47,5 @@ module _ (text : Bytes) (t : Loaded) (loads : load text ≡ loaded t) (line : By
   pub fit-first : (rows : ℕ) → 2048 ≤ rows → length line ≤ 200 → FitsFirst t line (fitLine rows text line)
   unfolding fitLine fittedIn shortRow
   fit-first rows r l =
-      subst (FitsFirst t line) (sym (whole (ltb rows 2048) (le-ltb rows 2048 r))) (fitted-first (chosen (t .marks) (templates (t .macros)) line) refl)
-    where
-      inside : (b : Bool) → b ≡ false → _≡_ {A = Fitted} (elim b [ true ↦ noPieces 11 0 | false ↦ fittedAs t (chosen (t .marks) (templates (t .macros)) line) ]) (fittedAs t (chosen (t .marks) (templates (t .macros)) line))
-      inside b e = rw e refl
-
-      whole : (b : Bool) → b ≡ false → _≡_ {A = Fitted} (elim b [ true ↦ noPieces 1 0 | false ↦ fittedIn line (load text) ]) (fittedAs t (chosen (t .marks) (templates (t .macros)) line))
-      whole b e = rw e (ap (fittedIn line) loads ∙ inside (ltb 200 (length line)) (le-ltb 200 (length line) l))
+      subst (FitsFirst t line) (sym (when-false _ _ (le-ltb rows 2048 r) ∙ ap (fittedIn line) loads ∙ when-false _ _ (le-ltb 200 (length line) l)))
+      (fitted-first (chosen (t .marks) (templates (t .macros)) line) refl)

@@ -19,7 +19,7 @@ use Rattle.model.specs.Store.{put, within}
 use Rattle.model.specs.Load.{templates, Loaded, loaded, load}
 use Rattle.model.specs.Machine.{Loop, byPieces, byCount, Frame, Shared, Step, continues, offers, skips, leaves, halts, param, withParam, resumeAt, Building, built, failed, build, Piece, takePass, nextPass, endPass, pastLoop, startRepeat, output, writeTo, writeLayout, saveText, skipBy, skipIf, skipCompared, finish, finishBuilt, carryOut, State, Next, running, ended, stateWith, Passed, landed, beyond, badLanding, passOver, skipIn, call, passThrough, offered, stepped, unfinished, readInput, ready, beginLine, counted, event, after, initial, skipFrom, offeredAs, beginAt, eventFor, measured, readyIn, readyFor, closed, follow}
 use Rattle.model.specs.Sizes.{wellNested, BodiesOk, afterOf, LoopsOk, Nested, FramesOk}
-use Rattle.model.proofs.Fuel.{both}
+use Rattle.model.proofs.Choices.{both}
 use Rattle.model.proofs.Nesting.{nested-few, Passing, passing, Lands, passOver-nested, pastLoop-nested, all-at, load-nested}
 
 -- at most four iterations are open

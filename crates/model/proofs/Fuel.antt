@@ -18,15 +18,11 @@ use Rattle.model.specs.declared.Comparison.{Comparison}
 use Rattle.model.specs.Store.{put, within, decimal}
 use Rattle.model.specs.Value.{written}
 use Rattle.model.specs.Load.{templates, Macro, Loaded, Load, refused, loaded}
-use Rattle.model.specs.Machine.{Loop, byPieces, byCount, Frame, Shared, Step, continues, offers, skips, leaves, halts, resumeAt, withStore, Building, built, failed, add, addSymbol, addValue, addByteValue, addConverted, addPart, build, Piece, takePass, nextPass, endPass, startRepeat, output, writeTo, writeLayout, saveText, skipBy, skipIf, skipCompared, finish, finishBuilt, carryOut, State, Next, running, ended, stateWith, Passed, landed, beyond, badLanding, passOver, skipIn, call, passThrough, offered, stepped, unfinished, readInput, ready, beginLine, counted, event, after, initial, resultOf, outcome, run, skipFrom, offeredAs, beginAt, eventFor, measured, readyIn, readyFor, closed, follow}
+use Rattle.model.specs.Machine.{Loop, byPieces, byCount, Frame, Shared, Step, continues, offers, skips, leaves, halts, withStore, Building, built, failed, add, addSymbol, addValue, addByteValue, addConverted, addPart, build, Piece, takePass, nextPass, endPass, startRepeat, output, writeTo, writeLayout, saveText, skipBy, skipIf, skipCompared, finish, finishBuilt, carryOut, State, Next, running, ended, stateWith, Passed, landed, beyond, badLanding, passOver, skipIn, call, passThrough, offered, stepped, unfinished, readInput, ready, beginLine, counted, event, after, initial, resultOf, outcome, run, skipFrom, offeredAs, beginAt, eventFor, measured, readyIn, readyFor, closed, follow}
 use Rattle.model.specs.Text.{Grows}
+use Rattle.model.proofs.Choices.{both}
 
 -- ---- tools
-
--- a property of both branches of a test. Write the test; the branches are found
-pub both {ℓ κ} : {A : Type ℓ} (P : A → Type κ) (b : Bool) (x y : A) → P x → P y → P (elim b as (λ c. A) [ true ↦ x | false ↦ y ])
-both P true x y p q = p
-both P false x y p q = q
 
 -- an output is a beginning of itself
 pub grows-refl : (a : Bytes) → Grows a a
@@ -439,15 +435,6 @@ after-since (suc n) room t s = by (ready (t .marks) s) (ready-later (t .marks) s
         → Since (s .shared .output) (s .events) (suc n) (follow (λ s′. after n room t (event room t s′)) r)
     by (ended k s′) h ih = (h .0, omega arith, h .2)
     by (running s′) h ih = byEvent s′ (event room t s′) (h .0) (h .1) (event-later room t s′) ih
-
--- the same by the kind of what is reached
-pub running-since : (n room : ℕ) (t : Loaded) (s s′ : State) → after n room t (running s) ≡ running s′ → Grows (s .shared .output) (s′ .shared .output) × (s′ .events ≡ s .events + n)
-running-since n room t s s′ e = subst (Since (s .shared .output) (s .events) n) e (after-since n room t s)
-
--- a machine that has ended by then counted at most n, and its number isn't 20
-pub ended-since : (n room : ℕ) (t : Loaded) (s : State) (k : ℕ) (s′ : State) → after n room t (running s) ≡ ended k s′
-    → Grows (s .shared .output) (s′ .shared .output) × (s′ .events ≤ s .events + n) × (k < 20)
-ended-since n room t s k s′ e = subst (Since (s .shared .output) (s .events) n) e (after-since n room t s)
 
 -- what was spent is gone on with: later output begins with it
 pub spent-goes-on : (n j room : ℕ) (t : Loaded) (x : Next) (s : State) → after n room t x ≡ running s → Since (s .shared .output) (s .events) j (after (n + j) room t x)

@@ -18,8 +18,7 @@ use Rattle.model.specs.Load.{templates, Macro, bodyOf, Progress, Seen, f
 use Rattle.model.specs.Machine.{Frame, Shared, Step, continues, offers, skips, leaves, halts, State, Next, running, ended, stateWith, Passed, landed, beyond, badLanding, passOver, skipFrom, skipIn, call, passThrough, offeredAs, offered, stepped, unfinished, measured, readInput, readyIn, readyFor, ready, beginAt, beginLine, counted, eventFor, event, follow, after, initial}
 use Rattle.model.specs.Legal.{At, MacroAt, MacrosAt}
 use Rattle.model.proofs.Chosen.{Order, lower, level, upper, order}
-use Rattle.model.proofs.Fuel.{both}
-use Rattle.model.proofs.Nesting.{split}
+use Rattle.model.proofs.Choices.{both, split, or-false}
 
 -- ---- the statements
 
@@ -260,15 +259,11 @@ running-at text t e n room s h = subst (NextAt (lines text)) h (run-at text t n 
 -- a text that loads has at most 65,536 bytes
 pub text-short : (text : Bytes) (t : Loaded) → load text ≡ loaded t → length text ≤ 65536
 unfolding load
-text-short text t e = subst Short e (split Short (ltb 65536 (length text) || has 0 text) _ _ (λ f. tt) (λ f. any (loadLines (lines text)) (neither (ltb 65536 (length text)) (has 0 text) f)))
+text-short text t e = subst Short e (split Short (ltb 65536 (length text) || has 0 text) _ _ (λ f. tt) (λ f. any (loadLines (lines text)) (or-false (ltb 65536 (length text)) (has 0 text) f .0)))
   where
     Short : Load → Type 0
     Short (refused k n) = Unit {0}
     Short (loaded u) = length text ≤ 65536
-
-    neither : (a b : Bool) → (a || b) ≡ false → a ≡ false
-    neither true b f = f
-    neither false b f = refl
 
     any : (x : Load) → ltb 65536 (length text) ≡ false → Short x
     any (refused k n) f = tt

@@ -1,5 +1,8 @@
 -- Every main statement, with its proof cited.
 pub mod Theorems
+-- Laws that the proofs here and in other crates cite: of tests, and of parts of a text.
+pub mod Choices
+pub mod Text
 -- The first reading.
 pub mod Chosen
 pub mod Parts

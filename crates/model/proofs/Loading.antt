@@ -18,9 +18,8 @@ use Rattle.model.specs.declared.Effect.{Effect}
 use Rattle.model.specs.Load.{templates, unmatched, openAfter, isOwner, Macro, bodyOf, Progress, Seen, fault, more, sectionEnds, lowest, count, met, begins, begun, nodesFrom, nodes, fresh, templateFault, effectHere, unless, templateLine, codeLine, endLine, lineSeen, Loaded, Load, refused, loaded, loadOn, loadFrom, noneRead, loadLines, load}
 use Rattle.model.specs.Fitting.{Reads, Distinct, First}
 use Rattle.model.specs.Legal.{operators, Lawful, Legal, codeLines}
-use Rattle.model.proofs.Chosen.{clash, no-call, chosen-first, first-chosen}
-use Rattle.model.proofs.Fuel.{both}
-use Rattle.model.proofs.Nesting.{split, and-left, and-right}
+use Rattle.model.proofs.Chosen.{no-call, chosen-first, first-chosen}
+use Rattle.model.proofs.Choices.{false-not-true, both, split, and-left, and-right, or-false}
 
 -- ---- the statements
 
@@ -39,7 +38,7 @@ has-none b (x ∷ s) e j k q = by (eqb x b) refl e j k q (λ e j k q. has-none b
   where
     by : (c : Bool) → eqb x b ≡ c → _≡_ {A = Bool} (elim c [ true ↦ true | false ↦ has b s ]) false → (j : ℕ) → j < length (x ∷ s) → getD (x ∷ s) j 0 ≡ b
         → (has b s ≡ false → (j : ℕ) → j < length s → getD s j 0 ≡ b → ⊥) → ⊥
-    by true t e j k q ih = clash (sym e)
+    by true t e j k q ih = false-not-true (sym e)
     by false t e zero k q ih = eqb-false x b t q
     by false t e (suc j) k q ih = ih e j (omega arith) q
 
@@ -115,6 +114,12 @@ unfolding same
 same-itself [] = refl
 same-itself (x ∷ s) = rw (eq-eqb x x refl, same) (same-itself s)
 
+-- as many templates as macros
+pub templates-length : (ms : List Macro) → length (templates ms) ≡ length ms
+unfolding templates
+templates-length [] = refl
+templates-length (x ∷ ms) = ap suc (templates-length ms)
+
 -- one more macro has one more template
 pub templates-snoc : (ms : List Macro) (x : Macro) → templates (ms ++ (x ∷ [])) ≡ templates ms ++ (x .template ∷ [])
 unfolding templates
@@ -136,8 +141,8 @@ met-none t (x ∷ ms) e i k q = by (same t (x .template)) refl e i k q (λ e i k
   where
     by : (c : Bool) → same t (x .template) ≡ c → _≡_ {A = Bool} (elim c [ true ↦ true | false ↦ met t ms ]) false → (i : ℕ) → i < suc (length (templates ms)) → getD (x .template ∷ templates ms) i [] ≡ t
         → (met t ms ≡ false → (i : ℕ) → i < length (templates ms) → getD (templates ms) i [] ≡ t → ⊥) → ⊥
-    by true s e i k q ih = clash (sym e)
-    by false s e zero k q ih = clash (sym s ∙ (ap (same t) q ∙ same-itself t))
+    by true s e i k q ih = false-not-true (sym e)
+    by false s e zero k q ih = false-not-true (sym s ∙ (ap (same t) q ∙ same-itself t))
     by false s e (suc i) k q ih = ih e i (omega arith) q
 
 -- a place among templates and one more: an earlier one, or the last
@@ -224,11 +229,6 @@ abbrev SeenLegal : Marks → Seen → Type 0
 SeenLegal m (fault k) = Unit {0}
 SeenLegal m (more r) = Legal m (r .macros)
 SeenLegal m sectionEnds = Unit {0}
-
--- neither of two tests holds
-or-false : (a b : Bool) → (a || b) ≡ false → (a ≡ false) × (b ≡ false)
-or-false true b e = (e, clash (sym e))
-or-false false b e = (refl, e)
 
 -- a template line without a fault
 templateLine-legal : (m : Marks) (r : Progress) (n : ℕ) (c : Bytes) (ls : List Bytes) → Legal m (r .macros) → SeenLegal m (templateLine m r n c ls)

@@ -1,7 +1,7 @@
 -- A text that loads has its iterations well nested, at most four in one another, and code lines of at most 200 bytes;
 -- what a skip lands on, and what follows an iteration that is passed over, is well nested too.
 -- The theorems: passing, pass-nested, pastLoop-nested, load-nested.
-use mathlib.Core.Path.{_≡_, refl, subst}
+use mathlib.Core.Path.{_≡_, refl, sym, subst}
 use mathlib.Core.Bool.{Bool, true, false, not, _&&_, _||_}
 use mathlib.Core.Option.{Option, none, some}
 use mathlib.Core.List.{List, [], _∷_, _++_}
@@ -19,31 +19,7 @@ use Rattle.model.specs.declared.Effect.the-variants.{Malformed, Plain, O
 use Rattle.model.specs.Load.{Macro, bodyOf, unless, loadOn, Progress, Seen, fault, more, sectionEnds, lowest, templateFault, effectHere, unmatched, openAfter, isOwner, noMacro, templateLine, codeLine, endLine, lineSeen, Loaded, Load, refused, loaded, loadFrom, noneRead, loadLines, load}
 use Rattle.model.specs.Machine.{Passed, landed, beyond, badLanding, passOver, pastLoop}
 use Rattle.model.specs.Sizes.{AllShort, nested, wellNested, BodiesOk}
-use Rattle.model.proofs.Fuel.{both}
-
--- ---- tools
-
--- as `both`, each branch with its test's answer
-pub split {ℓ κ} : {A : Type ℓ} (P : A → Type κ) (b : Bool) (x y : A) → (b ≡ true → P x) → (b ≡ false → P y) → P (elim b as (λ c. A) [ true ↦ x | false ↦ y ])
-split P true x y p q = p refl
-split P false x y p q = q refl
-
--- both tests hold: the first
-pub and-left : (a b : Bool) → (a && b) ≡ true → a ≡ true
-and-left true b e = refl
-and-left false b e = e
-
--- both tests hold: the second
-pub and-right : (a b : Bool) → (a && b) ≡ true → b ≡ true
-and-right true b e = e
-and-right false b e = absurd (no-true e)
-  where
-    no-true : false ≡ true → ⊥
-    no-true e = let z : _≡_ {A = ℕ} 0 1 = cc in omega arith
-
--- two tests that hold
-pub and-both : (a b : Bool) → a ≡ true → b ≡ true → (a && b) ≡ true
-and-both a b p q = rw (p, q)
+use Rattle.model.proofs.Choices.{false-not-true, both, split, and-left, and-right, and-both}
 
 -- ---- well nested code lines
 
@@ -77,18 +53,15 @@ pub passing : (m : Marks) (n : ℕ) (c : Bytes) (cs : List Bytes) → wellNested
 unfolding wellNested nested
 passing m n c cs h = by n cs (effect m c) (leb-true n 4 (and-left (leb n 4) _ h)) (and-right (leb n 4) _ h)
   where
-    no-true : false ≡ true → ⊥
-    no-true e = let z : _≡_ {A = ℕ} 0 1 = cc in omega arith
-
     by : (n : ℕ) (cs : List Bytes) (e : Effect) → n ≤ 4
         → (elim e as (λ x. Bool) [ Malformed ↦ false | Plain ↦ nested m false n cs | Opens ↦ leb (suc n) 4 && nested m false (suc n) cs | Closes ↦ elim n [ zero ↦ false | suc k ↦ nested m false k cs ] | Owns ↦ nested m true n cs ]) ≡ true
         → Passing m n e cs
-    by n cs Malformed b h = no-true h
+    by n cs Malformed b h = false-not-true h
     by n cs Plain b h = and-both _ _ (le-leb n 4 b) h
     by n cs Opens b h = h
-    by zero cs Closes b h = no-true h
+    by zero cs Closes b h = false-not-true h
     by (suc k) cs Closes b h = and-both _ _ (le-leb k 4 (omega arith)) h
-    by n [] Owns b h = no-true h
+    by n [] Owns b h = false-not-true h
     by n (c ∷ cs) Owns b h = and-both _ _ (le-leb n 4 b) h
 
 -- ---- lines passed over
@@ -224,15 +197,12 @@ unfolding nested effectHere unmatched isOwner openAfter
 nested-line m true n c cs u h = h
 nested-line m false n c cs u h = by n (effect m c) u h
   where
-    no-true : true ≡ false → ⊥
-    no-true e = let z : _≡_ {A = ℕ} 0 1 = cc in omega arith
-
     by : (n : ℕ) (e : Effect) → unmatched e n ≡ false → nested m (isOwner e) (openAfter e n) cs ≡ true
         → (elim e as (λ x. Bool) [ Malformed ↦ false | Plain ↦ nested m false n cs | Opens ↦ leb (suc n) 4 && nested m false (suc n) cs | Closes ↦ elim n [ zero ↦ false | suc k ↦ nested m false k cs ] | Owns ↦ nested m true n cs ]) ≡ true
-    by n Malformed u h = absurd (no-true u)
+    by n Malformed u h = false-not-true (sym u)
     by n Plain u h = h
     by n Opens u h = and-both _ _ (le-leb (suc n) 4 (leb-false 4 n u)) h
-    by zero Closes u h = absurd (no-true u)
+    by zero Closes u h = false-not-true (sym u)
     by (suc k) Closes u h = let q : suc k - 1 ≡ k = omega arith in rw q at h
     by n Owns u h = h
 
@@ -334,7 +304,3 @@ load-ok text = both LoadOk (ltb 65536 (length text) || has 0 text) _ _ tt (byLin
 -- every macro of a text that loads has a well nested body
 pub load-nested : (text : Bytes) (t : Loaded) → load text ≡ loaded t → BodiesOk (t .marks) (t .macros)
 load-nested text t e = subst LoadOk e (load-ok text)
-
--- the body of the macro at a place
-pub load-nested-at : (text : Bytes) (t : Loaded) (i : ℕ) → load text ≡ loaded t → wellNested (t .marks) 0 (getD (t .macros) i noMacro .body) ≡ true
-load-nested-at text t i e = all-at (t .marks) (t .macros) i (load-nested text t e)

@@ -6,14 +6,14 @@ use mathlib.Core.Bool.{Bool, true, false}
 use mathlib.Core.Logic.{_⊎_, inl, inr, ⊎-elim}
 use mathlib.Core.Option.{none, some}
 use mathlib.Core.List.{List, [], _∷_, _++_}
-use Prim.Native.Nat.{ℕ, _<_}
+use Prim.Native.Nat.{ℕ}
 use native.Mathlib.Omega.{arith}
 use borrow.Author.Tests.{eq-eqb, ne-eqb}
 use lib.Dec.{eqb}
-use lib.ListN.{length, getD}
+use lib.ListN.{getD}
 use Rattle.model.specs.declared.Marks.{Marks}
 use Rattle.model.specs.Reading.{Pieces, Reading, chosen}
-use Rattle.model.specs.Fitting.{Balanced, Fits, end, literal, placeholder, Before, end-first, literal-first, shorter, after-literal, after-piece, Reads, Distinct, First}
+use Rattle.model.specs.Fitting.{Fits, end, literal, placeholder, Before, end-first, literal-first, shorter, after-literal, after-piece, Reads, Distinct, First}
 use Rattle.model.specs.Parts.{Elem, lit, hole, stop, Part, byte, piece, elems, text, Good, elements, pieces, Earlier, end-piece, byte-piece, less-piece, later, PartsRead}
 use Rattle.model.proofs.Chosen.{Tested, alike, apart, tested, no-call, first-chosen}
 

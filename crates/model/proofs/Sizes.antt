@@ -23,8 +23,7 @@ use Rattle.model.specs.Machine.{Loop, byPieces, byCount, Frame, Shared, 
 use Rattle.model.specs.Fitting.{Fits, end, literal, placeholder}
 use Rattle.model.specs.Sizes.{AllShort, FramesOk, LoopsSmall, FrameSmall, FramesSmall, EntriesShort, SharedSmall, PendingSmall, Small, LoopsFew}
 use Rattle.model.proofs.Chosen.{chosen-reads}
-use Rattle.model.proofs.Fuel.{both}
-use Rattle.model.proofs.Nesting.{split, and-left, and-right}
+use Rattle.model.proofs.Choices.{both, split, and-left, and-right}
 use Rattle.model.proofs.Frames.{NextOk, nested-loops, run-nested}
 use Rattle.model.proofs.Loading.{load-legal}
 

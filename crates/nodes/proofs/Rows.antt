@@ -1,29 +1,31 @@
 -- The loop of child, and the laws of a node's children.
-use mathlib.Core.Path.{_≡_, refl, sym, _∙_, ap}
+use mathlib.Core.Path.{_≡_, refl, sym, _∙_, ap, subst}
 use mathlib.Core.Bool.{Bool, true, false}
-use mathlib.Core.List.{List}
+use mathlib.Core.List.{List, [], _∷_}
 use mathlib.Core.Logic.{⊎-elim}
 use Prim.Native.Nat.{ℕ, zero, suc, _+_, _-_, _≤_, _<_}
 use native.Mathlib.Omega.{arith}
 use native.Mathlib.Nat.{eq-or-lt-of-le}
 use native.Mathlib.Numerals.{add-one}
 use lib.Dec.{eqb}
-use lib.ListN.{length}
+use lib.ListN.{length, getD, take}
+use lib.Seq.{length-take-le}
 use borrow.Author.Tests.{eq-eqb, ne-eqb}
 use Rattle.model.specs.Parts.{Elem, lit, hole}
 use Rattle.model.proofs.Chosen.{Tested, alike, apart, tested}
-use Rattle.nodes.specs.Rows.{field, elem, among, code, kid, holey, height, holes, Child, Tree, ChildFor}
+use Rattle.nodes.specs.declared.Node.{Node}
+use Rattle.nodes.specs.Rows.{noNode, elem, firstOf, countOf, among, code, kid, holey, height, holes, Child, Tree, ChildFor, Stands}
 
 -- ---- the first node with an element
 
 -- what is found among the n nodes from j on is one of them, with the element
-record Hit (rows : List (List ℕ)) (e j n r : ℕ) : Type 0 where
+record Hit (rows : List Node) (e j n r : ℕ) : Type 0 where
   low : j ≤ r
   high : r < j + n
   that : elem rows r ≡ e
 
 -- what is found is one of the nodes
-among-hit : (rows : List (List ℕ)) (e j n m : ℕ) → among rows e j n ≡ suc m → Hit rows e j n (suc m)
+among-hit : (rows : List Node) (e j n m : ℕ) → among rows e j n ≡ suc m → Hit rows e j n (suc m)
 unfolding among
 among-hit rows e j zero m w = absurd (omega arith)
 among-hit rows e j (suc n) m w = by (eqb (elem rows j) e) (tested (elem rows j) e) (among-hit rows e (suc j) n m) w
@@ -34,7 +36,7 @@ among-hit rows e j (suc n) m w = by (eqb (elem rows j) e) (tested (elem rows j) 
     by false (apart a) ih h = let x = ih h in record { low = omega arith; high = omega arith; that = x .that }
 
 -- where one of the n nodes from j on has the element, one is found; node 0 is none of them
-pub among-some : (rows : List (List ℕ)) (e j n i : ℕ) → 0 < j → j ≤ i → i < j + n → elem rows i ≡ e → (m : ℕ) × (among rows e j n ≡ suc m)
+pub among-some : (rows : List Node) (e j n i : ℕ) → 0 < j → j ≤ i → i < j + n → elem rows i ≡ e → (m : ℕ) × (among rows e j n ≡ suc m)
 unfolding among
 among-some rows e j zero i z l u w = absurd (omega arith)
 among-some rows e j (suc n) i z l u w = by j (eqb (elem rows j) e) (tested (elem rows j) e) z l (λ q. among-some rows e (suc j) n i (omega arith) q (omega arith) w)
@@ -48,31 +50,39 @@ among-some rows e j (suc n) i z l u w = by j (eqb (elem rows j) e) (tested (elem
 -- ---- the loop of child
 
 -- the loop's place: the child is looked for from j on, up to `last`
-pub record Seek (rows : List (List ℕ)) (node e last j : ℕ) : Type 0 where
+pub record Seek (rows : List Node) (node e last j : ℕ) : Type 0 where
   pub low : j ≤ last
   pub high : last ≤ length rows
-  pub same : among rows e (field rows node 1) (field rows node 2) ≡ among rows e j (last - j)
+  pub same : among rows e (firstOf rows node) (countOf rows node) ≡ among rows e j (last - j)
 
-module _ (rows : List (List ℕ)) (node e : ℕ) where
+module _ (rows : List Node) (node e : ℕ) where
   -- the children are looked through from the first on
-  pub seek-start : (j n : ℕ) → j ≡ field rows node 1 → n ≡ field rows node 2 → field rows node 1 + field rows node 2 ≤ length rows → Seek rows node e (j + n) j
-  seek-start j n f g h =
-      let z : j + n - j ≡ n = omega arith in
-      record { low = omega arith; high = omega arith; same = rw (z, f, g) refl }
+  pub seek-start : (n : Node) (j last : ℕ) → n ≡ getD rows node noNode → j ≡ n .first → last ≡ n .first + n .count → firstOf rows node + countOf rows node ≤ length rows → Seek rows node e last j
+  seek-start n j last w f g h =
+      let x : j ≡ firstOf rows node = f ∙ ap (λ (k : Node). k .first) w in
+      let y : last ≡ firstOf rows node + countOf rows node = g ∙ ap (λ (k : Node). k .first + k .count) w in
+      let z : last - j ≡ countOf rows node = omega arith in
+      record { low = omega arith; high = omega arith; same = rw (z, x) refl }
 
-  -- the node j is the child
-  pub seek-here : (last j b : ℕ) → b ≡ elem rows j → j < last → b ≡ e → Seek rows node e last j → ChildFor rows node e j
-  unfolding among
-  seek-here last j b f lt h s =
-      let z : last - j ≡ suc (last - suc j) = omega arith in
-      record { is = sym (s .same ∙ rw (z, eq-eqb (elem rows j) e (sym f ∙ h), among) refl); within = omega arith }
+  module _ (n : Node) (last j : ℕ) (b : Bool) (w : n ≡ getD rows j noNode) (f : b ≡ eqb (n .element) e) (lt : j < last) (s : Seek rows node e last j) where
+    test : eqb (elem rows j) e ≡ b
+    test = sym (f ∙ ap (λ (k : Node). eqb (k .element) e) w)
 
-  -- it isn't, and the next may be
-  pub seek-on : (last j b : ℕ) → b ≡ elem rows j → j < last → ¬ (b ≡ e) → Seek rows node e last j → Seek rows node e last (j + 1)
-  unfolding among
-  seek-on last j b f lt h s =
-      let z : last - j ≡ suc (last - (j + 1)) = omega arith in
-      record { low = omega arith; high = s .high; same = s .same ∙ rw (z, ne-eqb (elem rows j) e (λ w. h (f ∙ w)), add-one, among) refl }
+    -- the node j is the child
+    pub seek-here : b ≡ true → ChildFor rows node e j
+    unfolding among
+    seek-here h =
+        let z : last - j ≡ suc (last - suc j) = omega arith in
+        let t : eqb (elem rows j) e ≡ true = test ∙ h in
+        record { is = sym (s .same ∙ rw (z, t, among) refl); within = omega (arith, s .high) }
+
+    -- it isn't, and the next may be
+    pub seek-on : b ≡ false → Seek rows node e last (j + 1)
+    unfolding among
+    seek-on h =
+        let z : last - j ≡ suc (last - (j + 1)) = omega arith in
+        let t : eqb (elem rows j) e ≡ false = test ∙ h in
+        record { low = omega arith; high = s .high; same = s .same ∙ rw (z, t, add-one, among) refl }
 
   -- past the last there is none
   pub seek-none : (last j : ℕ) → node < length rows → last ≤ j → Seek rows node e last j → ChildFor rows node e 0
@@ -81,16 +91,61 @@ module _ (rows : List (List ℕ)) (node e : ℕ) where
       let z : last - j ≡ 0 = omega arith in
       record { is = sym (s .same ∙ rw z refl); within = omega arith }
 
+-- ---- a tree at the front of a row
+
+-- the first nodes of a row are its own
+pub front-node : (row : List Node) (made i : ℕ) → i < made → getD (take made row) i noNode ≡ getD row i noNode
+front-node [] zero i lt = absurd (omega arith)
+front-node [] (suc made) i lt = refl
+front-node (n ∷ row) zero i lt = absurd (omega arith)
+front-node (n ∷ row) (suc made) zero lt = refl
+front-node (n ∷ row) (suc made) (suc i) lt = front-node row made i (omega arith)
+
+-- and so is what is found among them
+front-among : (row : List Node) (made e j n : ℕ) → j + n ≤ made → among (take made row) e j n ≡ among row e j n
+unfolding among
+front-among row made e j zero le = refl
+front-among row made e j (suc n) le =
+    ap (λ (x : Node). elim (eqb (x .element) e) [ true ↦ j | false ↦ among (take made row) e (suc j) n ]) (front-node row made j (omega arith))
+    ∙ ap (λ (m : ℕ). elim (eqb (elem row j) e) [ true ↦ j | false ↦ m ]) (front-among row made e (suc j) n (omega arith))
+
+module _ {row : List Node} {made : ℕ} (s : Stands row made) where
+  -- there are as many of them
+  pub front-long : length (take made row) ≡ made
+  front-long = length-take-le made row (s .within)
+
+  module _ (node : ℕ) (lt : node < made) where
+    same : getD (take made row) node noNode ≡ getD row node noNode
+    same = front-node row made node lt
+
+    children-inside : firstOf row node + countOf row node ≤ made
+    children-inside = omega (arith, front-long, subst (λ (x : Node). x .first + x .count ≤ length (take made row)) same (s .tree .children-within node))
+
+    -- a node's children stand in the row
+    pub front-within : firstOf row node + countOf row node ≤ length row
+    front-within = omega (arith, children-inside, s .within)
+
+    inside : (e r : ℕ) → r ≡ among row e (firstOf row node) (countOf row node) → r < made
+    inside e zero q = omega (arith, lt)
+    inside e (suc m) q = omega (arith, among-hit row e (firstOf row node) (countOf row node) m (sym q) .high, children-inside)
+
+    -- the child in the row is the tree's
+    pub front-child : (e r : ℕ) → ChildFor row node e r → ChildFor (take made row) node e r
+    front-child e r c = record {
+      is = c .is ∙ sym (front-among row made e (firstOf row node) (countOf row node) children-inside) ∙ ap (λ (x : Node). among (take made row) e (x .first) (x .count)) (sym same);
+      within = omega (arith, inside e r (c .is), front-long);
+    }
+
 -- ---- children
 
 -- what is found for an element is a child with that element
-pub kid-child : (rows : List (List ℕ)) (i : ℕ) (e : Elem) (m : ℕ) → kid rows i e ≡ suc m → Child rows i (suc m) × (elem rows (suc m) ≡ code e)
+pub kid-child : (rows : List Node) (i : ℕ) (e : Elem) (m : ℕ) → kid rows i e ≡ suc m → Child rows i (suc m) × (elem rows (suc m) ≡ code e)
 kid-child rows i e m w =
-    let h = among-hit rows (code e) (field rows i 1) (field rows i 2) m w in
+    let h = among-hit rows (code e) (firstOf rows i) (countOf rows i) m w in
     ((h .low, h .high), h .that)
 
 -- what a search asks of its tree
-module _ (rows : List (List ℕ)) (tree : Tree rows) where
+module _ (rows : List Node) (tree : Tree rows) where
   -- a child is less high
   pub kid-falls : (i : ℕ) (e : Elem) (m : ℕ) → kid rows i e ≡ suc m → height rows (suc m) < height rows i
   kid-falls i e m w = tree .lower i (suc m) (kid-child rows i e m w .0)

@@ -5,7 +5,8 @@ use Prim.Native.Nat.{ℕ, zero, suc, _<_}
 use native.Mathlib.Omega.{arith}
 use lib.ListN.{length, getD}
 use Rattle.model.specs.Parts.{Elem}
-use Rattle.nodes.specs.Rows.{field, elem, code, kid, holes, Child, Tree}
+use Rattle.nodes.specs.declared.Node.{Node}
+use Rattle.nodes.specs.Rows.{elem, firstOf, countOf, code, kid, holes, Child, Tree}
 use Rattle.nodes.specs.Templates.{onward, walk, In, Represents, Begins}
 use Rattle.nodes.proofs.Rows.{among-some, kid-child, kid-within}
 
@@ -14,7 +15,7 @@ pub onward-inv : (g : ℕ → ℕ) (k j : ℕ) → onward g k ≡ suc j → (m :
 onward-inv g zero j e = absurd (omega arith)
 onward-inv g (suc m) j e = (m, refl, e)
 
-module _ (rows : List (List ℕ)) (tree : Tree rows) (ts : List (List Elem)) (pre : ℕ → List Elem) (b : Begins rows ts pre) where
+module _ (rows : List Node) (tree : Tree rows) (ts : List (List Elem)) (pre : ℕ → List Elem) (b : Begins rows ts pre) where
   -- what a walk passes is what the beginning has more
   walk-pre : (es : List Elem) (i j : ℕ) → walk (kid rows) i es ≡ suc j → pre (suc j) ≡ pre i ++ es
   walk-pre [] i j w = ap pre (sym w) ∙ sym (append-nil (pre i))
@@ -27,13 +28,13 @@ module _ (rows : List (List ℕ)) (tree : Tree rows) (ts : List (List Elem)) (pr
   leads-on : (i : ℕ) (e : Elem) (es : List Elem) → i < length rows → In ts (pre i ++ e ∷ es) → (m : ℕ) × (kid rows i e ≡ suc m) × In ts (pre (suc m) ++ es)
   leads-on i e es lt h =
       let (j, c, w) = b .every i e es lt h in
-      let (m, x) = among-some rows (code e) (field rows i 1) (field rows i 2) j (first-after i j c) (c .0) (c .1) w in
+      let (m, x) = among-some rows (code e) (firstOf rows i) (countOf rows i) j (first-after i j c) (c .0) (c .1) w in
       let d = kid-child rows i e m x in
       let q : pre i ++ e ∷ es ≡ pre (suc m) ++ es = sym (ap (λ (l : List Elem). l ++ es) (b .one-more i (suc m) e (d .0) (d .1)) ∙ append-assoc (pre i) (e ∷ []) es) in
       (m, x, subst (In ts) q h)
     where
-      first-after : (i j : ℕ) → Child rows i j → 0 < field rows i 1
-      first-after i j c = b .child-after i (field rows i 1) (omega arith, omega (arith, c .0, c .1))
+      first-after : (i j : ℕ) → Child rows i j → 0 < firstOf rows i
+      first-after i j c = b .child-after i (firstOf rows i) (omega arith, omega (arith, c .0, c .1))
 
   -- and so to a node, from any node but the root
   leads : (es : List Elem) (i : ℕ) → suc i < length rows → In ts (pre (suc i) ++ es) → (j : ℕ) × (walk (kid rows) (suc i) es ≡ suc j)

@@ -1,15 +1,38 @@
-// The row of nodes that holds the tree of the templates. A node's record: 0 its element (the end 0, a placeholder 1, a literal
-// byte b is b + 2), 1 its first child, 2 how many children stand there, 3 its template's number, 4 how many elements follow it
-// at most, 5 how many placeholders stand up to and with it. Node 0 is the root, and nobody's child.
+// The row of nodes that holds the tree of the templates, and the two functions that touch its elements. Node 0 is the root, and
+// nobody's child.
 ghost use mathlib.Core.Path.{_≡_};
 ghost use Prim.Native.Nat.{_+_, _≤_, _<_};
-ghost use lib.ListN.{length};
-ghost use Rattle.nodes.specs.Rows.{field, elem, holes, ChildFor};
+ghost use mathlib.Core.Bool.{Bool};
+ghost use lib.Dec.{eqb};
+ghost use lib.ListN.{length, getD, set};
+ghost use Rattle.nodes.specs.Rows.{noNode, firstOf, countOf, ChildFor};
 
-fn wide(x: u16) -> usize
-    ensures { λ r. ⌜ r ≡ x ⌝ }
+// A node: its element (the end 0, a placeholder 1, a literal byte b is b + 2), its first child and how many children stand from
+// there on, the number of its template, how many elements follow it at most, and how many placeholders stand up to and with it.
+#[repr(C)]
+pub struct Node {
+    pub element: u16,
+    pub first: u16,
+    pub count: u16,
+    pub template: u16,
+    pub height: u16,
+    pub holes: u16,
+}
+
+// Reads one.
+pub fn node_at(nodes: &[Node], i: usize) -> Node
+    requires { ⌜ i < length (now nodes) ⌝ }
+    ensures { λ r. ⌜ r ≡ getD (now (nodes .entry)) i noNode ⌝ }
 {
-    x as usize
+    nodes[i]
+}
+
+// Writes one.
+pub fn set_node(nodes: &mut [Node], i: usize, n: Node)
+    requires { ⌜ i < length (now nodes) ⌝ }
+    ensures { λ _. ⌜ now (nodes .exit) ≡ set (now (nodes .entry)) i n ⌝ }
+{
+    nodes[i] = n;
 }
 
 // The element of a literal byte.
@@ -19,55 +42,51 @@ pub fn literal(b: u8) -> u16
     b as u16 + 2
 }
 
-// The element of a node.
-pub fn element_of(nodes: &[[u16; 6]], node: usize) -> u16
-    requires { ⌜ node < length (now nodes) ⌝ }
-    ensures { λ r. ⌜ r ≡ elem (now (nodes .entry)) node ⌝ }
+// Where a node's children begin.
+pub fn first_of(n: Node) -> usize
+    ensures { λ r. ⌜ r ≡ n .first ⌝ }
 {
-    nodes[node][0]
+    n.first as usize
 }
 
-// A node's first child.
-pub fn first_of(nodes: &[[u16; 6]], node: usize) -> usize
-    requires { ⌜ node < length (now nodes) ⌝ }
-    ensures { λ r. ⌜ r ≡ field (now (nodes .entry)) node 1 ⌝ }
+// Where they end.
+pub fn end_of(n: Node) -> usize
+    ensures { λ r. ⌜ r ≡ n .first + n .count ⌝ }
 {
-    wide(nodes[node][1])
+    n.first as usize + n.count as usize
 }
 
-// How many children a node has.
-pub fn count_of(nodes: &[[u16; 6]], node: usize) -> usize
-    requires { ⌜ node < length (now nodes) ⌝ }
-    ensures { λ r. ⌜ r ≡ field (now (nodes .entry)) node 2 ⌝ }
+// Whether a node has an element.
+pub fn has_element(n: Node, e: u16) -> bool
+    ensures { λ r. ⌜ r ≡ eqb (n .element) e ⌝ }
 {
-    wide(nodes[node][2])
+    n.element == e
 }
 
 // The number of a node's template.
-pub fn template_of(nodes: &[[u16; 6]], node: usize) -> usize
-    requires { ⌜ node < length (now nodes) ⌝ }
-    ensures { λ r. ⌜ r ≡ field (now (nodes .entry)) node 3 ⌝ }
+pub fn template_of(n: Node) -> usize
+    ensures { λ r. ⌜ r ≡ n .template ⌝ }
 {
-    wide(nodes[node][3])
+    n.template as usize
 }
 
 // How many placeholders stand up to and with a node.
-pub fn holes_of(nodes: &[[u16; 6]], node: usize) -> usize
-    requires { ⌜ node < length (now nodes) ⌝ }
-    ensures { λ r. ⌜ r ≡ holes (now (nodes .entry)) node ⌝ }
+pub fn holes_of(n: Node) -> usize
+    ensures { λ r. ⌜ r ≡ n .holes ⌝ }
 {
-    wide(nodes[node][5])
+    n.holes as usize
 }
 
 // The child of a node for an element, or 0 where there is none.
-pub fn child(nodes: &[[u16; 6]], node: usize, e: u16) -> usize
-    requires { ⌜ (node < length (now nodes)) × (field (now nodes) node 1 + field (now nodes) node 2 ≤ length (now nodes)) ⌝ }
+pub fn child(nodes: &[Node], node: usize, e: u16) -> usize
+    requires { ⌜ (node < length (now nodes)) × (firstOf (now nodes) node + countOf (now nodes) node ≤ length (now nodes)) ⌝ }
     ensures { λ r. ⌜ ChildFor (now (nodes .entry)) node e r ⌝ }
 {
-    let mut j = first_of(nodes, node);
-    let last = j + count_of(nodes, node);
+    let n = node_at(nodes, node);
+    let mut j = first_of(n);
+    let last = end_of(n);
     while j < last {
-        if element_of(nodes, j) == e {
+        if has_element(node_at(nodes, j), e) {
             return j;
         }
         j += 1;

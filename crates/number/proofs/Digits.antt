@@ -16,6 +16,8 @@ use lib.Signed.{mag}
 use Rattle.model.specs.Text.{isDigit}
 use Rattle.model.specs.declared.Marks.{Marks}
 use Rattle.model.specs.Value.{number, allDigits, isStoredNumber, storedNumber, checked}
+use Rattle.model.proofs.Choices.{and-left, and-right}
+use Rattle.model.proofs.Depth.{number-leaves}
 use Rattle.number.specs.Number.{end, Gives}
 use Rattle.number.specs.Run.{Runs, Reading, Numerals, capped, withSign, signedNumber}
 use Rattle.number.specs.declared.Run.{Run}
@@ -29,12 +31,7 @@ and-false false = refl
 
 pub digit-bounds : {b : ℕ} → isDigit b ≡ true → (48 ≤ b) × (b ≤ 57)
 unfolding isDigit
-digit-bounds {b} e = go (leb 48 b) (leb b 57) refl refl e
-  where
-    go : (t u : Bool) → leb 48 b ≡ t → leb b 57 ≡ u → t && u ≡ true → (48 ≤ b) × (b ≤ 57)
-    go true true p q h = (leb-true 48 b p, leb-true b 57 q)
-    go true false p q h = let z : _≡_ {A = ℕ} 0 1 = cc in absurd (omega arith)
-    go false u p q h = let z : _≡_ {A = ℕ} 0 1 = cc in absurd (omega arith)
+digit-bounds {b} e = (leb-true 48 b (and-left (leb 48 b) (leb b 57) e), leb-true b 57 (and-right (leb 48 b) (leb b 57) e))
 
 number-digit : (n x : ℕ) (s : List ℕ) → isDigit x ≡ true → number n (x ∷ s) ≡ number (n * 10 + (x - 48)) s
 unfolding number
@@ -125,15 +122,6 @@ cap-checked minus n = go (leb n end) refl
         let h = leb-false n end e in
         checked-out _ (far minus (capped n) (omega arith)) ∙ sym (checked-out _ (far minus n h))
 
--- what follows digits is shorter than all, and by at least one where a digit comes first
-rest-shorter : (a : ℕ) (l : List ℕ) → length (number a l .1) ≤ length l
-rest-shorter a [] = rw (number-none a) (le-refl _)
-rest-shorter a (x ∷ l) = go (isDigit x) refl (rest-shorter (a * 10 + (x - 48)) l)
-  where
-    go : (t : Bool) → isDigit x ≡ t → length (number (a * 10 + (x - 48)) l .1) ≤ length l → length (number a (x ∷ l) .1) ≤ suc (length l)
-    go true e ih = rw (number-digit a x l e) (omega arith)
-    go false e ih = rw (number-other a x l e) (le-refl _)
-
 pub numeral : {s : List ℕ} {at : ℕ} {r : Run} → Runs s at r → {v : Valued} → Gives v (checked (withSign false (pos (r .amount)))) → Numerals s at (record { value = v; end = r .end })
 numeral {s} {at} {r} run g = record {
   gives = rw (run .amount, cap-checked false (number 0 (drop at s) .0)) at g;
@@ -143,7 +131,7 @@ numeral {s} {at} {r} run g = record {
       let first : number 0 (drop at s) ≡ number (0 * 10 + (getD s at 0 - 48)) (drop (suc at) s) = rw (drop-cons s at 0 l) (number-digit 0 _ _ d) in
       let a = ap (λ p. length (p .1)) first in
       let b = ap (λ t. length t) (run .rest) in
-      omega (arith, rest-shorter (0 * 10 + (getD s at 0 - 48)) (drop (suc at) s), length-drop (suc at) s, length-drop (r .end) s, run .from, run .upto);
+      omega (arith, number-leaves (0 * 10 + (getD s at 0 - 48)) (drop (suc at) s), length-drop (suc at) s, length-drop (r .end) s, run .from, run .upto);
   upto = run .upto;
 }
 

@@ -16,8 +16,8 @@ use lib.Signed.{mag, ltZ, nonNeg, quotZ}
 use mir.Syntax.{w64}
 use mir.Val.{SFits, Fits, toZ, ofZ}
 use mir.Facts.{toZ-ofZ, sfits-widen}
-use Rattle.buffer.proofs.Choices.{false-not-true}
 use Rattle.model.specs.Value.{checked, quotient, divided}
+use Rattle.model.proofs.Choices.{false-not-true}
 use Rattle.number.specs.Number.{width, end, Gives}
 use Rattle.number.specs.declared.Valued.the-variants.{Number, Fault}
 

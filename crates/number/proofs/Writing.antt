@@ -13,8 +13,9 @@ use Rattle.buffer.specs.Decimal.{Decimal}
 use Rattle.model.specs.declared.Marks.{Marks}
 use Rattle.model.specs.Store.{decimal}
 use Rattle.model.specs.Value.{written}
+use Rattle.model.proofs.Choices.{false-not-true}
+use Rattle.model.proofs.Text.{part-front}
 use Rattle.number.specs.Number.{Writes}
-use Rattle.buffer.proofs.Choices.{false-not-true}
 
 module _ (m : Marks) (z : ℤ) {n : ℕ} (size : n ≡ natAbs z) where
   plain : ltZ z (pos 0) ≡ false → decimal n ≡ written m z
@@ -40,8 +41,7 @@ module _ (m : Marks) (z : ℤ) {n : ℕ} (size : n ≡ natAbs z) where
   writes-minus e [] l d h t = absurd (omega arith)
   writes-minus e (x ∷ o) l {r} {s} d h t =
       let longer : r + 1 - 0 ≡ suc r = omega arith in
-      let same : r - 0 ≡ r = omega arith in
-      let digits : take r s ≡ decimal n = ap (λ k. take k s) (sym same) ∙ d .is in
+      let digits : take r s ≡ decimal n = sym (part-front s r) ∙ d .is in
       record {
         is = ap (λ k. take k (m .minus ∷ (s ++ t))) longer ∙ ap (λ q. m .minus ∷ q) (take-append-le r s t h ∙ digits) ∙ below e;
         few = omega (arith, d .few);

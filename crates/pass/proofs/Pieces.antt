@@ -7,12 +7,13 @@ use Prim.Native.Nat.{ℕ, suc, _+_, _-_, _≤_, _<_}
 use native.Mathlib.Numerals.{add-one}
 use native.Mathlib.Omega.{arith}
 use lib.ListN.{length, getD, take, drop, drop-of-length-le, length-drop}
-use lib.Seq.{drop-cons, drop-drop, take-add, take-length}
+use lib.Seq.{drop-cons, take-length}
 use borrow.Author.Tests.{lt-ltb, le-ltb}
 use Rattle.model.specs.declared.Marks.{Marks}
 use Rattle.model.specs.Text.{Bytes, part, has}
 use Rattle.model.specs.Reading.{atom}
 use Rattle.model.specs.Machine.{Piece, longer, pieceOf, passOf}
+use Rattle.model.proofs.Text.{part-join}
 use Rattle.model.proofs.Depth.{piece-enough}
 use Rattle.atom.specs.Atoms.{AtomAt}
 use Rattle.scan.specs.Lines.{Has}
@@ -40,14 +41,6 @@ longer-longer : (a b : Bytes) (o : Option Piece) → longer a (longer b o) ≡ l
 unfolding longer
 longer-longer a b none = refl
 longer-longer a b (some p) = ap (λ (x : Bytes). some (record { piece = x; delimiter = p .delimiter; rest = p .rest })) (sym (append-assoc a b (p .piece)))
-
--- two parts in a row
-parts-join : (s : Bytes) (a b c : ℕ) → a ≤ b → b ≤ c → part s a b ++ part s b c ≡ part s a c
-parts-join s a b c h k =
-    let x : a + (b - a) ≡ b = omega arith in
-    let y : b - a + (c - b) ≡ c - a = omega arith in
-    ap (λ (j : ℕ). part s a b ++ take (c - b) (drop j s)) (sym x) ∙ ap (λ (l : Bytes). part s a b ++ take (c - b) l) (sym (drop-drop (b - a) a s))
-    ∙ sym (take-add (b - a) (c - b) (drop a s)) ∙ ap (λ (n : ℕ). take n (drop a s)) y
 
 -- ---- the piece of a line, by its first byte
 
@@ -110,7 +103,7 @@ module _ {m : Marks} {line : Bytes} {at : ℕ} {list : Bytes} where
         high = high;
         is = t .is ∙ ap (longer (part line at i)) (ap (piece m list) (drop-cons line i 0 h) ∙ piece-atom m list (getD line i 0) (drop (suc i) line) (part line i n) (drop n line) (sym (b .is) ∙ e) found (omega arith))
             ∙ longer-longer (part line at i) (part line i n) (piece m list (drop n line))
-            ∙ ap (λ (p : Bytes). longer p (piece m list (drop n line))) (parts-join line at i n (t .low) (omega arith));
+            ∙ ap (λ (p : Bytes). longer p (piece m list (drop n line))) (part-join line at i n (t .low) (omega arith));
       }
 
   pub taking-delimiter : {i v : ℕ} {q : Bool} → Taking m line at list i → i < length line → Has list (getD line i 0) q → q ≡ true → v ≡ getD line i 0 → v < 256

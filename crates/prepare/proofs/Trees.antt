@@ -6,62 +6,64 @@ use native.Mathlib.Omega.{arith}
 use lib.ListN.{length, take}
 use lib.Seq.{length-take-le}
 use Rattle.model.specs.Text.{Bytes}
-use Rattle.model.specs.Load.{Macro, templates, load}
-use Rattle.model.specs.Fitting.{Distinct}
+use Rattle.model.specs.Load.{Macro, templates}
 use Rattle.model.specs.Legal.{Lawful, Legal}
 use Rattle.model.specs.Parts.{elems}
 use Rattle.model.proofs.Loading.{brackets, load-legal}
 use Rattle.model.proofs.Nesting.{load-nested}
 use Rattle.model.proofs.Input.{text-short}
+use Rattle.nodes.specs.declared.Node.{Node}
 use Rattle.nodes.specs.Templates.{Represents}
 use Rattle.fit.proofs.Choose.{tree-of}
-use Rattle.tree.specs.Table.{table}
-use Rattle.tree.specs.Built.{Built}
-use Rattle.tree.proofs.Count.{nodes-beginnings}
+use Rattle.tree.specs.Table.{table, Entries}
+use Rattle.tree.specs.Built.{Ready, Built}
 use Rattle.load.specs.declared.Loading.{Loading}
-use Rattle.load.specs.Table.{tableOf, macrosOf, loadedOf, Loads}
-use Rattle.load.proofs.Tables.{macros-templates}
-use Rattle.prepare.specs.Prepares.{HasTree, Prepares}
+use Rattle.load.specs.Table.{macrosOf, loadedOf}
+use Rattle.load.proofs.Tables.{macros-templates, loads-ready}
+use Rattle.prepare.specs.declared.Tables.{Tables}
+use Rattle.prepare.specs.Prepares.{columnsOf, LoadsAll, HasTree, Prepares}
 
-module _ {text starts lens numbers bodies : List ℕ} {r : Loading} (h : Loads (load text) text (tableOf starts lens numbers bodies) r) where
+module _ {text : Bytes} {t : Tables} (h : LoadsAll text t) where
+  abbrev r : Loading
+  r = t .loading
+
   -- the macros, and their templates as the table has them
   abbrev macros : List Macro
-  macros = macrosOf (r .marks) text (tableOf starts lens numbers bodies) (r .count)
+  macros = macrosOf (r .marks) text (columnsOf t) (r .count)
 
   abbrev listed : List Bytes
-  listed = table text starts lens (r .count)
+  listed = table text (t .starts) (t .lens) (r .count)
 
   same : templates macros ≡ listed
-  same = macros-templates (r .marks) text (tableOf starts lens numbers bodies) (r .count)
+  same = macros-templates (r .marks) text (columnsOf t) (r .count)
 
   legal : r .number ≡ 0 → Lawful (r .marks) × Legal (r .marks) macros
-  legal z = load-legal text (loadedOf text (tableOf starts lens numbers bodies) r) (h .loads z)
+  legal z = load-legal text (loadedOf text (columnsOf t) r) (h .loads .loads z)
 
-  -- the tree has as many nodes as loading counted
-  as-many : (rows : List (List ℕ)) (c : ℕ) → r .number ≡ 0 → c ≤ length rows → Built (r .marks) listed (take c rows) → c ≡ r .nodes
-  as-many rows c z u b =
-      let d : Distinct listed = subst Distinct same (legal z .1 .different) in
-      omega (arith, length-take-le c rows u, b .count, nodes-beginnings listed macros same d, h .counted z)
+  -- the tree of what is loaded can be built in a row of 2,048 nodes
+  pub can-build : {row : List Node} → r .number ≡ 0 → 2048 ≤ length row → Entries text (t .starts) (t .lens) (r .count) × Ready (r .marks .placeholder) listed row
+  can-build z u = (h .loads .inside .entries, loads-ready (h .loads) z u)
 
-  -- and it is the tree of the text's templates
-  has-tree : (rows : List (List ℕ)) (c : ℕ) → r .number ≡ 0 → c ≡ r .nodes → c ≤ length rows → Built (r .marks) listed (take c rows)
-      → HasTree text (tableOf starts lens numbers bodies) rows r
-  has-tree rows c z e u b =
-      let x : Built (r .marks) listed (take (r .nodes) rows) = subst (λ (n : ℕ). Built (r .marks) listed (take n rows)) e b in
-      let is : Represents (take (r .nodes) rows) (map (elems (r .marks)) (templates macros)) =
-      subst (λ (ts : List Bytes). Represents (take (r .nodes) rows) (map (elems (r .marks)) ts)) (sym same) (x .represents) in
+  -- what is built is the tree of the text's templates
+  has-tree : (row : List Node) (c : ℕ) → r .number ≡ 0 → c ≤ length row → Built (r .marks) listed (take c row) → HasTree text t row
+  has-tree row c z u b =
+      let is : Represents (take c row) (map (elems (r .marks)) (templates macros)) =
+      subst (λ (ts : List Bytes). Represents (take c row) (map (elems (r .marks)) ts)) (sym same) (b .represents) in
       record {
-        short = text-short text (loadedOf text (tableOf starts lens numbers bodies) r) (h .loads z);
-        root = omega (arith, b .some-node, length-take-le c rows u);
-        within = omega arith;
-        tree = x .tree;
-        fits = tree-of (r .marks) (take (r .nodes) rows) (templates macros) is (legal z .1 .different) (brackets (r .marks) (legal z .0));
-        nested = load-nested text (loadedOf text (tableOf starts lens numbers bodies) r) (h .loads z);
+        short = text-short text (loadedOf text (columnsOf t) r) (h .loads .loads z);
+        fits = record {
+          made = c;
+          stands = record { within = u; tree = b .tree };
+          root = omega (arith, b .some-node, length-take-le c row u);
+          of = tree-of (r .marks) (take c row) (templates macros) is (legal z .1 .different) (brackets (r .marks) (legal z .0));
+        };
+        nested = load-nested text (loadedOf text (columnsOf t) r) (h .loads .loads z);
       }
 
-  pub prepared : {rows : List (List ℕ)} {c : ℕ} → r .number ≡ 0 → (c ≤ length rows) × Built (r .marks) listed (take c rows) → Prepares text (tableOf starts lens numbers bodies) rows r
-  prepared {rows} {c} z (u, b) = record { loads = h; has-tree = λ _. has-tree rows c z (as-many rows c z u b) u b }
+  -- a text that loads
+  pub prepared : {row : List Node} {c : ℕ} → r .number ≡ 0 → (c ≤ length row) × Built (r .marks) listed (take c row) → Prepares text row t
+  prepared {row} {c} z (u, b) = record { all = h; has-tree = λ _. has-tree row c z u b }
 
   -- a text that is refused
-  pub refused : {rows : List (List ℕ)} → ¬ (r .number ≡ 0) → Prepares text (tableOf starts lens numbers bodies) rows r
-  refused f = record { loads = h; has-tree = λ z. absurd (f z) }
+  pub refused : {row : List Node} → ¬ (r .number ≡ 0) → Prepares text row t
+  refused f = record { all = h; has-tree = λ z. absurd (f z) }

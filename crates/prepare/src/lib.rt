@@ -1,47 +1,68 @@
 // A text made ready for fitting its lines and for its expansion: loaded into a table of macros, and its templates' tree built.
-ghost use Prim.Native.Nat.{_≤_, _<_};
+ghost use mathlib.Core.Path.{_≡_};
+ghost use Prim.Native.Nat.{_≤_};
 ghost use lib.ListN.{length};
-ghost use Rattle.model.specs.Load as model-load;
-ghost use Rattle.load.specs.Table.{tableOf, Room, Loads};
-ghost use Rattle.prepare.specs.Prepares.{Prepares};
+ghost use Rattle.prepare.specs.Prepares.{LoadsAll, Prepares};
 use load::Loading;
 use load::load;
+use nodes::Node;
 use tree::build;
 
-// Builds the tree of a text that is loaded into a table of 128 entries.
-fn build_tree(
-    text: &[u8],
-    nodes: &mut [[u16; 6]],
-    starts: &[usize],
-    lens: &[usize],
-    numbers: &[usize],
-    bodies: &[usize],
-    r: Loading,
-) -> Loading
-    requires { ⌜ (2048 ≤ length (now nodes)) × (length (now nodes) < 65536) ⌝ }
-    requires { ⌜ Loads (model-load.load (now text)) (now text) (tableOf (now starts) (now lens) (now numbers) (now bodies)) r ⌝ }
-    ensures { λ q. ⌜ Prepares (now (text .entry)) (tableOf (now (starts .entry)) (now (lens .entry)) (now (numbers .entry)) (now (bodies .entry))) (now (nodes .exit)) q ⌝ }
-{
-    if r.number != 0 {
-        return r;
-    }
-    build(r.marks, text, starts, lens, r.count, nodes);
-    r
+// What loading a text comes to, with the table of its macros: where each template starts, how long it is, the number of its line,
+// and where its body starts.
+pub struct Tables {
+    pub loading: Loading,
+    pub starts: [usize; 128],
+    pub lens: [usize; 128],
+    pub numbers: [usize; 128],
+    pub bodies: [usize; 128],
 }
 
-// Loads a text into a table of 128 entries and builds its tree in a row of nodes. Where the number is 0, the first `nodes` of
-// the row are the tree.
-pub fn prepare(
-    text: &[u8],
-    nodes: &mut [[u16; 6]],
-    starts: &mut [usize],
-    lens: &mut [usize],
-    numbers: &mut [usize],
-    bodies: &mut [usize],
-) -> Loading
-    requires { ⌜ (2048 ≤ length (now nodes)) × (length (now nodes) < 65536) × Room (tableOf (now starts) (now lens) (now numbers) (now bodies)) ⌝ }
-    ensures { λ r. ⌜ Prepares (now (text .entry)) (tableOf (now (starts .exit)) (now (lens .exit)) (now (numbers .exit)) (now (bodies .exit))) (now (nodes .exit)) r ⌝ }
+// Loads a text.
+pub fn load_tables(text: &[u8]) -> Tables
+    ensures { λ r. ⌜ LoadsAll (now (text .entry)) r ⌝ }
 {
-    let r = load(text, starts, lens, numbers, bodies);
-    build_tree(text, nodes, starts, lens, numbers, bodies, r)
+    let mut starts = [0usize; 128];
+    let mut lens = [0usize; 128];
+    let mut numbers = [0usize; 128];
+    let mut bodies = [0usize; 128];
+    let loading = load(text, &mut starts, &mut lens, &mut numbers, &mut bodies);
+    Tables {
+        loading,
+        starts,
+        lens,
+        numbers,
+        bodies,
+    }
+}
+
+// A count as the answers of the public calls have it.
+pub fn widen(n: usize) -> u64
+    ensures { λ r. ⌜ r ≡ n ⌝ }
+{
+    n as u64
+}
+
+// Builds the tree of a text that is loaded; a text that is refused has none.
+fn build_tree(text: &[u8], nodes: &mut [Node], t: Tables)
+    requires { ⌜ (2048 ≤ length (now nodes)) × LoadsAll (now text) t ⌝ }
+    ensures { λ r. ⌜ Prepares (now (text .entry)) (now (nodes .exit)) t ⌝ }
+{
+    let loading = t.loading;
+    if loading.number != 0 {
+        return;
+    }
+    let starts = t.starts;
+    let lens = t.lens;
+    build(loading.marks, text, &starts, &lens, loading.count, nodes);
+}
+
+// Loads a text and builds its tree at the front of a row of nodes.
+pub fn prepare(text: &[u8], nodes: &mut [Node]) -> Tables
+    requires { ⌜ 2048 ≤ length (now nodes) ⌝ }
+    ensures { λ r. ⌜ Prepares (now (text .entry)) (now (nodes .exit)) r ⌝ }
+{
+    let t = load_tables(text);
+    build_tree(text, nodes, t);
+    t
 }

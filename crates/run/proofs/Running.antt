@@ -3,7 +3,7 @@ use mathlib.Core.Path.{_≡_, refl, sym, _∙_, ap, subst}
 use mathlib.Core.Bool.{Bool, true, false, _||_}
 use mathlib.Core.Option.{none}
 use mathlib.Core.List.{List, [], _++_}
-use Prim.Native.Nat.{ℕ, _-_, _≤_}
+use Prim.Native.Nat.{ℕ, _≤_}
 use native.Mathlib.Omega.{arith}
 use lib.Dec.{ltb}
 use lib.ListN.{length, take, drop, take-append-drop}
@@ -16,8 +16,9 @@ use Rattle.model.specs.Load.{Loaded, loaded, load}
 use Rattle.model.specs.Machine.{Next, running, after, initial, Result, outcome, run}
 use Rattle.model.specs.Results.{shortRow, illegal, runText, ranAs}
 use Rattle.model.proofs.Theorems.{run-ends, run-spent, events-counted, spent-used, more-fuel-same, more-fuel-adds}
+use Rattle.nodes.specs.declared.Node.{Node}
 use Rattle.buffer.specs.Written.{Written}
-use Rattle.buffer.proofs.Choices.{false-not-true, when-true, when-false}
+use Rattle.model.proofs.Choices.{when-true, when-false, or-false}
 use Rattle.buffer.proofs.Written.{written-length}
 use Rattle.store.specs.declared.Index.{Index}
 use Rattle.store.specs.Memory.{held, Holds}
@@ -25,10 +26,11 @@ use Rattle.store.specs.List.{Lists}
 use Rattle.state.specs.declared.State.{State}
 use Rattle.state.specs.State.{stateOf, Sound}
 use Rattle.load.specs.declared.Loading.{Loading}
-use Rattle.load.specs.Table.{Table, loadedOf}
+use Rattle.load.specs.Table.{loadedOf}
 use Rattle.load.proofs.Tables.{macros-length, macros-at}
 use Rattle.matching.specs.Book.{Book, Prepared}
-use Rattle.prepare.specs.Prepares.{Prepares}
+use Rattle.prepare.specs.declared.Tables.{Tables}
+use Rattle.prepare.specs.Prepares.{columnsOf, Prepares}
 use Rattle.cycle.specs.declared.Res.{Res}
 use Rattle.cycle.specs.Results.{resultOf}
 use Rattle.cycle.specs.Meets.{Expands}
@@ -38,29 +40,18 @@ use Rattle.run.specs.Inner.{Tests, refusal, Ready, startOf, Ends}
 
 -- ---- the test of fuel and rooms
 
-neither : (a b : Bool) → (a || b) ≡ false → (a ≡ false) × (b ≡ false)
-neither true b e = false-not-true (sym e)
-neither false b e = (refl, e)
-
 pub tested : (fuel rows store : ℕ) → Tests fuel rows store (ltb fuel 1 || (ltb 1000000 fuel || (ltb rows 2048 || ltb store 8704)))
 unfolding illegal shortRow
 tested fuel rows store = record { is = refl; few = λ e. ltb-false _ _ (second e .0); nodes = λ e. ltb-false _ _ (third e .0); room = λ e. ltb-false _ _ (third e .1) }
   where
     second : (ltb fuel 1 || (ltb 1000000 fuel || (ltb rows 2048 || ltb store 8704))) ≡ false → (ltb 1000000 fuel ≡ false) × ((ltb rows 2048 || ltb store 8704) ≡ false)
-    second e = neither _ _ (neither (ltb fuel 1) _ e .1)
+    second e = or-false _ _ (or-false (ltb fuel 1) _ e .1)
 
     third : (ltb fuel 1 || (ltb 1000000 fuel || (ltb rows 2048 || ltb store 8704))) ≡ false → (ltb rows 2048 ≡ false) × (ltb store 8704 ≡ false)
-    third e = neither _ _ (second e .1)
+    third e = or-false _ _ (second e .1)
 
-module _ {fuel rows store : ℕ} {b : Bool} (h : Tests fuel rows store b) (e : b ≡ false) where
-  pub legal-fuel : {f : ℕ} → f ≡ fuel → f ≤ 1000000
-  legal-fuel u = omega (arith, h .few e)
-
-  pub legal-nodes : 2048 ≤ rows
-  legal-nodes = h .nodes e
-
-  pub legal-store : 8704 ≤ store
-  legal-store = h .room e
+pub legal-fuel : {fuel rows store f : ℕ} {b : Bool} → Tests fuel rows store b → b ≡ false → f ≡ fuel → f ≤ 1000000
+legal-fuel h e u = omega (arith, h .few e)
 
 -- ---- the same answer for an equal result
 
@@ -81,10 +72,10 @@ unfolding ranAs
 refused-as e f = λ i. record { number = e i; line = f i; events = 0; output = 0; store = 0 }
 
 -- a text that is refused
-pub refused-runs : {text : Bytes} {t : Table} {rows : List (List ℕ)} {l : Loading} (fuel : ℕ) {output store : Bytes} {r : Ran} → Prepares text t rows l → ¬ (l .number ≡ 0)
-    → r ≡ ranAs (refusal (l .number) (l .line)) → Runs (run fuel (length output) (load text)) output store r output store
+pub refused-runs : {text : Bytes} {row : List Node} {t : Tables} (fuel : ℕ) {output store : Bytes} {r : Ran} → Prepares text row t → ¬ (t .loading .number ≡ 0)
+    → r ≡ ranAs (refusal (t .loading .number) (t .loading .line)) → Runs (run fuel (length output) (load text)) output store r output store
 unfolding run
-refused-runs fuel {output = output} p z e = same-runs (ap (run fuel (length output)) (sym (p .loads .refuses z))) (refuses e)
+refused-runs fuel {output = output} p z e = same-runs (ap (run fuel (length output)) (sym (p .all .loads .refuses z))) (refuses e)
 
 -- illegal arguments
 module _ (fuel rows room : ℕ) (text : Bytes) where
@@ -107,30 +98,29 @@ module _ (fuel rows : ℕ) (text output store : Bytes) {b : Bool} (h : Tests fue
 
 -- ---- a text that is prepared is ready for its expansion
 
-pub ready : {text : Bytes} {t : Table} {rows : List (List ℕ)} {l : Loading} → Prepares text t rows l → length (t .bodies) ≡ 128 → l .number ≡ 0 → Ready text rows (t .bodies) l
-ready {text} {t} {rows} {l} p room z =
+pub ready : {text : Bytes} {row : List Node} {t : Tables} → Prepares text row t → t .loading .number ≡ 0 → Ready text row (t .bodies) (t .loading)
+ready {text} {row} {t} p z =
+    let l = t .loading in
+    let h = p .all .loads in
     let q = p .has-tree z in
-    let count = macros-length (l .marks) text t (l .count) in
-    let at = macros-at (l .marks) text t (l .count) in
+    let count = macros-length (l .marks) text (columnsOf t) (l .count) in
+    let at = macros-at (l .marks) text (columnsOf t) (l .count) in
     record {
-      table = loadedOf text t l;
-      loads = p .loads .loads z;
+      table = loadedOf text (columnsOf t) l;
+      loads = h .loads z;
       book = record {
         marks = refl;
         short = q .short;
-        tree = q .tree;
-        root = omega (arith, length-take-le (l .nodes) rows (q .within), q .root);
         fits = q .fits;
-        as-many = omega (arith, p .loads .inside .few);
-        within = λ k. λ h. p .loads .inside .body k (omega arith);
-        body = λ k. λ h. ap (λ x. x .body) (at k (omega arith));
+        as-many = omega (arith, h .inside .few, p .all .room .bodies);
+        within = λ k. λ lt. h .inside .body k (omega arith);
+        body = λ k. λ lt. ap (λ x. x .body) (at k (omega arith));
         nested = q .nested;
       };
       last = refl;
       input = refl;
-      within = q .within;
-      at = p .loads .input;
-      line = omega (arith, p .loads .read z, p .loads .input, q .short);
+      at = h .input;
+      line = omega (arith, h .read z, h .input, q .short);
     }
 
 -- ---- the expansion of a text that is ready
@@ -144,15 +134,9 @@ ended-as {q} {memory} {store} {store′} {e = e} h u v w x y =
       lists = subst (λ (k : ℕ). Written store (listing (held (q .state .index .count) memory)) k store′) (sym y) (h .is);
     }
 
-module _ {text : Bytes} {rows : List (List ℕ)} {bodies : List ℕ} {l : Loading} (y : Ready text rows bodies l) where
-  -- the code lends the tree as a part from 0 on
-  lent : Book (l .marks) text (take (l .nodes - 0) rows) bodies (y .table)
-  lent =
-      let all : l .nodes - 0 ≡ l .nodes = omega arith in
-      rw all (y .book)
-
-  pub prepared : Prepared (l .marks) text (take (l .nodes - 0) rows) bodies
-  prepared = record { table = y .table; book = lent }
+module _ {text : Bytes} {row : List Node} {bodies : List ℕ} {l : Loading} (y : Ready text row bodies l) where
+  pub prepared : Prepared (l .marks) text row bodies
+  prepared = record { table = y .table; book = y .book }
 
   module _ {x : Index} {fuel : ℕ} {s : State} (is : s ≡ startOf l x fuel) where
     pub starts-within : (s .at ≤ length text) × (s .line ≤ 65536)
@@ -164,18 +148,18 @@ module _ {text : Bytes} {rows : List (List ℕ)} {bodies : List ℕ} {l : Loadin
           subst (λ (z : State). Sound z output memory) (sym is)
           (record { written = omega arith; kept = h .kept; symbols = omega arith; calls = omega arith; total = omega arith })
 
-      module _ {output : Bytes} {q : Res} {output′ memory′ : Bytes} (e : Expands (l .marks) text (take (l .nodes - 0) rows) bodies s output memory q output′ memory′) where
+      module _ {output : Bytes} {q : Res} {output′ memory′ : Bytes} (e : Expands (l .marks) text row bodies s output memory q output′ memory′) where
         begins : _≡_ {A = Next} (running (initial (y .table))) (running (stateOf text none [] (startOf l x fuel) output memory))
         unfolding initial
         begins = λ i. running (record { input = y .input i; line = y .last i; pending = none; frames = []; calls = 0; shared = record { symbols = 0; store = sym (h .is) i; output = [] }; events = 0 })
 
-        expands : Expands (l .marks) text (take (l .nodes - 0) rows) bodies (startOf l x fuel) output memory q output′ memory′
-        expands = subst (λ (z : State). Expands (l .marks) text (take (l .nodes - 0) rows) bodies z output memory q output′ memory′) is e
+        expands : Expands (l .marks) text row bodies (startOf l x fuel) output memory q output′ memory′
+        expands = subst (λ (z : State). Expands (l .marks) text row bodies z output memory q output′ memory′) is e
 
         -- what the run of the loaded text comes to
         whole : resultOf q output′ memory′ ≡ run fuel (length output) (load text)
         unfolding run
-        whole = sym (ap (run fuel (length output)) (y .loads) ∙ ap (λ (z : Next). outcome (after fuel (length output) (y .table) z)) begins ∙ expands .same (y .table) lent)
+        whole = sym (ap (run fuel (length output)) (y .loads) ∙ ap (λ (z : Next). outcome (after fuel (length output) (y .table) z)) begins ∙ expands .same (y .table) (y .book))
 
         pub loaded-runs : {store : Bytes} {r : Ran} {store′ : Bytes} → Ends q memory′ store r store′ → Runs (run fuel (length output) (load text)) output store r output′ store′
         unfolding ranAs

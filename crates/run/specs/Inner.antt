@@ -3,7 +3,7 @@ use mathlib.Core.Path.{_≡_}
 use mathlib.Core.Bool.{Bool, false}
 use mathlib.Core.List.{List, []}
 use Prim.Native.Nat.{ℕ, _≤_}
-use lib.ListN.{length, take, drop}
+use lib.ListN.{length, drop}
 use Rattle.model.specs.declared.Ran.{Ran}
 use Rattle.model.specs.Text.{Bytes, lines}
 use Rattle.model.specs.Store.{listing}
@@ -11,6 +11,7 @@ use Rattle.model.specs.Load.{Loaded, loaded, load}
 use Rattle.model.specs.Machine.{Result}
 use Rattle.model.specs.Results.{illegal}
 use Rattle.buffer.specs.Written.{Written}
+use Rattle.nodes.specs.declared.Node.{Node}
 use Rattle.store.specs.declared.Index.{Index}
 use Rattle.store.specs.Memory.{held}
 use Rattle.state.specs.declared.State.{State}
@@ -29,14 +30,13 @@ pub record Tests (fuel rows store : ℕ) (r : Bool) : Type 0 where
 abbrev pub refusal : ℕ → ℕ → Result
 refusal k n = record { number = k; line = n; events = 0; output = []; store = [] }
 
--- a text is loaded: the first nodes of the row are the tree of its templates, and `bodies` says where their bodies start
-pub record Ready (text : Bytes) (rows : List (List ℕ)) (bodies : List ℕ) (r : Loading) : Type 0 where
+-- a text is loaded: the tree of its templates stands in the row, and `bodies` says where their bodies start
+pub record Ready (text : Bytes) (row : List Node) (bodies : List ℕ) (r : Loading) : Type 0 where
   pub table : Loaded
   pub loads : load text ≡ loaded table
-  pub book : Book (r .marks) text (take (r .nodes) rows) bodies table
+  pub book : Book (r .marks) text row bodies table
   pub last : table .last ≡ r .line
   pub input : table .input ≡ lines (drop (r .input) text)
-  pub within : r .nodes ≤ length rows
   pub at : r .input ≤ length text
   pub line : r .line ≤ 65536
 

@@ -10,7 +10,6 @@ ghost use Rattle.model.specs.Load.{Loaded, loaded};
 ghost use Rattle.model.specs.Machine as Machine;
 ghost use Rattle.model.specs.Results.{illegal, runText, ranAs};
 ghost use Rattle.store.specs.Memory.{Kept, Holds};
-ghost use Rattle.load.specs.Table.{tableOf};
 ghost use Rattle.prepare.specs.Prepares.{Prepares};
 ghost use Rattle.run.specs.Runs.{Runs};
 ghost use Rattle.run.specs.Demands.{FollowsExpansion};
@@ -19,20 +18,16 @@ use cycle::Res;
 use cycle::expand;
 use load::Loading;
 use model::Ran;
+use nodes::Node;
+use prepare::Tables;
 use prepare::prepare;
+use prepare::widen;
 use state::State;
 use store::Index;
 use store::empty;
 use store::listing;
 
-// A number below 2 to the 64.
-fn wide(n: usize) -> u64
-    ensures { λ r. ⌜ r ≡ n ⌝ }
-{
-    n as u64
-}
-
-// The same on the way in.
+// The fuel as the machine counts it.
 fn count_of(n: u64) -> usize
     ensures { λ r. ⌜ r ≡ n ⌝ }
 {
@@ -51,8 +46,8 @@ fn refuse(number: usize, line: usize) -> Ran
     ensures { λ r. ⌜ r ≡ ranAs (refusal number line) ⌝ }
 {
     Ran {
-        number: wide(number),
-        line: wide(line),
+        number: widen(number),
+        line: widen(line),
         events: 0,
         output: 0,
         store: 0,
@@ -83,18 +78,18 @@ fn end(q: Res, memory: &[u8], store: &mut [u8]) -> Ran
     let s = q.state;
     let n = listing(memory, s.index, store);
     Ran {
-        number: wide(q.number),
-        line: wide(s.line),
-        events: wide(s.events),
-        output: wide(s.written),
-        store: wide(n),
+        number: widen(q.number),
+        line: widen(s.line),
+        events: widen(s.events),
+        output: widen(s.written),
+        store: widen(n),
     }
 }
 
 // The run of a text that is loaded.
 fn run_loaded(
     text: &[u8],
-    nodes: &[[u16; 6]],
+    nodes: &[Node],
     bodies: &[usize],
     loading: Loading,
     fuel: usize,
@@ -106,45 +101,34 @@ fn run_loaded(
     requires { ⌜ Ready (now text) (now nodes) (now bodies) loading × Holds (now memory) index [] × (fuel ≤ 1000000) × (8704 ≤ length (now store)) ⌝ }
     ensures { λ r. ⌜ Runs (Machine.run fuel (length (now (output .entry))) (Load.load (now (text .entry)))) (now (output .entry)) (now (store .entry)) r (now (output .exit)) (now (store .exit)) ⌝ }
 {
-    let made = loading.nodes;
     let s = start(loading, index, fuel);
-    let q = expand(
-        loading.marks,
-        text,
-        &nodes[0..made],
-        bodies,
-        output,
-        memory,
-        s,
-    );
+    let q = expand(loading.marks, text, nodes, bodies, output, memory, s);
     end(q, memory, store)
 }
 
 // The run of a text that is prepared, or refused. At first nothing is stored.
 fn run_prepared(
     text: &[u8],
-    nodes: &[[u16; 6]],
-    starts: &[usize],
-    lens: &[usize],
-    numbers: &[usize],
-    bodies: &[usize],
-    loading: Loading,
+    nodes: &[Node],
+    t: Tables,
     fuel: usize,
     output: &mut [u8],
     store: &mut [u8],
 ) -> Ran
-    requires { ⌜ Prepares (now text) (tableOf (now starts) (now lens) (now numbers) (now bodies)) (now nodes) loading × (length (now bodies) ≡ 128) × (fuel ≤ 1000000) × (8704 ≤ length (now store)) ⌝ }
+    requires { ⌜ Prepares (now text) (now nodes) t × (fuel ≤ 1000000) × (8704 ≤ length (now store)) ⌝ }
     ensures { λ r. ⌜ Runs (Machine.run fuel (length (now (output .entry))) (Load.load (now (text .entry)))) (now (output .entry)) (now (store .entry)) r (now (output .exit)) (now (store .exit)) ⌝ }
 {
+    let loading = t.loading;
     if loading.number != 0 {
         return refuse(loading.number, loading.line);
     }
+    let bodies = t.bodies;
     let mut memory = [0u8; 8704];
     let index = empty(&memory);
     run_loaded(
         text,
         nodes,
-        bodies,
+        &bodies,
         loading,
         fuel,
         output,
@@ -154,56 +138,14 @@ fn run_prepared(
     )
 }
 
-// A run with legal fuel and rooms.
-pub fn run_in(
-    text: &[u8],
-    fuel: usize,
-    nodes: &mut [[u16; 6]],
-    output: &mut [u8],
-    store: &mut [u8],
-) -> Ran
-    requires { ⌜ (fuel ≤ 1000000) × (2048 ≤ length (now nodes)) × (length (now nodes) < 65536) × (8704 ≤ length (now store)) ⌝ }
-    ensures { λ r. ⌜ Runs (Machine.run fuel (length (now (output .entry))) (Load.load (now (text .entry)))) (now (output .entry)) (now (store .entry)) r (now (output .exit)) (now (store .exit)) ⌝ }
-{
-    let mut starts = [0usize; 128];
-    let mut lens = [0usize; 128];
-    let mut numbers = [0usize; 128];
-    let mut bodies = [0usize; 128];
-    let loading = prepare(
-        text,
-        nodes,
-        &mut starts,
-        &mut lens,
-        &mut numbers,
-        &mut bodies,
-    );
-    run_prepared(
-        text,
-        nodes,
-        &starts,
-        &lens,
-        &numbers,
-        &bodies,
-        loading,
-        fuel,
-        output,
-        store,
-    )
-}
-
 // Runs a text. No more than 2,048 nodes of the lent row are used; their contents are free.
-pub fn run(
-    text: &[u8],
-    fuel: u64,
-    nodes: &mut [[u16; 6]],
-    output: &mut [u8],
-    store: &mut [u8],
-) -> Ran
+pub fn run(text: &[u8], fuel: u64, nodes: &mut [Node], output: &mut [u8], store: &mut [u8]) -> Ran
     ensures { λ r. ⌜ Runs (runText fuel (length (now (nodes .entry))) (length (now (output .entry))) (length (now (store .entry))) (now (text .entry))) (now (output .entry)) (now (store .entry)) r (now (output .exit)) (now (store .exit)) ⌝ }
     ensures { λ r. ⌜ ((t : Loaded) → Load.load (now (text .entry)) ≡ loaded t → illegal fuel (length (now (nodes .entry))) (length (now (store .entry))) ≡ false → FollowsExpansion t fuel (now (output .entry)) (now (store .entry)) r (now (output .exit)) (now (store .exit))) ⌝ }
 {
     if is_illegal(fuel, nodes.len(), store.len()) {
         return refuse(1, 0);
     }
-    run_in(text, count_of(fuel), &mut nodes[0..2048], output, store)
+    let t = prepare(text, nodes);
+    run_prepared(text, nodes, t, count_of(fuel), output, store)
 }

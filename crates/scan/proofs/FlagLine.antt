@@ -13,10 +13,10 @@ use lib.Seq.{drop-cons}
 use Rattle.model.specs.declared.Marks.{Marks}
 use Rattle.model.specs.Text.{Bytes, part, has, plain, allPlain, distinct, apart, legalMarks, others, legalFlags, marksOf}
 use Rattle.model.specs.Legal.{operators}
+use Rattle.model.proofs.Text.{part-rest}
 use Rattle.scan.specs.declared.Flags.{Flags}
 use Rattle.scan.specs.declared.Flags.the-variants.{Legal, Fault}
 use Rattle.scan.specs.Lines.{Has, PlainByte, AllPlain, AllDiffer, LegalMarks, flagsOf, MarksAt}
-use Rattle.scan.proofs.Lines.{part-rest}
 
 -- ---- a test of each byte and those after it
 

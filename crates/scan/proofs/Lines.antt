@@ -1,65 +1,18 @@
--- Laws of parts of a text, of what precedes a byte, and of the lines and the body that start at a place.
+-- Laws of what precedes a byte, and of the lines and the body that start at a place.
 use mathlib.Core.Path.{_≡_, refl, ap, sym, _∙_}
 use mathlib.Core.Bool.{Bool, true, false}
 use mathlib.Core.List.{List, [], _∷_}
-use Prim.Native.Nat.{ℕ, zero, suc, _+_, _-_, _≤_, _<_}
+use Prim.Native.Nat.{ℕ, suc, _+_, _≤_, _<_}
 use native.Mathlib.Omega.{arith}
 use borrow.Author.Tests.{eqb-true, eqb-false, lt-ltb, eq-eqb, ne-eqb}
 use lib.Dec.{eqb, ltb, leb·suc-suc}
-use lib.ListN.{length, getD, take, drop, length-drop, drop-of-length-le}
-use lib.Seq.{length-take-le, take-all, take-take, drop-cons, drop-drop, take-nil, getD-take, getD-drop}
+use lib.ListN.{length, take, drop, length-drop, drop-of-length-le}
+use lib.Seq.{drop-drop}
 use Rattle.model.specs.declared.Marks.{Marks}
-use Rattle.model.specs.Text.{Bytes, part, has, startsWith, upTo, ontoFirst, lines}
+use Rattle.model.specs.Text.{Bytes, has, startsWith, upTo, ontoFirst, lines}
 use Rattle.model.specs.Load.{bodyOf, bodyAt}
-use Rattle.model.proofs.Nesting.{split}
+use Rattle.model.proofs.Choices.{split}
 use Rattle.scan.specs.Lines.{lineAt}
-
--- ---- parts
-
-pub part-length : (s : Bytes) (a e : ℕ) → e ≤ length s → length (part s a e) ≡ e - a
-part-length s a e h = length-take-le (e - a) (drop a s) (omega (arith, length-drop a s))
-
--- a part that goes to the end
-pub part-rest : (s : Bytes) (a : ℕ) → part s a (length s) ≡ drop a s
-part-rest s a = take-all (length s - a) (drop a s) (omega (arith, length-drop a s))
-
-pub part-whole : (s : Bytes) → part s 0 (length s) ≡ s
-part-whole s = part-rest s 0
-
-pub part-empty : (s : Bytes) (a e : ℕ) → e ≤ a → part s a e ≡ []
-part-empty s a e h = let z : e - a ≡ 0 = omega arith in ap (λ (n : ℕ). take n (drop a s)) z
-
-pub part-cons : (s : Bytes) (a e : ℕ) → a < e → e ≤ length s → part s a e ≡ getD s a 0 ∷ part s (suc a) e
-part-cons s a e h k =
-    let z : e - a ≡ suc (e - suc a) = omega arith in
-    ap (λ (n : ℕ). take n (drop a s)) z ∙ ap (take (suc (e - suc a))) (drop-cons s a 0 (omega arith))
-
--- a part that begins where another does
-pub part-front : (s : Bytes) (a e n : ℕ) → n ≤ e - a → take n (part s a e) ≡ part s a (a + n)
-part-front s a e n h = let z : a + n - a ≡ n = omega arith in take-take n (e - a) (drop a s) h ∙ ap (λ (k : ℕ). take k (drop a s)) (sym z)
-
-drop-take : (b n : ℕ) (l : Bytes) → drop b (take n l) ≡ take (n - b) (drop b l)
-drop-take zero n l = let z : n - 0 ≡ n = omega arith in ap (λ (k : ℕ). take k l) (sym z)
-drop-take (suc b) zero l = let z : 0 - suc b ≡ 0 = omega arith in ap (λ (k : ℕ). take k (drop (suc b) l)) (sym z)
-drop-take (suc b) (suc n) [] = sym (take-nil (suc n - suc b))
-drop-take (suc b) (suc n) (x ∷ l) = let z : suc n - suc b ≡ n - b = omega arith in drop-take b n l ∙ ap (λ (k : ℕ). take k (drop b l)) (sym z)
-
--- a byte of a part
-pub part-at : (s : Bytes) (a e i : ℕ) → i < e - a → getD (part s a e) i 0 ≡ getD s (a + i) 0
-part-at s a e i h = getD-take (e - a) (drop a s) i 0 h ∙ getD-drop a s i 0
-
--- what follows the first bytes of a part
-pub part-drop : (s : Bytes) (a e n : ℕ) → drop n (part s a e) ≡ part s (a + n) e
-part-drop s a e n =
-    let z : e - a - n ≡ e - (a + n) = omega arith in
-    drop-take n (e - a) (drop a s) ∙ ap (take (e - a - n)) (drop-drop n a s) ∙ ap (λ (k : ℕ). take k (drop (a + n) s)) z
-
--- a part of a part
-pub part-part : (s : Bytes) (a e b f : ℕ) → f ≤ e - a → part (part s a e) b f ≡ part s (a + b) (a + f)
-part-part s a e b f h =
-    let z : f - b ≡ a + f - (a + b) = omega arith in
-    ap (take (f - b)) (part-drop s a e b) ∙ take-take (f - b) (e - (a + b)) (drop (a + b) s) (omega arith)
-    ∙ ap (λ (n : ℕ). take n (drop (a + b) s)) z
 
 -- ---- up to a byte
 

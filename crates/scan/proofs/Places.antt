@@ -11,10 +11,10 @@ use lib.ListN.{length, getD, drop, drop-of-length-le}
 use Rattle.model.specs.declared.Marks.{Marks}
 use Rattle.model.specs.Text.{Bytes, part, startsWith, upTo, lines}
 use Rattle.model.specs.Load.{bodyOf, bodyAt}
-use Rattle.model.proofs.Chosen.{clash}
-use Rattle.scan.specs.declared.CodeLine.{CodeLine}
+use Rattle.model.proofs.Choices.{false-not-true}
+use Rattle.model.proofs.Text.{part-length, part-rest, part-whole, part-empty, part-cons, part-take}
 use Rattle.scan.specs.Lines.{lineAt, Found, Has, Begins, LineAt, ContentAt, CodeAt}
-use Rattle.scan.proofs.Lines.{part-length, part-rest, part-whole, part-empty, part-cons, part-front, upTo-stops, upTo-goes-on, upTo-front, upTo-short, has-upTo, lines-at, body-none, body-ends, body-goes-on}
+use Rattle.scan.proofs.Lines.{upTo-stops, upTo-goes-on, upTo-front, upTo-short, has-upTo, lines-at, body-none, body-ends, body-goes-on}
 
 -- ---- find_byte
 
@@ -43,7 +43,7 @@ found-by s from to b r h z =
     record {
       low = h .low;
       high = h .high;
-      is = sym (upTo-front b p ∙ part-front s from to (length (upTo b p)) (omega arith) ∙ ap (part s from) e);
+      is = sym (upTo-front b p ∙ part-take s from to (length (upTo b p)) (omega arith) ∙ ap (part s from) e);
     }
 
 pub found-there : {s : Bytes} {from to b i : ℕ} → Seeking s from to b i → i < to → getD s i 0 ≡ b → Found s from to b i
@@ -82,7 +82,7 @@ begins-inside {text} {at} {end} {b} h e = by (ltb at end) refl
   where
     by : (c : Bool) → ltb at end ≡ c → at + 1 ≤ end
     by true t = omega (arith, ltb-true at end t)
-    by false t = clash (sym (ap (startsWith b) (part-empty text at end (ltb-false at end t))) ∙ sym (h .is) ∙ e)
+    by false t = false-not-true (sym (ap (startsWith b) (part-empty text at end (ltb-false at end t))) ∙ sym (h .is) ∙ e)
 
 -- ---- read_line
 
@@ -133,8 +133,8 @@ code-none m text at h e = record {
   low = omega arith;
   high = omega arith;
   within = h;
-  ahead = λ f. clash f;
-  more = λ f. clash f;
+  ahead = λ f. false-not-true f;
+  more = λ f. false-not-true f;
   still = λ f. refl;
   ended = λ f. e;
 }
@@ -155,10 +155,6 @@ code-more {m} {text} {at} {stop} {end} {next} h g e f = record {
   within = h .within;
   ahead = λ _. h .ahead;
   more = λ _. ap (bodyOf m) (h .is) ∙ body-goes-on m (part text at stop) (lines (drop next text)) (sym (g .is) ∙ e) ∙ ap (λ (l : Bytes). l ∷ bodyAt m text next) (sym (f .is));
-  still = λ q. clash (sym q);
-  ended = λ q. clash (sym q);
+  still = λ q. false-not-true (sym q);
+  ended = λ q. false-not-true (sym q);
 }
-
--- less of the text is left past a code line
-pub code-less : {m : Marks} {text : Bytes} {at : ℕ} {r : CodeLine} → CodeAt m text at r → r .there ≡ true → length text - r .next < length text - at
-code-less h e = omega (arith, h .ahead e, h .within)

@@ -9,6 +9,7 @@ pub struct Got {
     pub length: usize,
 }
 
+// A read that failed.
 fn failed() -> Got
     ensures { λ r. ⌜ r .length ≡ 0 ⌝ }
 {

@@ -10,7 +10,7 @@ use lib.Seq.{take-append-seam, drop-append-seam, drop-append-add, getD-append-ad
 use Rattle.model.specs.Text.{same}
 use Rattle.model.specs.Store.{Store, find, put}
 use Rattle.model.specs.Machine.{orNothing}
-use Rattle.buffer.proofs.Choices.{when-true, when-false}
+use Rattle.model.proofs.Choices.{when-true, when-false}
 use Rattle.buffer.proofs.Same.{same-eq}
 use Rattle.store.specs.Memory.{held, packed, Kept}
 use Rattle.store.specs.Seek.{Heads, placeIn, Placed, isThere, Sees}

@@ -7,7 +7,7 @@ use native.Mathlib.Omega.{arith}
 use lib.ListN.{drop}
 use Rattle.model.specs.Text.{same, part}
 use Rattle.model.specs.Store.{Store}
-use Rattle.buffer.proofs.Choices.{when-true, when-false}
+use Rattle.model.proofs.Choices.{when-true, when-false}
 use Rattle.store.specs.Memory.{held, Kept}
 use Rattle.store.specs.Seek.{Heads, placeIn, Placed}
 use Rattle.store.specs.declared.Index.{Index}

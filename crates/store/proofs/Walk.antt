@@ -3,9 +3,10 @@ use mathlib.Core.Path.{_≡_, sym, ap, ap₂, _∙_}
 use mathlib.Core.List.{List, [], _∷_}
 use Prim.Native.Nat.{ℕ, zero, suc, _+_, _-_, _≤_, _<_}
 use native.Mathlib.Omega.{arith}
-use lib.ListN.{length, getD, take, drop, length-drop}
-use lib.Seq.{drop-cons, drop-drop, length-take-le}
+use lib.ListN.{length, getD, take, drop}
+use lib.Seq.{drop-cons, drop-drop}
 use Rattle.model.specs.Text.{part}
+use Rattle.model.proofs.Text.{part-length}
 use Rattle.store.specs.Memory.{held, extent, Kept}
 use Rattle.store.specs.Seek.{Heads}
 use Rattle.store.specs.declared.Index.{Index}
@@ -71,10 +72,8 @@ passed {m} {count} {left = suc k} {a} {h} w l r =
     let n : getD m a 0 ≡ h .text - h .name = omega arith in
     let t : getD m (a + 1) 0 ≡ h .next - h .text = omega arith in
     let y = r .next in
-    let l1 = length-drop (h .name) m in
-    let l2 = length-drop (h .text) m in
-    let l3 = length-take-le (h .text - h .name) (drop (h .name) m) (omega arith) in
-    let l4 = length-take-le (h .next - h .text) (drop (h .text) m) (omega arith) in
+    let l1 = part-length m (h .name) (h .text) (omega arith) in
+    let l2 = part-length m (h .text) (h .next) (omega arith) in
     record {
       walk = record { within = w .within; bound = ap₂ (λ (i j : ℕ). i + extent j (drop i m)) y (sym z) ∙ f .fits ∙ w .bound };
       entry = f .entry ∙ (λ i. (take (n i) (drop (sym (r .name) i) m), take (t i) (drop (sym (r .text) i) m)) ∷ held (z i) (drop (sym y i) m));

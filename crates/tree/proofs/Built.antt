@@ -6,33 +6,34 @@ use Prim.Native.Nat.{ℕ, zero, suc, _+_, _-_, _≤_, _<_}
 use native.Mathlib.Omega.{arith}
 use lib.Dec.{eqb}
 use lib.ListN.{length, getD, take, length-map, List·getD-eq-default}
-use lib.Seq.{length-take-le, getD-take}
+use lib.Seq.{length-take-le}
 use borrow.Author.Tests.{eq-eqb, ne-eqb}
 use Rattle.model.specs.declared.Marks.{Marks}
 use Rattle.model.specs.Text.{Bytes}
-use Rattle.model.specs.Load.{Macro, templates, nodes}
 use Rattle.model.specs.Parts.{Elem, stop, elems}
-use Rattle.model.specs.Fitting.{Distinct}
-use Rattle.model.specs.Legal.{Legal}
-use Rattle.nodes.specs.Rows.{field, elem, code, height, holes, Child, Tree}
+use Rattle.nodes.specs.declared.Node.{Node}
+use Rattle.nodes.specs.Rows.{noNode, elem, code, firstOf, countOf, templateOf, height, holes, Child, Tree}
+use Rattle.nodes.proofs.Rows.{front-node}
 use Rattle.nodes.specs.Templates.{Begins}
 use Rattle.nodes.proofs.Templates.{represents}
 use Rattle.tree.specs.Count.{known, beginnings}
 use Rattle.tree.specs.Keys.{keys, codeOf, Share, one, cnt, holed}
 use Rattle.tree.specs.Nodes.{columns, Half, Made}
 use Rattle.tree.specs.Built.{Ready, order, Built}
-use Rattle.tree.proofs.Count.{nodes-beginnings}
 use Rattle.tree.proofs.Keys.{code-hole, code-inj, lt-or, cnt-more, cnt-same, key-bound, key-ends, holes-most}
 use Rattle.tree.proofs.Known.{templates-known}
-use Rattle.tree.proofs.Nodes.{stem, carry-all}
+use Rattle.tree.proofs.Nodes.{Agree, stem, carry-all}
 use Rattle.tree.proofs.Room.{bound}
 use Rattle.tree.proofs.Elements.{elemOf, code-elem, order-code, elem-code-inj, elem-inj, begin, begin-at, begin-zero, begin-suc, begin-length, begin-share, begin-on, whole, map-at}
 use Rattle.tree.proofs.Exact.{at-end, goes-on, at-least}
 
-module _ (f : ℕ → ℕ → ℕ) (len : ℕ → ℕ) (n : ℕ) (rows : List (List ℕ)) (half : Half f len n (columns rows) (length rows) (length rows) (length rows) 0) where
-  -- past the row every field is 0
-  past : (i k : ℕ) → length rows ≤ i → field rows i k ≡ 0
-  past i k le = rw (List·getD-eq-default rows [] le) refl
+module _ (f : ℕ → ℕ → ℕ) (len : ℕ → ℕ) (n : ℕ) (rows : List Node) (half : Half f len n (columns rows) (length rows) (length rows) (length rows) 0) where
+  -- past the row are nodes of zeroes
+  past : (i : ℕ) → length rows ≤ i → getD rows i noNode ≡ noNode
+  past i le = List·getD-eq-default rows noNode le
+
+  no-children : (i : ℕ) → length rows ≤ i → firstOf rows i + countOf rows i ≡ 0
+  no-children i le = ap (λ (x : Node). x .first + x .count) (past i le)
 
   -- what is known of a child
   record Kid (i j : ℕ) : Type 0 where
@@ -40,14 +41,14 @@ module _ (f : ℕ → ℕ → ℕ) (len : ℕ → ℕ) (n : ℕ) (rows : List (L
     pub after : i < j
     pub in-row : j < length rows
     pub open-parent : elem rows i ≡ 0 → ⊥
-    pub shared : Share f (field rows j 3) (field rows i 3) (201 - height rows i)
+    pub shared : Share f (templateOf rows j) (templateOf rows i) (201 - height rows i)
     pub below : height rows j + 1 ≡ height rows i
     pub deep : height rows i ≤ 201
-    pub element : elem rows j ≡ codeOf (f (field rows j 3) (201 - height rows i))
+    pub element : elem rows j ≡ codeOf (f (templateOf rows j) (201 - height rows i))
 
   kid-of : (i j : ℕ) → Child rows i j → Kid i j
   kid-of i j ch =
-      let u : i < length rows = ⊎-elim (λ q. q) (λ q. absurd (omega (arith, ch .0, ch .1, past i 1 q, past i 2 q))) (lt-or i (length rows)) in
+      let u : i < length rows = ⊎-elim (λ q. q) (λ q. absurd (omega (arith, ch .0, ch .1, no-children i q))) (lt-or i (length rows)) in
       let d = half .done i u in
       let ne : elem rows i ≡ 0 → ⊥ = λ z. omega (arith, ch .0, ch .1, d .none z) in
       let v : j < length rows = omega (arith, ch .1, d .in-row) in
@@ -62,37 +63,37 @@ module _ (f : ℕ → ℕ → ℕ) (len : ℕ → ℕ) (n : ℕ) (rows : List (L
         shared = k .0;
         below = k .1;
         deep = omega (arith, k .1, x .deep);
-        element = x .element ∙ ap (λ (m : ℕ). codeOf (f (field rows j 3) m)) z;
+        element = x .element ∙ ap (λ (m : ℕ). codeOf (f (templateOf rows j) m)) z;
       }
 
   -- a child has the placeholders of its parent, and its own
-  holes-step : (i j : ℕ) → Kid i j → holes rows j ≡ holes rows i + one (eqb (f (field rows j 3) (201 - height rows i)) 257)
+  holes-step : (i j : ℕ) → Kid i j → holes rows j ≡ holes rows i + one (eqb (f (templateOf rows j) (201 - height rows i)) 257)
   holes-step i j k =
-      let t = field rows j 3 in
+      let t = templateOf rows j in
       let d = 201 - height rows i in
       let x = half .node j (omega (arith, k .after)) (k .in-row) in
       let s = stem f len n (columns rows) (length rows) (length rows) (length rows) 0 half i (k .parent-in) in
       let z : 201 - height rows j ≡ d + 1 = omega (arith, k .below, k .deep) in
       x .placed ∙ ap (cnt (holed f t)) z ∙ cnt-more (holed f t) d
-      ∙ ap (λ (m : ℕ). m + one (eqb (f t d) 257)) (cnt-same (holed f t) (holed f (field rows i 3)) d (λ y v. ap (λ (m : ℕ). eqb m 257) (k .shared y v)) ∙ sym (s .placed))
+      ∙ ap (λ (m : ℕ). m + one (eqb (f t d) 257)) (cnt-same (holed f t) (holed f (templateOf rows i)) d (λ y v. ap (λ (m : ℕ). eqb m 257) (k .shared y v)) ∙ sym (s .placed))
 
   pub is-tree : ((k x : ℕ) → k < n → cnt (holed f k) x ≤ 9) → Tree rows
   is-tree nine = record {
-    children-within = λ i. ⊎-elim (λ u. half .done i u .in-row) (λ u. omega (arith, past i 1 u, past i 2 u)) (lt-or i (length rows));
+    children-within = λ i. ⊎-elim (λ u. half .done i u .in-row) (λ u. omega (arith, no-children i u)) (lt-or i (length rows));
     lower = λ i j ch. omega (arith, kid-of i j ch .below);
     one-hole = λ i j ch e.
         let k = kid-of i j ch in
-        let q : f (field rows j 3) (201 - height rows i) ≡ 257 = code-inj _ 257 (sym (k .element) ∙ e ∙ code-hole 257 refl) in
+        let q : f (templateOf rows j) (201 - height rows i) ≡ 257 = code-inj _ 257 (sym (k .element) ∙ e ∙ code-hole 257 refl) in
         holes-step i j k ∙ rw (eq-eqb _ _ q) refl;
     no-hole = λ i j ch e.
         let k = kid-of i j ch in
         holes-step i j k ∙ rw (ne-eqb _ _ (λ q. e (k .element ∙ sym (code-hole _ q)))) (omega arith);
-    nine = λ i. ⊎-elim (λ u. few i u) (λ u. omega (arith, past i 5 u)) (lt-or i (length rows));
+    nine = λ i. ⊎-elim (λ u. few i u) (λ u. omega (arith, ap (λ (x : Node). x .holes) (past i u))) (lt-or i (length rows));
   }
     where
       few : (i : ℕ) → i < length rows → holes rows i ≤ 9
       few zero u = omega (arith, half .root .3)
-      few (suc i) u = let x = half .node (suc i) (omega arith) u in omega (arith, x .placed, nine (field rows (suc i) 3) (201 - height rows (suc i)) (x .known))
+      few (suc i) u = let x = half .node (suc i) (omega arith) u in omega (arith, x .placed, nine (templateOf rows (suc i)) (201 - height rows (suc i)) (x .known))
 
   pub is-ordered : (i j l : ℕ) → Child rows i j → Child rows i l → j < l → order (elem rows j) < order (elem rows l)
   is-ordered i j l a b u =
@@ -102,7 +103,7 @@ module _ (f : ℕ → ℕ → ℕ) (len : ℕ → ℕ) (n : ℕ) (rows : List (L
 
   -- the beginning of a node
   pub pre : ℕ → List Elem
-  pre i = begin f (field rows i 3) (201 - height rows i)
+  pre i = begin f (templateOf rows i) (201 - height rows i)
 
   -- each node but the root is a child
   pub has-parent : (j : ℕ) → 0 < j → j < length rows → (i : ℕ) × (i < j) × Child rows i j
@@ -114,42 +115,42 @@ module _ (f : ℕ → ℕ → ℕ) (len : ℕ → ℕ) (n : ℕ) (rows : List (L
   all-distinct i j u v e =
       let si = stem f len n (columns rows) (length rows) (length rows) (length rows) 0 half i (omega arith) in
       let sj = stem f len n (columns rows) (length rows) (length rows) (length rows) 0 half j v in
-      let d : 201 - height rows i ≡ 201 - height rows j = sym (begin-length f (field rows i 3) (201 - height rows i)) ∙ ap length e ∙ begin-length f (field rows j 3) (201 - height rows j) in
+      let d : 201 - height rows i ≡ 201 - height rows j = sym (begin-length f (templateOf rows i) (201 - height rows i)) ∙ ap length e ∙ begin-length f (templateOf rows j) (201 - height rows j) in
       let h : height rows i ≡ height rows j = omega (arith, d, si .high, sj .high) in
-      let s : (x : ℕ) → x < 201 - height rows i → f (field rows i 3) x ≡ f (field rows j 3) x =
-      λ x w. elem-inj _ _ (sym (begin-at f (field rows i 3) (201 - height rows i) x w) ∙ ap (λ (l : List Elem). getD l x stop) e ∙ begin-at f (field rows j 3) (201 - height rows j) x (omega (arith, d))) in
-      ⊎-elim (λ a. sj .first (field rows i 3) a (λ x w. s x (omega (arith, d))))
-      (λ a. ⊎-elim (λ b. si .first (field rows j 3) b (λ x w. sym (s x w))) (λ b. half .distinct i j u v (omega arith) h) (lt-or (field rows j 3) (field rows i 3))) (lt-or (field rows i 3) (field rows j 3))
+      let s : (x : ℕ) → x < 201 - height rows i → f (templateOf rows i) x ≡ f (templateOf rows j) x =
+      λ x w. elem-inj _ _ (sym (begin-at f (templateOf rows i) (201 - height rows i) x w) ∙ ap (λ (l : List Elem). getD l x stop) e ∙ begin-at f (templateOf rows j) (201 - height rows j) x (omega (arith, d))) in
+      ⊎-elim (λ a. sj .first (templateOf rows i) a (λ x w. s x (omega (arith, d))))
+      (λ a. ⊎-elim (λ b. si .first (templateOf rows j) b (λ x w. sym (s x w))) (λ b. half .distinct i j u v (omega arith) h) (lt-or (templateOf rows j) (templateOf rows i))) (lt-or (templateOf rows i) (templateOf rows j))
 
   module _ (bounded : (k x : ℕ) → f k x < 258) (ends : (k x : ℕ) → f k x ≡ 256 → len k ≤ x)
       (ts : List (List Elem)) (size : length ts ≡ n) (at : (k : ℕ) → k < n → getD ts k [] ≡ begin f k (suc (len k))) where
     pub is-begins : Begins rows ts pre
     unfolding pre
     is-begins = record {
-      root-empty = rw (half .root .1) (begin-zero f (field rows 0 3));
+      root-empty = rw (half .root .1) (begin-zero f (templateOf rows 0));
       child-after = λ i j ch. omega (arith, kid-of i j ch .after);
       one-more = λ i j e ch q.
           let k = kid-of i j ch in
           let d = 201 - height rows i in
           let z : 201 - height rows j ≡ suc d = omega (arith, k .below, k .deep) in
-          ap (begin f (field rows j 3)) z ∙ begin-suc f (field rows j 3) d
-          ∙ ap (λ (l : List Elem). l ++ elemOf (f (field rows j 3) d) ∷ []) (begin-share f (field rows j 3) (field rows i 3) d (k .shared))
-          ∙ ap (λ (x : Elem). begin f (field rows i 3) d ++ x ∷ []) (elem-code-inj _ e (code-elem (f (field rows j 3) d) ∙ sym (k .element) ∙ q));
+          ap (begin f (templateOf rows j)) z ∙ begin-suc f (templateOf rows j) d
+          ∙ ap (λ (l : List Elem). l ++ elemOf (f (templateOf rows j) d) ∷ []) (begin-share f (templateOf rows j) (templateOf rows i) d (k .shared))
+          ∙ ap (λ (x : Elem). begin f (templateOf rows i) d ++ x ∷ []) (elem-code-inj _ e (code-elem (f (templateOf rows j) d) ∙ sym (k .element) ∙ q));
       every = λ i e es u h.
           let (k, kn, q) = h in
           let kb : k < n = omega (arith, size) in
-          let (lt, s, x) = begin-on f k (suc (len k)) (field rows i 3) (201 - height rows i) e es (sym (at k kb) ∙ q) in
+          let (lt, s, x) = begin-on f k (suc (len k)) (templateOf rows i) (201 - height rows i) e es (sym (at k kb) ∙ q) in
           let (j, lo, hi, y) = half .done i u .run (goes-on f len n rows half ends i k u s lt) .full k kb s (bounded k (201 - height rows i)) in
           (j, (lo, hi), kid-of i j (lo, hi) .element ∙ ap codeOf y ∙ sym (code-elem (f k (201 - height rows i))) ∙ ap code x);
       number = λ j z u e.
           let x = half .node j z u in
-          let g : suc (len (field rows j 3)) ≡ 201 - height rows j = omega (arith, x .deep, x .live, ends _ _ (at-end f len n rows half ends j z u e)) in
-          (omega (arith, size, x .known), at (field rows j 3) (x .known) ∙ ap (begin f (field rows j 3)) g);
+          let g : suc (len (templateOf rows j)) ≡ 201 - height rows j = omega (arith, x .deep, x .live, ends _ _ (at-end f len n rows half ends j z u e)) in
+          (omega (arith, size, x .known), at (templateOf rows j) (x .known) ∙ ap (begin f (templateOf rows j)) g);
       no-empty = λ k u q. omega (arith, ap length q, ap length (at k (omega (arith, size))), begin-length f k (suc (len k)));
     }
 
 -- the first r nodes of the row that was lent
-pub is-built : (m : Marks) (ts : List Bytes) (first rows : List (List ℕ)) (at : List ℕ) (r : ℕ) → Ready (m .placeholder) ts first → r ≤ length rows
+is-built : (m : Marks) (ts : List Bytes) (first rows : List Node) (at : List ℕ) (r : ℕ) → Ready (m .placeholder) ts first → r ≤ length rows
     → Made (m .placeholder) ts rows at r r → Built m ts (take r rows)
 is-built m ts first rows at r ready le h =
     let small = h .bytes in
@@ -159,8 +160,16 @@ is-built m ts first rows at r ready le h =
     let n = length ts in
     let made = take r rows in
     let z : length made ≡ r = length-take-le r rows le in
-    let same : (k j : ℕ) → j < r → field made j k ≡ field rows j k = λ k j u. ap (λ (l : List ℕ). getD l k 0) (getD-take r rows j [] u) in
-    let h0 = carry-all f len n (columns rows) (columns made) r (record { template = same 3; height = same 4; element = same 0; holes = same 5; first = same 1; number = same 2 }) (h .half) in
+    let same : (g : Node → ℕ) (j : ℕ) → j < r → g (getD made j noNode) ≡ g (getD rows j noNode) = λ g j u. ap g (front-node rows r j u) in
+    let agree : Agree f len n (columns rows) (columns made) r r = record {
+      template = same (λ x. x .template);
+      height = same (λ x. x .height);
+      element = same (λ x. x .element);
+      holes = same (λ x. x .holes);
+      first = same (λ x. x .first);
+      number = same (λ x. x .count);
+    } in
+    let h0 = carry-all f len n (columns rows) (columns made) r agree (h .half) in
     let half : Half f len n (columns made) (length made) (length made) (length made) 0 = subst (λ (x : ℕ). Half f len n (columns made) x x x 0) (sym z) h0 in
     let old = templates-known p ts small in
     let bounded : (k x : ℕ) → f k x < 258 = λ k x. key-bound p (getD ts k []) x (small k) in
@@ -178,28 +187,13 @@ is-built m ts first rows at r ready le h =
       count = omega (arith, bound f len (known ts) n old (columns made) (length made) (length made) (length made) 0 half, at-least f len (known ts) n old made half bounded ends);
     }
 
+-- and they stand in it
+pub built-in-row : (m : Marks) {ts : List Bytes} {first rows : List Node} {at : List ℕ} {r : ℕ} → Ready (m .placeholder) ts first → length rows ≡ length first
+    → (r ≤ suc (beginnings ts)) × Made (m .placeholder) ts rows at r r → (r ≤ length rows) × Built m ts (take r rows)
+built-in-row m {ts} {first} {rows} {at} {r} ready e (le, h) =
+    let u : r ≤ length rows = omega (arith, ready .room) in
+    (u, is-built m ts first rows at r ready u h)
+
 -- a row of the same length is as ready
-pub ready-kept : {p : ℕ} {ts : List Bytes} {rows rows′ : List (List ℕ)} → Ready p ts rows → length rows′ ≡ length rows → Ready p ts rows′
-ready-kept h e = record { few = h .few; short = h .short; nine = h .nine; room = omega (arith, h .room); small = omega (arith, h .small) }
-
--- ---- for callers
-
--- a row with room for the model's nodes has room for the tree
-pub room-from-nodes : (ts : List Bytes) (ms : List Macro) (rows : List (List ℕ)) → templates ms ≡ ts → Distinct ts → nodes ms ≤ length rows → suc (beginnings ts) ≤ length rows
-room-from-nodes ts ms rows e d u = omega (arith, nodes-beginnings ts ms e d)
-
-templates-length : (ms : List Macro) → length (templates ms) ≡ length ms
-unfolding templates
-templates-length [] = refl
-templates-length (x ∷ ms) = ap suc (templates-length ms)
-
--- the templates of legal macros are ready for a row of 2,048 nodes
-pub legal-ready : (m : Marks) (ms : List Macro) (ts : List Bytes) (rows : List (List ℕ)) → Legal m ms → templates ms ≡ ts → 2048 ≤ length rows → length rows < 65536
-    → Ready (m .placeholder) ts rows
-legal-ready m ms ts rows h e u v = subst (λ (l : List Bytes). Ready (m .placeholder) l rows) e (record {
-  few = rw (templates-length ms) (h .few);
-  short = h .short;
-  nine = h .nine;
-  room = room-from-nodes (templates ms) ms rows refl (h .different) (omega (arith, h .tree));
-  small = v;
-})
+pub ready-kept : {p : ℕ} {ts : List Bytes} {rows rows′ : List Node} → Ready p ts rows → length rows′ ≡ length rows → Ready p ts rows′
+ready-kept h e = record { few = h .few; short = h .short; nine = h .nine; room = omega (arith, h .room); small = h .small }

@@ -5,7 +5,8 @@ use mathlib.Core.Logic.{_⊎_, inl, inr, ⊎-elim}
 use Prim.Native.Nat.{ℕ, zero, suc, _+_, _-_, _≤_, _<_}
 use native.Mathlib.Omega.{arith}
 use lib.ListN.{length}
-use Rattle.nodes.specs.Rows.{field, elem, height}
+use Rattle.nodes.specs.declared.Node.{Node}
+use Rattle.nodes.specs.Rows.{elem, templateOf, height}
 use Rattle.tree.specs.Count.{sum}
 use Rattle.tree.specs.Keys.{Share}
 use Rattle.tree.specs.Nodes.{columns, Half}
@@ -22,49 +23,49 @@ locate len old (suc n) r u =
     (λ a. (n, omega arith, old n + (r - sum (λ k. suc (len k) - old k) n), omega arith, omega arith, omega arith))
     (lt-or r (sum (λ k. suc (len k) - old k) n))
 
-module _ (f : ℕ → ℕ → ℕ) (len : ℕ → ℕ) (n : ℕ) (rows : List (List ℕ)) (half : Half f len n (columns rows) (length rows) (length rows) (length rows) 0) (ends : (k x : ℕ) → f k x ≡ 256 → len k ≤ x) where
+module _ (f : ℕ → ℕ → ℕ) (len : ℕ → ℕ) (n : ℕ) (rows : List Node) (half : Half f len n (columns rows) (length rows) (length rows) (length rows) 0) (ends : (k x : ℕ) → f k x ≡ 256 → len k ≤ x) where
   -- an end is the end of its template
-  pub at-end : (j : ℕ) → 0 < j → j < length rows → elem rows j ≡ 0 → f (field rows j 3) (200 - height rows j) ≡ 256
+  pub at-end : (j : ℕ) → 0 < j → j < length rows → elem rows j ≡ 0 → f (templateOf rows j) (200 - height rows j) ≡ 256
   at-end j z u e = code-inj _ 256 (sym (half .node j z u .element) ∙ e ∙ code-end 256 refl)
 
   -- a node whose beginning the template t has is no end, while t goes on
-  pub goes-on : (j t : ℕ) → j < length rows → Share f t (field rows j 3) (201 - height rows j) → 201 - height rows j < suc (len t) → ¬ (elem rows j ≡ 0)
+  pub goes-on : (j t : ℕ) → j < length rows → Share f t (templateOf rows j) (201 - height rows j) → 201 - height rows j < suc (len t) → ¬ (elem rows j ≡ 0)
   goes-on zero t u s lt e = omega (arith, half .root .2)
   goes-on (suc j) t u s lt e =
       let x = half .node (suc j) (omega arith) u in
       omega (arith, x .deep, ends t (200 - height rows (suc j)) (s (200 - height rows (suc j)) (omega (arith, x .deep)) ∙ at-end (suc j) (omega arith) u e))
 
-module _ (f : ℕ → ℕ → ℕ) (len old : ℕ → ℕ) (n : ℕ) (known : Known f len old n) (rows : List (List ℕ)) (half : Half f len n (columns rows) (length rows) (length rows) (length rows) 0)
+module _ (f : ℕ → ℕ → ℕ) (len old : ℕ → ℕ) (n : ℕ) (known : Known f len old n) (rows : List Node) (half : Half f len n (columns rows) (length rows) (length rows) (length rows) 0)
     (bounded : (k x : ℕ) → f k x < 258) (ends : (k x : ℕ) → f k x ≡ 256 → len k ≤ x) where
   -- each beginning of a template has a node
-  node-for : (t d : ℕ) → t < n → d ≤ suc (len t) → (j : ℕ) × (j < length rows) × (201 - height rows j ≡ d) × Share f (field rows j 3) t d
+  node-for : (t d : ℕ) → t < n → d ≤ suc (len t) → (j : ℕ) × (j < length rows) × (201 - height rows j ≡ d) × Share f (templateOf rows j) t d
   node-for t zero u le = (0, half .some-node, omega (arith, half .root .1), λ x v. absurd (omega arith))
   node-for t (suc d) u le =
       let (j, v, z, s) = node-for t d u (omega arith) in
-      let s′ : Share f (field rows j 3) t (201 - height rows j) = λ x w. s x (omega (arith, z)) in
+      let s′ : Share f (templateOf rows j) t (201 - height rows j) = λ x w. s x (omega (arith, z)) in
       let h = half .done j v in
       let r = h .run (goes-on f len n rows half ends j t v (λ x w. sym (s′ x w)) (omega (arith, z))) in
       let (m, lo, hi, e) = r .full t u (λ x w. sym (s′ x w)) (bounded t (201 - height rows j)) in
       let k = r .kid m lo hi in
-      let e′ : f (field rows m 3) d ≡ f t d = subst (λ (y : ℕ). f (field rows m 3) y ≡ f t y) z e in (
+      let e′ : f (templateOf rows m) d ≡ f t d = subst (λ (y : ℕ). f (templateOf rows m) y ≡ f t y) z e in (
         m,
         omega (arith, hi, h .in-row),
         omega (arith, k .1, z, half .node m (omega (arith, lo, h .after)) (omega (arith, hi, h .in-row)) .deep),
-        λ x w. share-more f (field rows m 3) t d (λ y a. k .0 y (omega (arith, z)) ∙ s y a) e′ x (omega arith),
+        λ x w. share-more f (templateOf rows m) t d (λ y a. k .0 y (omega (arith, z)) ∙ s y a) e′ x (omega arith),
       )
 
   abbrev new : ℕ → ℕ
   new k = suc (len k) - old k
 
   -- each new beginning has its own
-  ranked : (r : ℕ) → r < sum new n → (j : ℕ) × (0 < j) × (j < length rows) × (sum new (field rows j 3) + (200 - height rows j - old (field rows j 3)) ≡ r)
+  ranked : (r : ℕ) → r < sum new n → (j : ℕ) × (0 < j) × (j < length rows) × (sum new (templateOf rows j) + (200 - height rows j - old (templateOf rows j)) ≡ r)
   ranked r u =
       let (t, a, x, lo, hi, q) = locate len old n r u in
       let (j, v, z, s) = node-for t (suc x) a (omega arith) in
       let p : 0 < j = positive j z in
       let w = half .node j p v in
-      let same : field rows j 3 ≡ t = ⊎-elim (λ y. absurd (omega (arith, known .upper t (field rows j 3) (suc x) a y (omega arith) (share-sym f (field rows j 3) t (suc x) s))))
-      (λ y. ⊎-elim (λ c. absurd (w .first t c (λ i k. sym (s i (omega (arith, z)))))) (λ c. omega arith) (lt-or t (field rows j 3))) (lt-or (field rows j 3) t) in
+      let same : templateOf rows j ≡ t = ⊎-elim (λ y. absurd (omega (arith, known .upper t (templateOf rows j) (suc x) a y (omega arith) (share-sym f (templateOf rows j) t (suc x) s))))
+      (λ y. ⊎-elim (λ c. absurd (w .first t c (λ i k. sym (s i (omega (arith, z)))))) (λ c. omega arith) (lt-or t (templateOf rows j))) (lt-or (templateOf rows j) t) in
       let d : 200 - height rows j ≡ x = omega (arith, z) in
       (j, p, v, subst (λ (m : ℕ). sum new m + (200 - height rows j - old m) ≡ r) (sym same) (ap (λ (y : ℕ). sum new t + (y - old t)) d ∙ q))
     where
@@ -78,12 +79,12 @@ module _ (f : ℕ → ℕ → ℕ) (len old : ℕ → ℕ) (n : ℕ) (known : Kn
   place r (inr u) = 0
 
   place-node : (r : ℕ) (s : (r < sum new n) ⊎ (sum new n ≤ r)) → r < sum new n
-      → (place r s + 1 < length rows) × (sum new (field rows (place r s + 1) 3) + (200 - height rows (place r s + 1) - old (field rows (place r s + 1) 3)) ≡ r)
+      → (place r s + 1 < length rows) × (sum new (templateOf rows (place r s + 1)) + (200 - height rows (place r s + 1) - old (templateOf rows (place r s + 1))) ≡ r)
   unfolding place
   place-node r (inl u) v =
       let w = ranked r u in
       let z : w .0 - 1 + 1 ≡ w .0 = omega (arith, w .1) in
-      subst (λ (j : ℕ). (j < length rows) × (sum new (field rows j 3) + (200 - height rows j - old (field rows j 3)) ≡ r)) (sym z) (w .2, w .3)
+      subst (λ (j : ℕ). (j < length rows) × (sum new (templateOf rows j) + (200 - height rows j - old (templateOf rows j)) ≡ r)) (sym z) (w .2, w .3)
   place-node r (inr u) v = absurd (omega arith)
 
   pub at-least : suc (sum (λ k. suc (len k) - old k) n) ≤ length rows
@@ -92,5 +93,5 @@ module _ (f : ℕ → ℕ → ℕ) (len old : ℕ → ℕ) (n : ℕ) (known : Kn
       let p = pigeon (sum new n) (length rows - 1) g
       (λ r u. omega (arith, place-node r (lt-or r (sum new n)) u .0))
       (λ r s u v e. let a = place-node r (lt-or r (sum new n)) (omega arith) .1 in let b = place-node s (lt-or s (sum new n)) v .1 in
-      omega (arith, a, b, ap (λ (j : ℕ). sum new (field rows (j + 1) 3) + (200 - height rows (j + 1) - old (field rows (j + 1) 3))) e)) in
+      omega (arith, a, b, ap (λ (j : ℕ). sum new (templateOf rows (j + 1)) + (200 - height rows (j + 1) - old (templateOf rows (j + 1)))) e)) in
       omega (arith, p, half .some-node)

@@ -14,7 +14,7 @@ use borrow.Author.Tests.{eqb-true, eqb-false, eq-eqb, ne-eqb, ltb-true, ltb-fals
 use Rattle.model.specs.Text.{Bytes, part}
 use Rattle.model.specs.Load.{count}
 use Rattle.tree.specs.Keys.{Small, pick, byteKey, keyOf, codeOf, Share, one, cnt, Key}
-use Rattle.tree.proofs.Matching.{part-length}
+use Rattle.model.proofs.Text.{part-long}
 
 -- keys and their numbers
 pub code-end : (k : ℕ) → k ≡ 256 → 0 ≡ codeOf k
@@ -93,7 +93,7 @@ module _ (p : ℕ) (text : Bytes) (s l x : ℕ) (inside : s + l ≤ length text)
   part-at u = getD-take (s + l - s) (drop s text) x 0 (omega arith) ∙ getD-drop s text x 0
 
   part-key : x < l → keyOf p (part text s (s + l)) x ≡ byteKey p (getD text (s + x) 0)
-  part-key u = key-in p (part text s (s + l)) x (omega (arith, part-length text s l inside)) ∙ ap (byteKey p) (part-at u)
+  part-key u = key-in p (part text s (s + l)) x (omega (arith, part-long text s l inside)) ∙ ap (byteKey p) (part-at u)
 
   pub key-hole : x < l → getD text (s + x) 0 ≡ p → Key p (part text s (s + l)) x 257
   key-hole u e = record { is = byte-hole p _ e ∙ sym (part-key u); small = omega arith }
@@ -102,7 +102,7 @@ module _ (p : ℕ) (text : Bytes) (s l x : ℕ) (inside : s + l ≤ length text)
   key-byte u e b = record { is = byte-plain p _ e ∙ sym (part-key u); small = omega arith }
 
   pub key-end : l ≤ x → Key p (part text s (s + l)) x 256
-  key-end u = record { is = sym (key-past p (part text s (s + l)) x (omega (arith, part-length text s l inside))); small = omega arith }
+  key-end u = record { is = sym (key-past p (part text s (s + l)) x (omega (arith, part-long text s l inside))); small = omega arith }
 
 -- of bytes: no key is past the placeholder's, none but the end's is 256, and bytes differ where their keys do
 module _ (p b : ℕ) (small : b < 256) where

@@ -5,27 +5,12 @@ use Prim.Native.Nat.{ℕ, suc, _+_, _-_, _≤_, _<_, max}
 use native.Mathlib.Omega.{arith}
 use native.Mathlib.Numerals.{add-one}
 use borrow.Author.Tests.{eq-eqb, ne-eqb}
-use lib.ListN.{length, getD, take, drop, length-drop}
-use lib.Seq.{drop-cons, length-take-le}
+use lib.ListN.{length, getD}
 use Rattle.model.specs.Text.{Bytes, part}
+use Rattle.model.proofs.Text.{part-first, part-empty, part-long}
 use Rattle.tree.specs.Table.{content, table}
 use Rattle.tree.specs.Count.{common, longest, Counted}
 use Rattle.tree.proofs.Count.{longest-most, longest-snoc, counted}
-
--- ---- parts of a text
-
-pub part-cons : (text : Bytes) (f t : ℕ) → f < t → t ≤ length text → part text f t ≡ getD text f 0 ∷ part text (f + 1) t
-part-cons text f t u w =
-    let e : t - f ≡ suc (t - (f + 1)) = omega arith in
-    ap (λ (k : ℕ). take k (drop f text)) e ∙ ap (take (suc (t - (f + 1)))) (drop-cons text f 0 (omega arith)) ∙ rw add-one refl
-
-pub part-empty : (text : Bytes) (f t : ℕ) → t ≤ f → part text f t ≡ []
-part-empty text f t u = let e : t - f ≡ 0 = omega arith in ap (λ (k : ℕ). take k (drop f text)) e
-
-pub part-length : (text : Bytes) (f l : ℕ) → f + l ≤ length text → length (part text f (f + l)) ≡ l
-part-length text f l u =
-    let e : f + l - f ≡ l = omega arith in
-    length-take-le (f + l - f) (drop f text) (omega (arith, length-drop f text)) ∙ e
 
 -- ---- what two templates have in common
 
@@ -54,13 +39,13 @@ module _ (text : Bytes) (a la b lb : ℕ) where
     -- the template at b ends here
     pub match-short : x < la → lb ≤ x → x ≡ common (part text a (a + la)) (part text b (b + lb))
     unfolding common
-    match-short u v = sym (m .rest ∙ rw (part-cons text (a + x) (a + la) (omega arith) ina, part-empty text (b + x) (b + lb) (omega arith)) (omega arith))
+    match-short u v = sym (m .rest ∙ rw (part-first text (a + x) (a + la) (omega arith) ina, part-empty text (b + x) (b + lb) (omega arith)) (omega arith))
 
     -- they differ here
     pub match-differ : x < la → x < lb → (getD text (a + x) 0 ≡ getD text (b + x) 0 → ⊥) → x ≡ common (part text a (a + la)) (part text b (b + lb))
     match-differ u v ne = sym (m .rest ∙ rw (
-      part-cons text (a + x) (a + la) (omega arith) ina,
-      part-cons text (b + x) (b + lb) (omega arith) inb,
+      part-first text (a + x) (a + la) (omega arith) ina,
+      part-first text (b + x) (b + lb) (omega arith) inb,
       common-other _ _ (part text (a + x + 1) (a + la)) (part text (b + x + 1) (b + lb)) ne,
     ) (omega arith))
 
@@ -72,8 +57,8 @@ module _ (text : Bytes) (a la b lb : ℕ) where
           in-a = omega arith;
           in-b = omega arith;
           rest = m .rest ∙ rw (
-            part-cons text (a + x) (a + la) (omega arith) ina,
-            part-cons text (b + x) (b + lb) (omega arith) inb,
+            part-first text (a + x) (a + la) (omega arith) ina,
+            part-first text (b + x) (b + lb) (omega arith) inb,
             common-same _ _ (part text (a + x + 1) (a + la)) (part text (b + x + 1) (b + lb)) e,
             p,
             q,
@@ -83,7 +68,7 @@ module _ (text : Bytes) (a la b lb : ℕ) where
     -- the template at a ends here
     pub match-longer : la ≤ x → x < lb → x ≡ common (part text a (a + la)) (part text b (b + lb))
     unfolding common
-    match-longer u v = sym (m .rest ∙ rw (part-empty text (a + x) (a + la) (omega arith), part-cons text (b + x) (b + lb) (omega arith) inb) (omega arith))
+    match-longer u v = sym (m .rest ∙ rw (part-empty text (a + x) (a + la) (omega arith), part-first text (b + x) (b + lb) (omega arith) inb) (omega arith))
 
     -- both do
     pub match-all : la ≤ x → lb ≤ x → x + 1 ≡ common (part text a (a + la)) (part text b (b + lb))
@@ -112,11 +97,11 @@ module _ (text starts lens : List ℕ) (k start len : ℕ) where
 
   -- it is no more than all
   pub passed-within : (m most : ℕ) → Passed text starts lens k start len m most → start + len ≤ length text → most ≤ len + 1
-  passed-within m most h u = omega (arith, h .is, longest-most (part text start (start + len)) (table text starts lens m), part-length text start len u)
+  passed-within m most h u = omega (arith, h .is, longest-most (part text start (start + len)) (table text starts lens m), part-long text start len u)
 
   -- the rest is new
   pub passed-all : (m most r : ℕ) → Passed text starts lens k start len m most → k ≤ m → start + len ≤ length text → r ≡ len + 1 - most
       → Counted (table text starts lens k) (part text start (start + len)) r
   passed-all m most r h u v q =
       let z : m ≡ k = omega (arith, h .within) in
-      counted (table text starts lens k) (part text start (start + len)) r (omega (arith, part-length text start len v, h .is, ap (λ (n : ℕ). longest (part text start (start + len)) (table text starts lens n)) z))
+      counted (table text starts lens k) (part text start (start + len)) r (omega (arith, part-long text start len v, h .is, ap (λ (n : ℕ). longest (part text start (start + len)) (table text starts lens n)) z))

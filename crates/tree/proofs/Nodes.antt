@@ -6,7 +6,7 @@ use native.Mathlib.Omega.{arith}
 use native.Mathlib.Nat.{eq-or-lt-of-le}
 use lib.Dec.{eqb}
 use Rattle.tree.specs.Keys.{codeOf, Share, one, cnt, holed}
-use Rattle.tree.specs.Nodes.{Columns, Node, Run, Done, Half}
+use Rattle.tree.specs.Nodes.{Columns, IsNode, Run, Done, Half}
 use Rattle.tree.proofs.Keys.{code-end, lt-or, share-trans, cnt-more, cnt-same}
 use Rattle.tree.proofs.Table.{one-more}
 
@@ -26,7 +26,7 @@ module _ (f : ℕ → ℕ → ℕ) (len : ℕ → ℕ) (n : ℕ) where
     pub placed : o ≡ cnt (holed f t) (201 - h)
     pub open-end : (e ≡ 0 → ⊥) → (x : ℕ) → x + 1 ≡ 201 - h → f t x ≡ 256 → ⊥
 
-  node-stem : (t h e o : ℕ) → Node f len n t h e o → Stem t h e o
+  node-stem : (t h e o : ℕ) → IsNode f len n t h e o → Stem t h e o
   node-stem t h e o x = record {
     high = omega (arith, x .deep);
     first = x .first;
@@ -104,7 +104,7 @@ module _ (f : ℕ → ℕ → ℕ) (len : ℕ → ℕ) (n : ℕ) where
 
   -- the node of a key that was found
   new-node : ((k x : ℕ) → len k ≤ x → f k x ≡ 256) → (t h e o h′ low key who : ℕ) → Stem t h e o → (e ≡ 0 → ⊥) → Next f n t (201 - h) low key who → key < 258 → h′ + 1 ≡ h
-      → Node f len n who h′ (codeOf key) (o + one (eqb key 257))
+      → IsNode f len n who h′ (codeOf key) (o + one (eqb key 257))
   new-node ended t h e o h′ low key who s ne l kb z =
       let d = 201 - h in
       let y : 200 - h′ ≡ d = omega arith in
@@ -158,7 +158,7 @@ module _ (f : ℕ → ℕ → ℕ) (len : ℕ → ℕ) (n : ℕ) where
           begun = omega arith;
           some-node = omega arith;
           root = half .root;
-          node = λ j z v. one-more c (λ j. 0 < j → Node f len n (N .template j) (N .height j) (N .element j) (N .holes j))
+          node = λ j z v. one-more c (λ j. 0 < j → IsNode f len n (N .template j) (N .height j) (N .element j) (N .holes j))
               (λ j v z. half .node j z v) (λ z. rw (et, ee, eo) (new-node ended (N .template i) (N .height i) (N .element i) (N .holes i) (N .height c) low key who (stem N i c F low half i u) ne l kb eh)) j v z;
           done = λ p v. let q = half .done p v in record { in-row = omega (arith, q .in-row); after = q .after; none = q .none; run = q .run };
           parent = λ j z v. one-more c (λ j. 0 < j → ((p : ℕ) × (p < i) × (N .first p ≤ j) × (j < N .first p + N .number p)) ⊎ (F ≤ j)) (λ j v z. half .parent j z v) (λ z. inr (half .from)) j v z;

@@ -8,7 +8,7 @@ use lib.Dec.{eqb}
 use borrow.Author.Tests.{eq-eqb, ne-eqb}
 use Rattle.tree.specs.Count.{sum}
 use Rattle.tree.specs.Keys.{pick, codeOf, Share, one}
-use Rattle.tree.specs.Nodes.{Columns, Node, Half}
+use Rattle.tree.specs.Nodes.{Columns, IsNode, Half}
 use Rattle.tree.proofs.Keys.{lt-or, pigeon}
 use Rattle.tree.proofs.Nodes.{Next, Agree, carry, append}
 
@@ -35,15 +35,15 @@ module _ (f : ℕ → ℕ → ℕ) (len old : ℕ → ℕ) (n : ℕ) (known : Kn
   rank t h = sum new t + (200 - h - old t)
 
   -- a node's beginning is new
-  node-new : (t h e o : ℕ) → Node f len n t h e o → old t ≤ 200 - h
+  node-new : (t h e o : ℕ) → IsNode f len n t h e o → old t ≤ 200 - h
   node-new t h e o x =
       ⊎-elim (λ u. absurd (let (l, v, s) = known .reached t (x .known) (omega arith) in x .first l v (λ y w. sym (s y (omega (arith, x .deep)))))) (λ u. u) (lt-or (200 - h) (old t))
 
-  rank-below : (t h e o : ℕ) → Node f len n t h e o → rank t h < sum new (suc t)
+  rank-below : (t h e o : ℕ) → IsNode f len n t h e o → rank t h < sum new (suc t)
   unfolding rank
   rank-below t h e o x = omega (arith, sum-step t, node-new t h e o x, x .live)
 
-  rank-apart : (t h e o t′ h′ e′ o′ : ℕ) → Node f len n t h e o → Node f len n t′ h′ e′ o′ → rank t h ≡ rank t′ h′ → (t ≡ t′) × (h ≡ h′)
+  rank-apart : (t h e o t′ h′ e′ o′ : ℕ) → IsNode f len n t h e o → IsNode f len n t′ h′ e′ o′ → rank t h ≡ rank t′ h′ → (t ≡ t′) × (h ≡ h′)
   unfolding rank
   rank-apart t h e o t′ h′ e′ o′ x y r =
       let b = rank-below t h e o x in

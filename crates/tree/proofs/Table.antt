@@ -35,25 +35,8 @@ module _ (text starts lens : List ℕ) where
 
 -- ---- for a caller that appends an entry
 
--- tables that agree below n have the same templates
-table-same : (text starts lens starts′ lens′ : List ℕ) (n : ℕ) → ((k : ℕ) → k < n → getD starts′ k 0 ≡ getD starts k 0) → ((k : ℕ) → k < n → getD lens′ k 0 ≡ getD lens k 0)
-    → table text starts′ lens′ n ≡ table text starts lens n
-unfolding table
-table-same text starts lens starts′ lens′ zero a b = refl
-table-same text starts lens starts′ lens′ (suc n) a b =
-    rw (table-same text starts lens starts′ lens′ n (λ k u. a k (omega arith)) (λ k u. b k (omega arith)), a n (omega arith), b n (omega arith)) refl
-
 module _ (text starts lens : List ℕ) (k s l : ℕ) (u : k < length starts) (v : k < length lens) where
-  -- one entry more is one template more
-  pub table-store : table text (set starts k s) (set lens k l) (k + 1) ≡ table text starts lens k ++ (part text s (s + l) ∷ [])
-  unfolding table
-  table-store = rw add-one (rw (
-    table-same text starts lens (set starts k s) (set lens k l) k (λ j w. getD-set-other starts k j s 0 (λ z. omega arith)) (λ j w. getD-set-other lens k j l 0 (λ z. omega arith)),
-    getD-set-same starts k s 0 u,
-    getD-set-same lens k l 0 v,
-  ) refl)
-
-  -- which lies in the text where the new one does
+  -- one entry more lies in the text where the new one does
   pub entries-store : Entries text starts lens k → s + l ≤ length text → Entries text (set starts k s) (set lens k l) (k + 1)
   entries-store h w = record {
     starts-there = simp length-set (omega arith);

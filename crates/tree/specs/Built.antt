@@ -7,17 +7,18 @@ use Rattle.model.specs.declared.Marks.{Marks}
 use Rattle.model.specs.Text.{Bytes}
 use Rattle.model.specs.Load.{count}
 use Rattle.model.specs.Parts.{Elem, elems}
+use Rattle.nodes.specs.declared.Node.{Node}
 use Rattle.nodes.specs.Rows.{elem, Child, Tree}
 use Rattle.nodes.specs.Templates.{Represents, Begins}
 use Rattle.tree.specs.Count.{beginnings}
 
 -- the templates are few, short and of at most nine placeholders p, and the row has room for their tree
-pub record Ready (p : ℕ) (ts : List Bytes) (rows : List (List ℕ)) : Type 0 where
+pub record Ready (p : ℕ) (ts : List Bytes) (rows : List Node) : Type 0 where
   pub few : length ts ≤ 128
   pub short : (k : ℕ) → length (getD ts k []) ≤ 200
   pub nine : (k : ℕ) → count p (getD ts k []) ≤ 9
   pub room : suc (beginnings ts) ≤ length rows
-  pub small : length rows < 65536
+  pub small : suc (beginnings ts) < 65536
 
 -- the order of a node's number among its siblings: bytes, then the end, then the placeholder
 abbrev pub order : ℕ → ℕ
@@ -26,7 +27,7 @@ order (suc zero) = 257
 order (suc (suc b)) = b
 
 -- the tree of the templates ts: the root, and a node for each of their beginnings
-pub record Built (m : Marks) (ts : List Bytes) (rows : List (List ℕ)) : Type 0 where
+pub record Built (m : Marks) (ts : List Bytes) (rows : List Node) : Type 0 where
   pub some-node : 0 < length rows
   pub tree : Tree rows
   pub begins : (pre : ℕ → List Elem) × Begins rows (map (elems m) ts) pre × ((i j : ℕ) → i < j → j < length rows → pre i ≡ pre j → ⊥)

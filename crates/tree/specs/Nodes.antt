@@ -1,12 +1,15 @@
 -- The nodes of a tree that is being built, breadth first.
 use mathlib.Core.Path.{_≡_}
 use mathlib.Core.Logic.{_⊎_}
-use mathlib.Core.List.{List, [], _∷_}
-use Prim.Native.Nat.{ℕ, _+_, _-_, _≤_, _<_}
+use mathlib.Core.List.{List, []}
+use Prim.Native.Nat.{ℕ, suc, _+_, _-_, _≤_, _<_}
+use lib.Dec.{eqb}
 use lib.ListN.{length, getD}
-use Rattle.nodes.specs.Rows.{field}
+use Rattle.nodes.specs.declared.Node.{Node}
+use Rattle.nodes.specs.Rows.{elem, firstOf, countOf, templateOf, height, holes}
 use Rattle.model.specs.Text.{Bytes}
-use Rattle.tree.specs.Keys.{Smalls, Share, cnt, holed, codeOf, keys}
+use Rattle.tree.specs.Keys.{Smalls, Share, one, cnt, holed, codeOf, keys}
+use Rattle.tree.specs.Count.{beginnings}
 
 -- the fields of nodes: the template, the height, the element, how many placeholders, the first child, how many children
 pub record Columns : Type 0 where
@@ -17,20 +20,20 @@ pub record Columns : Type 0 where
   pub first : ℕ → ℕ
   pub number : ℕ → ℕ
 
-abbrev pub columns : List (List ℕ) → Columns
+abbrev pub columns : List Node → Columns
 columns rows = record {
-  template = λ j. field rows j 3;
-  height = λ j. field rows j 4;
-  element = λ j. field rows j 0;
-  holes = λ j. field rows j 5;
-  first = λ j. field rows j 1;
-  number = λ j. field rows j 2;
+  template = λ j. templateOf rows j;
+  height = λ j. height rows j;
+  element = λ j. elem rows j;
+  holes = λ j. holes rows j;
+  first = λ j. firstOf rows j;
+  number = λ j. countOf rows j;
 }
 
 module _ (f : ℕ → ℕ → ℕ) (len : ℕ → ℕ) (n : ℕ) where
   -- a node other than the root: the first template that has its beginning, t; its height h, its element's number e, how many
   -- placeholders its beginning has, o. Its depth is 201 - h
-  pub record Node (t h e o : ℕ) : Type 0 where
+  pub record IsNode (t h e o : ℕ) : Type 0 where
     pub known : t < n
     pub deep : h < 201
     pub element : e ≡ codeOf (f t (200 - h))
@@ -56,7 +59,7 @@ module _ (f : ℕ → ℕ → ℕ) (len : ℕ → ℕ) (n : ℕ) where
     pub begun : i ≤ c
     pub some-node : 0 < c
     pub root : (N .template 0 ≡ 0) × (N .height 0 ≡ 201) × (N .element 0 ≡ 2) × (N .holes 0 ≡ 0)
-    pub node : (j : ℕ) → 0 < j → j < c → Node (N .template j) (N .height j) (N .element j) (N .holes j)
+    pub node : (j : ℕ) → 0 < j → j < c → IsNode (N .template j) (N .height j) (N .element j) (N .holes j)
     pub done : (p : ℕ) → p < i → Done N p c
     pub parent : (j : ℕ) → 0 < j → j < c → ((p : ℕ) × (p < i) × (N .first p ≤ j) × (j < N .first p + N .number p)) ⊎ (F ≤ j)
     pub distinct : (j l : ℕ) → j < l → l < c → N .template j ≡ N .template l → N .height j ≡ N .height l → ⊥
@@ -74,7 +77,7 @@ module _ (f : ℕ → ℕ → ℕ) (len : ℕ → ℕ) (n : ℕ) where
     pub shared : (k : ℕ) → k < n → A k ≡ i → Share f k (N .template i) (201 - N .height i) × (low ≤ f k (201 - N .height i))
     pub stands : (k : ℕ) → k < n → Share f k (N .template i) (201 - N .height i) → low ≤ f k (201 - N .height i) → A k ≡ i
 
-module _ (p : ℕ) (ts : List Bytes) (rows : List (List ℕ)) (at : List ℕ) (i c : ℕ) where
+module _ (p : ℕ) (ts : List Bytes) (rows : List Node) (at : List ℕ) (i c : ℕ) where
   -- c nodes are made, and those below i have their children
   pub record Made : Type 0 where
     pub bytes : Smalls ts
@@ -85,11 +88,19 @@ module _ (p : ℕ) (ts : List Bytes) (rows : List (List ℕ)) (at : List ℕ) (i
   pub record Filled (F : ℕ) : Type 0 where
     pub bytes : Smalls ts
     pub more : F ≤ c
-    pub within : c ≤ length rows
+    pub within : c ≤ suc (beginnings ts)
     pub half : Half (keys p ts) (λ k. length (getD ts k [])) (length ts) (columns rows) i c F 258
     pub ahead : Ahead (keys p ts) (λ k. length (getD ts k [])) (length ts) (columns rows) (λ k. getD at k 0) (i + 1) c
-    pub open-node : field rows i 0 ≡ 0 → ⊥
+    pub open-node : elem rows i ≡ 0 → ⊥
 
--- the record of node i with its children, so many from `first` on
-abbrev pub withKids : List (List ℕ) → ℕ → ℕ → ℕ → List ℕ
-withKids rows i first count = field rows i 0 ∷ first ∷ count ∷ field rows i 3 ∷ field rows i 4 ∷ field rows i 5 ∷ []
+-- a node with its children, so many from `first` on
+abbrev pub withKids : Node → ℕ → ℕ → Node
+withKids n first count = record { element = n .element; first = first; count = count; template = n .template; height = n .height; holes = n .holes }
+
+-- the node for a key of a template, below a node
+abbrev pub below : Node → ℕ → ℕ → Node
+below n key template = record { element = codeOf key; first = 0; count = 0; template = template; height = n .height - 1; holes = n .holes + one (eqb key 257) }
+
+-- the root: no element of a template, with room for 200 elements and the end
+abbrev pub rootNode : Node
+rootNode = record { element = 2; first = 0; count = 0; template = 0; height = 201; holes = 0 }

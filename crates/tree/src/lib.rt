@@ -1,17 +1,20 @@
 // The tree of the templates, in which a line's first reading is found, and how many nodes it has.
 ghost use mathlib.Core.Path.{_≡_};
-ghost use Prim.Native.Nat.{ℕ, _+_, _-_, _≤_, _<_, max};
+ghost use Prim.Native.Nat.{ℕ, suc, _+_, _-_, _≤_, _<_, max};
 ghost use mathlib.Core.List.{[]};
 ghost use lib.ListN.{length, getD, set, take};
 ghost use lib.Dec.{eqb};
 ghost use Rattle.model.specs.Text.{part};
-ghost use Rattle.nodes.specs.Rows.{field};
+ghost use Rattle.nodes.specs.Rows.{noNode, elem};
 ghost use Rattle.tree.specs.Table.{table, Entries};
-ghost use Rattle.tree.specs.Count.{common, Counted};
+ghost use Rattle.tree.specs.Count.{common, beginnings, Counted};
 ghost use Rattle.tree.specs.Keys.{keyOf, codeOf, one, Key, Chosen, moveTo, MovedOn};
-ghost use Rattle.tree.specs.Nodes.{Made, Filled, withKids};
+ghost use Rattle.tree.specs.Nodes.{Made, Filled, withKids, below, rootNode};
 ghost use Rattle.tree.specs.Built.{Ready, Built};
 use model::Marks;
+use nodes::Node;
+use nodes::node_at;
+use nodes::set_node;
 
 fn larger(a: usize, b: usize) -> usize
     ensures { λ r. ⌜ r ≡ max a b ⌝ }
@@ -63,12 +66,6 @@ pub fn count_new(
         m += 1;
     }
     (len + 1) - most
-}
-
-fn wide(x: u16) -> usize
-    ensures { λ r. ⌜ r ≡ x ⌝ }
-{
-    x as usize
 }
 
 // The key at place x of the template at start.
@@ -195,6 +192,58 @@ fn holes_past(o: u16, k: u16) -> u16
     o
 }
 
+// How many elements stand up to and with a node.
+fn depth_of(n: Node) -> usize
+    requires { ⌜ n .height ≤ 201 ⌝ }
+    ensures { λ r. ⌜ r ≡ 201 - n .height ⌝ }
+{
+    201 - n.height as usize
+}
+
+// The node for a key of a template, below the node n.
+fn make_child(n: Node, p: Pick) -> Node
+    requires { ⌜ (p .key < 258) × (p .template < 128) × (0 < n .height) × (n .holes < 1000) ⌝ }
+    ensures { λ r. ⌜ r ≡ below n (p .key) (p .template) ⌝ }
+{
+    Node {
+        element: code_of(p.key),
+        first: 0,
+        count: 0,
+        template: p.template as u16,
+        height: n.height - 1,
+        holes: holes_past(n.holes, p.key),
+    }
+}
+
+// A node with its children, from `first` up to c.
+fn join_children(n: Node, first: usize, c: usize) -> Node
+    requires { ⌜ (first ≤ c) × (c < 65536) ⌝ }
+    ensures { λ r. ⌜ r ≡ withKids n first (c - first) ⌝ }
+{
+    Node {
+        element: n.element,
+        first: first as u16,
+        count: (c - first) as u16,
+        template: n.template,
+        height: n.height,
+        holes: n.holes,
+    }
+}
+
+// The root: no element of a template, with room for 200 elements and the end.
+fn make_root() -> Node
+    ensures { λ r. ⌜ r ≡ rootNode ⌝ }
+{
+    Node {
+        element: 2,
+        first: 0,
+        count: 0,
+        template: 0,
+        height: 201,
+        holes: 0,
+    }
+}
+
 // Appends the children of node i; the answer is how many nodes there are then.
 fn fill(
     mark: u8,
@@ -202,28 +251,25 @@ fn fill(
     starts: &[usize],
     lens: &[usize],
     n: usize,
-    nodes: &mut [[u16; 6]],
+    nodes: &mut [Node],
     at: &mut [usize],
     i: usize,
     made: usize,
 ) -> usize
-    requires { ⌜ Entries (now text) (now starts) (now lens) n × Ready mark (table (now text) (now starts) (now lens) n) (now nodes) ⌝ }
-    requires { ⌜ (n ≤ length (now at)) × (i < made) × (made ≤ length (now nodes)) × Made mark (table (now text) (now starts) (now lens) n) (now nodes) (now at) i made × (field (now nodes) i 0 ≡ 0 → ⊥) ⌝ }
+    requires { ⌜ Entries (now text) (now starts) (now lens) n × Ready mark (table (now text) (now starts) (now lens) n) (now nodes) × (n ≤ length (now at)) × (i < made) × (made ≤ suc (beginnings (table (now text) (now starts) (now lens) n))) × Made mark (table (now text) (now starts) (now lens) n) (now nodes) (now at) i made × (elem (now nodes) i ≡ 0 → ⊥) ⌝ }
     ensures { λ r. ⌜ Filled mark (table (now (text .entry)) (now (starts .entry)) (now (lens .entry)) n) (now (nodes .exit)) (now (at .exit)) i r made ⌝ }
 {
-    let h = nodes[i][4];
-    let o = nodes[i][5];
-    let d = 201 - wide(h);
+    let parent = node_at(nodes, i);
+    let d = depth_of(parent);
     let mut c = made;
     let mut low: u16 = 0;
     while low < 258 {
         let p = least(mark, text, starts, lens, n, at, i, d);
         let key = p.key;
-        let who = p.template;
         if key == 258 {
             return c;
         }
-        nodes[c] = [code_of(key), 0, 0, who as u16, h - 1, holes_past(o, key)];
+        set_node(nodes, c, make_child(parent, p));
         advance(mark, text, starts, lens, n, at, i, d, key, c);
         c += 1;
         low = key + 1;
@@ -232,12 +278,12 @@ fn fill(
 }
 
 // Says where the children of node i stand.
-fn link(nodes: &mut [[u16; 6]], i: usize, first: usize, c: usize)
+fn link(nodes: &mut [Node], i: usize, first: usize, c: usize)
     requires { ⌜ (i < length (now nodes)) × (first ≤ c) × (c < 65536) ⌝ }
-    ensures { λ r. ⌜ now (nodes .exit) ≡ set (now (nodes .entry)) i (withKids (now (nodes .entry)) i first (c - first)) ⌝ }
+    ensures { λ r. ⌜ now (nodes .exit) ≡ set (now (nodes .entry)) i (withKids (getD (now (nodes .entry)) i noNode) first (c - first)) ⌝ }
 {
-    let r = nodes[i];
-    nodes[i] = [r[0], first as u16, (c - first) as u16, r[3], r[4], r[5]];
+    let n = node_at(nodes, i);
+    set_node(nodes, i, join_children(n, first, c));
 }
 
 // Gives node i its children; an end has none.
@@ -247,16 +293,15 @@ fn expand(
     starts: &[usize],
     lens: &[usize],
     n: usize,
-    nodes: &mut [[u16; 6]],
+    nodes: &mut [Node],
     at: &mut [usize],
     i: usize,
     made: usize,
 ) -> usize
-    requires { ⌜ Entries (now text) (now starts) (now lens) n × Ready mark (table (now text) (now starts) (now lens) n) (now nodes) ⌝ }
-    requires { ⌜ (n ≤ length (now at)) × (i < made) × (made ≤ length (now nodes)) × Made mark (table (now text) (now starts) (now lens) n) (now nodes) (now at) i made ⌝ }
-    ensures { λ r. ⌜ (r ≤ length (now (nodes .exit))) × Made mark (table (now (text .entry)) (now (starts .entry)) (now (lens .entry)) n) (now (nodes .exit)) (now (at .exit)) (i + 1) r ⌝ }
+    requires { ⌜ Entries (now text) (now starts) (now lens) n × Ready mark (table (now text) (now starts) (now lens) n) (now nodes) × (n ≤ length (now at)) × (i < made) × (made ≤ suc (beginnings (table (now text) (now starts) (now lens) n))) × Made mark (table (now text) (now starts) (now lens) n) (now nodes) (now at) i made ⌝ }
+    ensures { λ r. ⌜ (r ≤ suc (beginnings (table (now (text .entry)) (now (starts .entry)) (now (lens .entry)) n))) × Made mark (table (now (text .entry)) (now (starts .entry)) (now (lens .entry)) n) (now (nodes .exit)) (now (at .exit)) (i + 1) r ⌝ }
 {
-    if nodes[i][0] == 0 {
+    if nodes::has_element(node_at(nodes, i), 0) {
         link(nodes, i, made, made);
         return made;
     }
@@ -265,26 +310,41 @@ fn expand(
     c
 }
 
-// Makes the tree of the first n templates of the table: how many nodes it has.
+// Gives every node its children, from the root on: how many nodes there are then.
+fn grow(
+    mark: u8,
+    text: &[u8],
+    starts: &[usize],
+    lens: &[usize],
+    n: usize,
+    nodes: &mut [Node],
+    at: &mut [usize],
+) -> usize
+    requires { ⌜ Entries (now text) (now starts) (now lens) n × Ready mark (table (now text) (now starts) (now lens) n) (now nodes) × (n ≤ length (now at)) × Made mark (table (now text) (now starts) (now lens) n) (now nodes) (now at) 0 1 ⌝ }
+    ensures { λ r. ⌜ (r ≤ suc (beginnings (table (now (text .entry)) (now (starts .entry)) (now (lens .entry)) n))) × Made mark (table (now (text .entry)) (now (starts .entry)) (now (lens .entry)) n) (now (nodes .exit)) (now (at .exit)) r r ⌝ }
+{
+    let mut c = 1;
+    let mut i = 0;
+    while i < c {
+        c = expand(mark, text, starts, lens, n, nodes, at, i, c);
+        i += 1;
+    }
+    c
+}
+
+// Makes the tree of the first n templates of the table at the front of the row: how many nodes it has.
 pub fn build(
     m: Marks,
     text: &[u8],
     starts: &[usize],
     lens: &[usize],
     n: usize,
-    nodes: &mut [[u16; 6]],
+    nodes: &mut [Node],
 ) -> usize
     requires { ⌜ Entries (now text) (now starts) (now lens) n × Ready (m .placeholder) (table (now text) (now starts) (now lens) n) (now nodes) ⌝ }
     ensures { λ r. ⌜ (r ≤ length (now (nodes .exit))) × Built m (table (now (text .entry)) (now (starts .entry)) (now (lens .entry)) n) (take r (now (nodes .exit))) ⌝ }
 {
-    let mark = m.placeholder;
-    let mut at = [0; 128];
-    nodes[0] = [2, 0, 0, 0, 201, 0];
-    let mut c = 1;
-    let mut i = 0;
-    while i < c {
-        c = expand(mark, text, starts, lens, n, nodes, &mut at, i, c);
-        i += 1;
-    }
-    c
+    let mut at = [0usize; 128];
+    set_node(nodes, 0, make_root());
+    grow(m.placeholder, text, starts, lens, n, nodes, &mut at)
 }

@@ -1,7 +1,6 @@
--- Laws, in order. Callers take theirs from Callers.
+-- Laws, in order.
 pub mod Chain
 pub mod Names
 pub mod Leading
 pub mod Operands
 pub mod Levels
-pub mod Callers

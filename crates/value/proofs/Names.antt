@@ -1,7 +1,6 @@
 -- Names in a text: bytes that are no marks, and the loop that looks for their end.
 use mathlib.Core.Path.{_≡_, refl, sym, ap, _∙_}
 use mathlib.Core.Bool.{Bool, true, false, cond, not, _||_}
-use mathlib.Core.Option.{Option, none, some}
 use mathlib.Core.List.{List, [], _∷_}
 use Prim.Native.Nat.{ℕ, suc, _+_, _-_, _≤_, _<_}
 use native.Mathlib.Numerals.{add-one}
@@ -14,15 +13,14 @@ use Rattle.model.specs.declared.Marks.{Marks}
 use Rattle.model.specs.Text.{has, part}
 use Rattle.model.specs.Store.{find}
 use Rattle.model.specs.Value.{isMark, nameOf, ofStored, storedNumber}
-use Rattle.model.specs.Machine.{orNothing}
 use Rattle.store.specs.Memory.{held}
-use Rattle.store.specs.Seek.{isThere, Sees}
+use Rattle.store.specs.Seek.{Sees}
 use Rattle.store.specs.declared.Index.{Index}
 use Rattle.store.specs.declared.Seen.{Seen}
+use Rattle.store.proofs.Callers.{there-some, there-none}
 use Rattle.number.specs.Number.{Gives}
 use Rattle.number.specs.declared.Valued.{Valued}
 use Rattle.number.specs.declared.Valued.the-variants.{Fault}
-use Rattle.buffer.proofs.Choices.{false-not-true}
 use Rattle.value.specs.Place.{nameLength, Ends}
 
 -- ---- the marks, by the tests that the code makes
@@ -110,23 +108,10 @@ module _ {m : Marks} {s : List ℕ} {at e : ℕ} (n : Ends m s at e) where
   pub name-rest : nameOf m (drop at s) .1 ≡ drop e s
   name-rest = ap (λ p. p .1) (name-splits m (drop at s)) ∙ drop-drop (nameLength m (drop at s)) at s ∙ ap (λ k. drop k s) (sym (n .is))
 
-  pub name-from : at ≤ e
-  name-from = omega (arith, n .is)
-
   pub name-past : at < length s → isMark m (getD s at 0) ≡ false → at + 1 ≤ e
   name-past h q = omega (arith, n .is, goes-on m s at h q)
 
 -- ---- the text stored under it
-
-there-some : (o : Option (List ℕ)) → isThere o ≡ true → o ≡ some (orNothing o)
-unfolding isThere orNothing
-there-some none e = false-not-true e
-there-some (some t) e = refl
-
-there-none : (o : Option (List ℕ)) → isThere o ≡ false → o ≡ none
-unfolding isThere
-there-none none e = refl
-there-none (some t) e = false-not-true (sym e)
 
 module _ {memory : List ℕ} {x : Index} {name : List ℕ} {r : Seen} (m : Marks) (s : Sees memory x name r) where
   pub not-stored : not (r .there) ≡ true → Gives Fault (ofStored m (find name (held (x .count) memory)))

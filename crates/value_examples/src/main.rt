@@ -4,12 +4,10 @@ use libc::STDIN_FILENO;
 use libc::STDOUT_FILENO;
 use model::Marks;
 use number::Valued;
+use scan::find_byte;
 use store::Index;
 use store::Stored;
-ghost use Prim.Native.Nat.{_≤_};
-ghost use lib.ListN.{length};
 ghost use Rattle.store.specs.Memory.{Kept};
-ghost use Rattle.value_examples.specs.Spans.{Spans};
 
 // The marks of document 01's session.
 fn session() -> Marks {
@@ -26,21 +24,6 @@ fn session() -> Marks {
         divide: b'/',
         right: b')',
     }
-}
-
-// The first offset from `at` on with the byte b, or the end.
-fn seek_byte(s: &[u8], at: usize, b: u8) -> usize
-    requires { ⌜ at ≤ length (now s) ⌝ }
-    ensures { λ r. ⌜ Spans (now (s .entry)) at r ⌝ }
-{
-    let mut i = at;
-    while i < s.len() {
-        if s[i] == b {
-            return i;
-        }
-        i += 1;
-    }
-    i
 }
 
 // A value in decimal.
@@ -89,7 +72,7 @@ fn turn(memory: &mut [u8], index: Index, line: &[u8]) -> Index
     requires { ⌜ Kept (now memory) index ⌝ }
     ensures { λ r. ⌜ Kept (now (memory .exit)) r ⌝ }
 {
-    let e = seek_byte(line, 0, b'=');
+    let e = find_byte(line, 0, line.len(), b'=');
     if e < line.len() {
         let from = e + 1;
         return keep(memory, index, &line[0..e], &line[from..]);
@@ -104,7 +87,7 @@ fn run(text: &[u8]) {
     let mut index = store::empty(&memory);
     let mut at = 0;
     while at < text.len() {
-        let e = seek_byte(text, at, 10);
+        let e = find_byte(text, at, text.len(), 10);
         index = turn(&mut memory, index, &text[at..e]);
         at = e + 1;
     }

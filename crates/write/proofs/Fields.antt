@@ -12,13 +12,12 @@ use lib.Seq.{take-take}
 use Rattle.model.specs.declared.Marks.{Marks}
 use Rattle.model.specs.Text.{Bytes, part}
 use Rattle.model.specs.Machine.{Frame, param, field, fields}
+use Rattle.model.proofs.Choices.{when-true, when-false}
+use Rattle.model.proofs.Text.{part-length, part-long, part-empty, part-cons}
 use Rattle.buffer.specs.Pasted.{Pasted}
-use Rattle.buffer.proofs.Choices.{when-true, when-false}
-use Rattle.scan.proofs.Lines.{part-length, part-empty, part-cons}
 use Rattle.call.specs.declared.Call.{Call}
 use Rattle.call.specs.Call.{frameOf}
 use Rattle.call.specs.Params.{Lies}
-use Rattle.call.proofs.Parts.{part-long}
 use Rattle.write.specs.Output.{Adds}
 use Rattle.write.specs.Layout.{isField, Names, paramOf, layoutOf, Runs, PutsField, PutsPart, PutsLayout}
 use Rattle.write.proofs.Adding.{adds-as, adds-none, adds-copy, adds-store, adds-more, adds-length}

@@ -11,13 +11,13 @@ use lib.Seq.{length-take-le}
 use Rattle.model.specs.declared.Marks.{Marks}
 use Rattle.model.specs.Text.{Bytes, part}
 use Rattle.model.specs.Machine.{continues, output, running, stateWith, passThrough}
+use Rattle.model.proofs.Choices.{when-true, when-false}
+use Rattle.model.proofs.Text.{part-front}
 use Rattle.buffer.specs.Pasted.{Pasted}
-use Rattle.buffer.proofs.Choices.{when-true, when-false}
 use Rattle.state.specs.declared.State.{State}
 use Rattle.state.specs.declared.Line.{Line}
 use Rattle.state.specs.State.{bytesOf, sharedOf, stateOf, withWritten, Sound}
 use Rattle.call.specs.declared.Call.{Call}
-use Rattle.call.proofs.Parts.{part-front}
 use Rattle.write.specs.declared.Wrote.{Wrote}
 use Rattle.write.specs.Output.{Adds, Extends, wroteStep, wroteNext, Writes, WritesLine, Closes}
 use Rattle.write.specs.Layout.{PutsLayout, WritesLayout}

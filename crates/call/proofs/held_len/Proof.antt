@@ -1,6 +1,6 @@
 -- held_len is the length of the text that is held.
 use borrow.Author.Needs.{needs}
-use Rattle.call.proofs.Parts.{measures}
+use Rattle.call.proofs.Holding.{measures}
 use Rattle.call.proofs.held_len.Statement.{statement}
 use Rattle.call.proofs.held_len.Tie as tie
 

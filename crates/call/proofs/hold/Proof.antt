@@ -1,6 +1,6 @@
 -- hold keeps the text.
 use borrow.Author.Needs.{needs}
-use Rattle.call.proofs.Parts.{holds}
+use Rattle.call.proofs.Holding.{holds}
 use Rattle.call.proofs.hold.Statement.{statement}
 use Rattle.call.proofs.hold.Tie as tie
 

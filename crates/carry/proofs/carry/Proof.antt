@@ -17,8 +17,8 @@ same-length c = search needs
 returns : tie.Need-returns
 returns c = let p = c .before .before .before .before .before .before .before .before .before .before .before .pre in search (carries-halt, needs)
 
-finish-requires : tie.Need-finish-requires
-finish-requires c κs = search (builds-sound, ready, needs)
+finish-code-requires : tie.Need-finish-code-requires
+finish-code-requires c κs = search (builds-sound, ready, needs)
 
 same-length-2 : tie.Need-same-length-2
 same-length-2 c = search needs
@@ -37,7 +37,7 @@ carry-spec =
     come-to-requires
     same-length
     returns
-    finish-requires
+    finish-code-requires
     same-length-2
     same-length-3
     returns-2)

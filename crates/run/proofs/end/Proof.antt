@@ -7,20 +7,20 @@ use Rattle.run.proofs.end.Tie as tie
 listing-requires : tie.Need-listing-requires
 listing-requires c κs = search needs
 
-wide-requires : tie.Need-wide-requires
-wide-requires c κs = search needs
+widen-requires : tie.Need-widen-requires
+widen-requires c κs = search needs
 
-wide-requires-2 : tie.Need-wide-requires-2
-wide-requires-2 c κs = search needs
+widen-requires-2 : tie.Need-widen-requires-2
+widen-requires-2 c κs = search needs
 
-wide-requires-3 : tie.Need-wide-requires-3
-wide-requires-3 c κs = search needs
+widen-requires-3 : tie.Need-widen-requires-3
+widen-requires-3 c κs = search needs
 
-wide-requires-4 : tie.Need-wide-requires-4
-wide-requires-4 c κs = search needs
+widen-requires-4 : tie.Need-widen-requires-4
+widen-requires-4 c κs = search needs
 
-wide-requires-5 : tie.Need-wide-requires-5
-wide-requires-5 c κs = search needs
+widen-requires-5 : tie.Need-widen-requires-5
+widen-requires-5 c κs = search needs
 
 same-length : tie.Need-same-length
 same-length c = search needs
@@ -33,10 +33,10 @@ end-spec =
     tie.close
     (tie.spec
     listing-requires
-    wide-requires
-    wide-requires-2
-    wide-requires-3
-    wide-requires-4
-    wide-requires-5
+    widen-requires
+    widen-requires-2
+    widen-requires-3
+    widen-requires-4
+    widen-requires-5
     same-length
     returns)

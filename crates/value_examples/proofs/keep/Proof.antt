@@ -1,5 +1,5 @@
 -- keep leaves memory kept.
-use Rattle.value_examples.proofs.Keeping.{kept-now, kept-full}
+use Rattle.store.proofs.Callers.{put-kept, full-kept}
 use borrow.Author.Needs.{needs}
 use Rattle.value_examples.proofs.keep.Statement.{statement}
 use Rattle.value_examples.proofs.keep.Tie as tie
@@ -23,13 +23,13 @@ same-length : tie.Need-same-length
 same-length c = search needs
 
 returns-3 : tie.Need-returns-3
-returns-3 c = search kept-now
+returns-3 c = search put-kept
 
 same-length-2 : tie.Need-same-length-2
 same-length-2 c = search needs
 
 returns-4 : tie.Need-returns-4
-returns-4 c = search kept-full
+returns-4 c = search full-kept
 
 pub keep-spec : {M : Type 1} → statement M
 keep-spec =

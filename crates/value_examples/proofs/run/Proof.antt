@@ -21,8 +21,8 @@ empty-requires c κs = search needs
 loop-holds : tie.Need-loop-holds Inv-loop μ-loop
 loop-holds c = search needs
 
-seek-byte-requires : tie.Need-seek-byte-requires Inv-loop μ-loop
-seek-byte-requires c κs = search needs
+find-byte-requires : tie.Need-find-byte-requires Inv-loop μ-loop
+find-byte-requires c κs = search needs
 
 slice-aggregate-turn : tie.Need-slice-aggregate-turn Inv-loop μ-loop
 slice-aggregate-turn c = search needs
@@ -60,7 +60,7 @@ run-spec =
     slice-aggregate-empty
     empty-requires
     loop-holds
-    seek-byte-requires
+    find-byte-requires
     slice-aggregate-turn
     sub-turn
     part-turn-start

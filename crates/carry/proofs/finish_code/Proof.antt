@@ -1,0 +1,202 @@
+-- finish_code does what the ending says: each arm is its leaf's.
+use Rattle.carry.proofs.Endings.{assign-parameter, iterate-parameter, iterate-within, iterate-depth, repeat-depth, ends-offer, ends-assign, ends-iterate, ends-stop, ends-write, ends-layout, ends-save, ends-skip, ends-text, ends-value, ends-repeat, ends-again, ends-leave, ends-malformed}
+use borrow.Author.Needs.{needs}
+use Rattle.carry.proofs.finish_code.Statement.{statement}
+use Rattle.carry.proofs.finish_code.Tie as tie
+
+enum-told : tie.Need-enum-told
+enum-told c = search needs
+
+enum-known-ending : tie.Need-enum-known-ending
+enum-known-ending c = search needs
+
+assign-requires : tie.Need-assign-requires
+assign-requires c κs = search (assign-parameter, needs)
+
+enum-known-ending-2 : tie.Need-enum-known-ending-2
+enum-known-ending-2 c = search needs
+
+begin-passes-requires : tie.Need-begin-passes-requires
+begin-passes-requires c κs = search (iterate-parameter, iterate-within, iterate-depth, needs)
+
+enum-told-2 : tie.Need-enum-told-2
+enum-told-2 c = search needs
+
+come-to-requires : tie.Need-come-to-requires
+come-to-requires c κs = search needs
+
+enum-known-ending-3 : tie.Need-enum-known-ending-3
+enum-known-ending-3 c = search needs
+
+write-to-requires : tie.Need-write-to-requires
+write-to-requires c κs = search needs
+
+enum-known-ending-4 : tie.Need-enum-known-ending-4
+enum-known-ending-4 c = search needs
+
+lay-out-requires : tie.Need-lay-out-requires
+lay-out-requires c κs = search needs
+
+enum-told-3 : tie.Need-enum-told-3
+enum-told-3 c = search needs
+
+save-requires : tie.Need-save-requires
+save-requires c κs = search needs
+
+enum-told-4 : tie.Need-enum-told-4
+enum-told-4 c = search needs
+
+skip-by-requires : tie.Need-skip-by-requires
+skip-by-requires c κs = search needs
+
+enum-known-ending-5 : tie.Need-enum-known-ending-5
+enum-known-ending-5 c = search needs
+
+skip-text-requires : tie.Need-skip-text-requires
+skip-text-requires c κs = search needs
+
+enum-known-ending-6 : tie.Need-enum-known-ending-6
+enum-known-ending-6 c = search needs
+
+skip-value-requires : tie.Need-skip-value-requires
+skip-value-requires c κs = search needs
+
+enum-told-5 : tie.Need-enum-told-5
+enum-told-5 c = search needs
+
+repeat-requires : tie.Need-repeat-requires
+repeat-requires c κs = search (repeat-depth, needs)
+
+enum-told-6 : tie.Need-enum-told-6
+enum-told-6 c = search needs
+
+pass-again-requires : tie.Need-pass-again-requires
+pass-again-requires c κs = search needs
+
+enum-told-7 : tie.Need-enum-told-7
+enum-told-7 c = search needs
+
+come-to-requires-2 : tie.Need-come-to-requires-2
+come-to-requires-2 c κs = search needs
+
+enum-told-8 : tie.Need-enum-told-8
+enum-told-8 c = search needs
+
+come-to-requires-3 : tie.Need-come-to-requires-3
+come-to-requires-3 c κs = search needs
+
+returns : tie.Need-returns
+returns c = search (ends-offer, needs)
+
+returns-2 : tie.Need-returns-2
+returns-2 c = search (ends-assign, needs)
+
+returns-3 : tie.Need-returns-3
+returns-3 c = search (ends-iterate, needs)
+
+returns-4 : tie.Need-returns-4
+returns-4 c = search (ends-stop, needs)
+
+same-length : tie.Need-same-length
+same-length c = search needs
+
+returns-5 : tie.Need-returns-5
+returns-5 c = search (ends-write, needs)
+
+same-length-2 : tie.Need-same-length-2
+same-length-2 c = search needs
+
+returns-6 : tie.Need-returns-6
+returns-6 c = search (ends-layout, needs)
+
+same-length-3 : tie.Need-same-length-3
+same-length-3 c = search needs
+
+returns-7 : tie.Need-returns-7
+returns-7 c = search (ends-save, needs)
+
+same-length-4 : tie.Need-same-length-4
+same-length-4 c = search needs
+
+returns-8 : tie.Need-returns-8
+returns-8 c = search (ends-skip, needs)
+
+same-length-5 : tie.Need-same-length-5
+same-length-5 c = search needs
+
+returns-9 : tie.Need-returns-9
+returns-9 c = search (ends-text, needs)
+
+same-length-6 : tie.Need-same-length-6
+same-length-6 c = search needs
+
+returns-10 : tie.Need-returns-10
+returns-10 c = search (ends-value, needs)
+
+same-length-7 : tie.Need-same-length-7
+same-length-7 c = search needs
+
+returns-11 : tie.Need-returns-11
+returns-11 c = search (ends-repeat, needs)
+
+returns-12 : tie.Need-returns-12
+returns-12 c = search (ends-again, needs)
+
+returns-13 : tie.Need-returns-13
+returns-13 c = search (ends-leave, needs)
+
+returns-14 : tie.Need-returns-14
+returns-14 c = search (ends-malformed, needs)
+
+pub finish-code-spec : {M : Type 1} → statement M
+finish-code-spec =
+    tie.close
+    (tie.spec
+    enum-told
+    enum-known-ending
+    assign-requires
+    enum-known-ending-2
+    begin-passes-requires
+    enum-told-2
+    come-to-requires
+    enum-known-ending-3
+    write-to-requires
+    enum-known-ending-4
+    lay-out-requires
+    enum-told-3
+    save-requires
+    enum-told-4
+    skip-by-requires
+    enum-known-ending-5
+    skip-text-requires
+    enum-known-ending-6
+    skip-value-requires
+    enum-told-5
+    repeat-requires
+    enum-told-6
+    pass-again-requires
+    enum-told-7
+    come-to-requires-2
+    enum-told-8
+    come-to-requires-3
+    returns
+    returns-2
+    returns-3
+    returns-4
+    same-length
+    returns-5
+    same-length-2
+    returns-6
+    same-length-3
+    returns-7
+    same-length-4
+    returns-8
+    same-length-5
+    returns-9
+    same-length-6
+    returns-10
+    same-length-7
+    returns-11
+    returns-12
+    returns-13
+    returns-14)

@@ -1,0 +1,2 @@
+-- The laws of skips.
+pub mod Skipping

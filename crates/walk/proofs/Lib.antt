@@ -1,0 +1,10 @@
+-- How a function that carries a slice of structs is shown to meet its contract, step by step of its code.
+pub mod Exit
+pub mod Call
+pub mod Parts
+pub mod Loops
+pub mod Locals
+pub mod Again
+pub mod Arrays
+pub mod Numbers
+pub mod Walk
