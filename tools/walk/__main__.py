@@ -47,10 +47,10 @@ def read_answers(path):
     return walks, uses, answers
 
 
-def write_walks(crate, sources):
-    """The paths of the crate's walks, written."""
+def write_walks(program):
+    """The paths of a crate's walks, written."""
+    crate, paths = program.crate, []
     walks, uses, answers = read_answers(f"tools/walks/{crate}")
-    program, paths = Program(crate, sources), []
     for names, shows in walks:
         proof = Proof(program, names, answers, uses, shows)
         written = proof.write()
@@ -72,7 +72,8 @@ def main():
     os.chdir(os.path.join(os.path.dirname(os.path.abspath(__file__)), "..", ".."))
     crates = [word for word in sys.argv[1:] if word != "--check"] or source.crates(os.listdir("tools/walks"))
     sources, before = source.Source(), proofs()
-    written = [path for crate in crates for path in write_walks(crate, sources)]
+    programs = [Program(crate, sources) for crate in crates]  # all of them first: what is written is not proved yet
+    written = [path for program in programs for path in write_walks(program)]
     subprocess.run(["rt", "fmt"], check=True, stdout=subprocess.DEVNULL)
     if "--check" not in sys.argv:
         return

@@ -1,5 +1,3 @@
 -- Laws of the cycle.
-pub mod Laws
-pub mod Leaves
+mod Events
 pub mod Turn
-pub mod Whole

@@ -39,12 +39,14 @@ use Rattle.carry.specs.Carries.{Carries}
 use Rattle.matching.specs.declared.Match.{Match}
 use Rattle.matching.specs.Book.{Book, Prepared}
 use Rattle.matching.specs.Matches.{opened, Matches}
-use Rattle.cycle.specs.declared.Res.{Res}
-use Rattle.cycle.specs.declared.Advanced.{Advanced}
-use Rattle.cycle.specs.Results.{endsWith, goesBack, comesTo, resumed, continued}
-use Rattle.cycle.specs.Meets.{Follows, Meets, Open, Advances, Lands, isOffer, goesOn, TakesTurn, PutsLine}
-use Rattle.cycle.proofs.Laws.{stepped-at, offer-spent, code-spent, closes, no-call, too-deep, enters, begins}
-use Rattle.cycle.proofs.Leaves.{taken}
+use Rattle.resume.specs.declared.Res.{Res}
+use Rattle.resume.specs.declared.Advanced.{Advanced}
+use Rattle.resume.specs.Results.{endsWith, goesBack, comesTo, resumed, continued}
+use Rattle.resume.specs.Answers.{Follows, Open, Lands, isOffer, goesOn, TakesTurn, PutsLine}
+use Rattle.cycle.specs.Meets.{Meets, Advances}
+use Rattle.resume.proofs.Laws.{stepped-at}
+use Rattle.cycle.proofs.Events.{offer-spent, code-spent, closes, no-call, too-deep, enters, begins}
+use Rattle.resume.proofs.Leaves.{taken}
 
 -- ---- the measures: twice the fuel, and one more for a body
 

@@ -14,11 +14,11 @@ use Rattle.model.specs.Fitting.{Distinct}
 use Rattle.model.specs.Legal.{Legal}
 use Rattle.model.proofs.Loading.{templates-snoc, load-legal}
 use Rattle.nodes.specs.declared.Node.{Node}
-use Rattle.tree.specs.Table.{content, table}
-use Rattle.tree.specs.Count.{beginnings}
+use Rattle.templates.specs.Table.{content, table}
+use Rattle.templates.specs.Count.{beginnings}
 use Rattle.tree.specs.Built.{Ready}
-use Rattle.tree.proofs.Table.{table-length}
-use Rattle.tree.proofs.Count.{nodes-beginnings}
+use Rattle.templates.proofs.Table.{table-length}
+use Rattle.templates.proofs.Count.{nodes-beginnings}
 use Rattle.load.specs.declared.Loading.{Loading}
 use Rattle.load.specs.Table.{Table, tableOf, Room, macroAt, macrosOf, loadedOf, Loads}
 

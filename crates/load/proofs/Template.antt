@@ -18,9 +18,9 @@ use Rattle.model.proofs.Choices.{when-true, when-false}
 use Rattle.model.proofs.Text.{part-long, part-cons, part-empty}
 use Rattle.model.proofs.Loading.{templates-length, nodes-snoc}
 use Rattle.scan.specs.Lines.{Found, Begins}
-use Rattle.tree.specs.Table.{table}
-use Rattle.tree.specs.Count.{Counted}
-use Rattle.tree.proofs.Table.{one-more, table-length, entries-store}
+use Rattle.templates.specs.Table.{table}
+use Rattle.templates.specs.Count.{Counted}
+use Rattle.templates.proofs.Table.{one-more, table-length, entries-store}
 use Rattle.load.specs.declared.Progress.{Progress}
 use Rattle.load.specs.declared.Step.{Step}
 use Rattle.load.specs.declared.Step.the-variants.{Fault, More, Ends}

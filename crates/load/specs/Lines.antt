@@ -10,7 +10,7 @@ use Rattle.model.specs.declared.Effect.{Effect}
 use Rattle.model.specs.Text.{Bytes, part, startsWith, lines}
 use Rattle.model.specs.Load as Load
 use Rattle.model.specs.Load.{Macro, templates, count, nodes, fresh, templateFault, effectHere, unmatched, openAfter, isOwner, Seen, lineSeen, refused, lowestAt, loadFrom, noneRead, load}
-use Rattle.tree.specs.Table.{table}
+use Rattle.templates.specs.Table.{table}
 use Rattle.load.specs.declared.Head.{Head}
 use Rattle.load.specs.declared.Head.the-variants as Head
 use Rattle.load.specs.declared.Loading.{Loading}

@@ -6,7 +6,7 @@ use lib.ListN.{length, getD, drop}
 use Rattle.model.specs.declared.Marks.{Marks}
 use Rattle.model.specs.Text.{Bytes, lines}
 use Rattle.model.specs.Load.{Macro, bodyAt, nodes, Loaded, Load, refused, loaded}
-use Rattle.tree.specs.Table.{content, Entries}
+use Rattle.templates.specs.Table.{content, Entries}
 use Rattle.load.specs.declared.Loading.{Loading}
 
 -- its columns: where each template starts, how long it is, the number of its line, and where its body starts

@@ -8,7 +8,7 @@ use scan::find_byte;
 use scan::has_byte;
 use scan::read_line;
 use scan::read_marks;
-use tree::count_new;
+use templates::count_new;
 ghost use mathlib.Core.Path.{_≡_};
 ghost use mathlib.Core.Bool.{true, false};
 ghost use Prim.Native.Nat.{_+_, _≤_, _<_};
@@ -16,7 +16,7 @@ ghost use lib.ListN.{length, drop};
 ghost use Rattle.model.specs.Text.{lines};
 ghost use Rattle.model.specs.Load.{noneRead, loadFrom};
 ghost use Rattle.model.specs.Load as model-load;
-ghost use Rattle.tree.specs.Table.{Entries};
+ghost use Rattle.templates.specs.Table.{Entries};
 ghost use Rattle.load.specs.Table.{tableOf, Room, Loads};
 ghost use Rattle.load.specs.Lines.{standing, Refuses, RefusesAt, SectionAt, Heads, Sound, Counts, Weighs, BodyLine, BodySeen, EffectHere, Nests, Sees, Turns};
 

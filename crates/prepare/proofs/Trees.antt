@@ -15,7 +15,7 @@ use Rattle.model.proofs.Input.{text-short}
 use Rattle.nodes.specs.declared.Node.{Node}
 use Rattle.nodes.specs.Templates.{Represents}
 use Rattle.fit.proofs.Choose.{tree-of}
-use Rattle.tree.specs.Table.{table, Entries}
+use Rattle.templates.specs.Table.{table, Entries}
 use Rattle.tree.specs.Built.{Ready, Built}
 use Rattle.load.specs.declared.Loading.{Loading}
 use Rattle.load.specs.Table.{macrosOf, loadedOf}

@@ -31,9 +31,9 @@ use Rattle.load.proofs.Tables.{macros-length, macros-at}
 use Rattle.matching.specs.Book.{Book, Prepared}
 use Rattle.prepare.specs.declared.Tables.{Tables}
 use Rattle.prepare.specs.Prepares.{columnsOf, Prepares}
-use Rattle.cycle.specs.declared.Res.{Res}
-use Rattle.cycle.specs.Results.{resultOf}
-use Rattle.cycle.specs.Meets.{Expands}
+use Rattle.resume.specs.declared.Res.{Res}
+use Rattle.resume.specs.Results.{resultOf}
+use Rattle.input.specs.Expands.{Expands}
 use Rattle.run.specs.Runs.{Runs}
 use Rattle.run.specs.Demands.{FollowsExpansion}
 use Rattle.run.specs.Inner.{Tests, refusal, Ready, startOf, Ends}

@@ -17,7 +17,7 @@ use Rattle.store.specs.Memory.{held}
 use Rattle.state.specs.declared.State.{State}
 use Rattle.load.specs.declared.Loading.{Loading}
 use Rattle.matching.specs.Book.{Book}
-use Rattle.cycle.specs.declared.Res.{Res}
+use Rattle.resume.specs.declared.Res.{Res}
 
 -- whether fuel and rooms are illegal
 pub record Tests (fuel rows store : ℕ) (r : Bool) : Type 0 where

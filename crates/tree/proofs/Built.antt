@@ -16,11 +16,11 @@ use Rattle.nodes.specs.Rows.{noNode, elem, code, firstOf, countOf, templateOf, 
 use Rattle.nodes.proofs.Rows.{front-node}
 use Rattle.nodes.specs.Templates.{Begins}
 use Rattle.nodes.proofs.Templates.{represents}
-use Rattle.tree.specs.Count.{known, beginnings}
-use Rattle.tree.specs.Keys.{keys, codeOf, Share, one, cnt, holed}
+use Rattle.templates.specs.Count.{known, beginnings}
+use Rattle.templates.specs.Keys.{keys, codeOf, Share, one, cnt, holed}
 use Rattle.tree.specs.Nodes.{columns, Half, Made}
 use Rattle.tree.specs.Built.{Ready, order, Built}
-use Rattle.tree.proofs.Keys.{code-hole, code-inj, lt-or, cnt-more, cnt-same, key-bound, key-ends, holes-most}
+use Rattle.templates.proofs.Keys.{code-hole, code-inj, lt-or, cnt-more, cnt-same, key-bound, key-ends, holes-most}
 use Rattle.tree.proofs.Known.{templates-known}
 use Rattle.tree.proofs.Nodes.{Agree, stem, carry-all}
 use Rattle.tree.proofs.Room.{bound}

@@ -14,9 +14,9 @@ use Rattle.model.specs.declared.Marks.{Marks}
 use Rattle.model.specs.Text.{Bytes}
 use Rattle.model.specs.Parts.{Elem, lit, hole, stop, elems}
 use Rattle.nodes.specs.Rows.{code}
-use Rattle.tree.specs.Keys.{Small, pick, byteKey, keyOf, keys, codeOf, Share}
+use Rattle.templates.specs.Keys.{Small, pick, byteKey, keyOf, keys, codeOf, Share}
 use Rattle.tree.specs.Built.{order}
-use Rattle.tree.proofs.Keys.{Sorted, is-end, is-hole, is-byte, sorted, code-end, code-hole, code-byte, code-inj, byte-hole, byte-plain}
+use Rattle.templates.proofs.Keys.{Sorted, is-end, is-hole, is-byte, sorted, code-end, code-hole, code-byte, code-inj, byte-hole, byte-plain}
 
 pub elemOf : ℕ → Elem
 elemOf k = pick (eqb k 256) stop (pick (eqb k 257) hole (lit k))

@@ -7,10 +7,10 @@ use native.Mathlib.Omega.{arith}
 use lib.ListN.{length}
 use Rattle.nodes.specs.declared.Node.{Node}
 use Rattle.nodes.specs.Rows.{elem, templateOf, height}
-use Rattle.tree.specs.Count.{sum}
-use Rattle.tree.specs.Keys.{Share}
+use Rattle.templates.specs.Count.{sum}
+use Rattle.templates.specs.Keys.{Share}
 use Rattle.tree.specs.Nodes.{columns, Half}
-use Rattle.tree.proofs.Keys.{code-end, code-inj, lt-or, share-more, share-sym, pigeon}
+use Rattle.templates.proofs.Keys.{code-end, code-inj, lt-or, share-more, share-sym, pigeon}
 use Rattle.tree.proofs.Room.{Known}
 
 -- the template and the place of each new beginning

@@ -11,11 +11,11 @@ use borrow.Author.Tests.{eqb-true, eqb-false}
 use Rattle.nodes.specs.declared.Node.{Node}
 use Rattle.nodes.specs.Rows.{noNode, elem, templateOf, height}
 use Rattle.model.specs.Text.{Bytes}
-use Rattle.tree.specs.Count.{known, beginnings}
-use Rattle.tree.specs.Keys.{Smalls, keys, Least, Chosen, Moved, MovedOn}
+use Rattle.templates.specs.Count.{known, beginnings}
+use Rattle.templates.specs.Keys.{Smalls, keys, Least, Chosen, Moved, MovedOn}
 use Rattle.tree.specs.Nodes.{columns, Half, Ahead, Here, Made, Filled, withKids, below, rootNode}
 use Rattle.tree.specs.Built.{Ready}
-use Rattle.tree.proofs.Keys.{key-past, holes-most}
+use Rattle.templates.proofs.Keys.{key-past, holes-most}
 use Rattle.tree.proofs.Known.{templates-known}
 use Rattle.tree.proofs.Nodes.{Next, stem, seal}
 use Rattle.tree.proofs.Room.{room}

@@ -9,9 +9,9 @@ use lib.ListN.{length, getD, set}
 use lib.Seq.{getD-set-same, getD-set-other}
 use Rattle.nodes.specs.declared.Node.{Node}
 use Rattle.nodes.specs.Rows.{noNode, elem, templateOf, height}
-use Rattle.tree.specs.Keys.{one}
+use Rattle.templates.specs.Keys.{one}
 use Rattle.tree.specs.Nodes.{columns, Half, withKids, below, rootNode}
-use Rattle.tree.proofs.Keys.{eq-or}
+use Rattle.templates.proofs.Keys.{eq-or}
 use Rattle.tree.proofs.Nodes.{Next, Agree, run-none, stem, reach, carry, append, close}
 
 module _ (f : ℕ → ℕ → ℕ) (len : ℕ → ℕ) (n : ℕ) where

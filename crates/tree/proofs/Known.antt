@@ -10,12 +10,12 @@ use lib.Dec.{eqb}
 use lib.ListN.{length, getD, take, drop, List·getD-eq-default}
 use lib.Seq.{length-take-le, getD-take, getD-drop}
 use Rattle.model.specs.Text.{Bytes}
-use Rattle.tree.specs.Table.{table}
-use Rattle.tree.specs.Count.{common, known}
-use Rattle.tree.specs.Keys.{Small, Smalls, byteKey, keyOf, keys}
-use Rattle.tree.proofs.Table.{table-length, table-at}
-use Rattle.tree.proofs.Count.{longest-upper, longest-reached}
-use Rattle.tree.proofs.Keys.{lt-or, byte-no-end, byte-inj}
+use Rattle.templates.specs.Table.{table}
+use Rattle.templates.specs.Count.{common, known}
+use Rattle.templates.specs.Keys.{Small, Smalls, byteKey, keyOf, keys}
+use Rattle.templates.proofs.Table.{table-length, table-at}
+use Rattle.templates.proofs.Count.{longest-upper, longest-reached}
+use Rattle.templates.proofs.Keys.{lt-or, byte-no-end, byte-inj}
 use Rattle.tree.proofs.Room.{Known}
 
 -- the elements that templates have in common have the same keys

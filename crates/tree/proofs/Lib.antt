@@ -1,10 +1,3 @@
--- The table of templates, and how many beginnings they have.
-pub mod Table
-pub mod Count
-mod Matching
--- Keys, and the templates that stand at a node.
-mod Keys
-mod Choosing
 -- The tree while it is built.
 mod Nodes
 mod Room

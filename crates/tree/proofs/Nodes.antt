@@ -5,10 +5,10 @@ use Prim.Native.Nat.{ℕ, zero, suc, _+_, _-_, _≤_, _<_}
 use native.Mathlib.Omega.{arith}
 use native.Mathlib.Nat.{eq-or-lt-of-le}
 use lib.Dec.{eqb}
-use Rattle.tree.specs.Keys.{codeOf, Share, one, cnt, holed}
+use Rattle.templates.specs.Keys.{codeOf, Share, one, cnt, holed}
 use Rattle.tree.specs.Nodes.{Columns, IsNode, Run, Done, Half}
-use Rattle.tree.proofs.Keys.{code-end, lt-or, share-trans, cnt-more, cnt-same}
-use Rattle.tree.proofs.Table.{one-more}
+use Rattle.templates.proofs.Keys.{code-end, lt-or, share-trans, cnt-more, cnt-same}
+use Rattle.templates.proofs.Table.{one-more}
 
 -- the least key from low on that follows the first d elements of t in a template below n, and the first that has it; 258 where
 -- there is none

@@ -6,10 +6,10 @@ use native.Mathlib.Omega.{arith}
 use native.Mathlib.Nat.{eq-or-lt-of-le}
 use lib.Dec.{eqb}
 use borrow.Author.Tests.{eq-eqb, ne-eqb}
-use Rattle.tree.specs.Count.{sum}
-use Rattle.tree.specs.Keys.{pick, codeOf, Share, one}
+use Rattle.templates.specs.Count.{sum}
+use Rattle.templates.specs.Keys.{pick, codeOf, Share, one}
 use Rattle.tree.specs.Nodes.{Columns, IsNode, Half}
-use Rattle.tree.proofs.Keys.{lt-or, pigeon}
+use Rattle.templates.proofs.Keys.{lt-or, pigeon}
 use Rattle.tree.proofs.Nodes.{Next, Agree, carry, append}
 
 -- how many of its first elements a template has in common with an earlier one

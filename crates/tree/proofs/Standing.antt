@@ -5,11 +5,11 @@ use mathlib.Core.Logic.{_⊎_, inl, inr, ⊎-elim}
 use Prim.Native.Nat.{ℕ, _+_, _-_, _≤_, _<_}
 use native.Mathlib.Omega.{arith}
 use lib.ListN.{getD}
-use Rattle.tree.specs.Keys.{Share, Least, Moved}
+use Rattle.templates.specs.Keys.{Share, Least, Moved}
 use Rattle.tree.specs.Nodes.{Columns, Ahead, Here}
-use Rattle.tree.proofs.Keys.{eq-or, lt-or, share-sym, share-trans, share-more}
-use Rattle.tree.proofs.Table.{one-more}
-use Rattle.tree.proofs.Choosing.{stay-away, stay-other, move-on}
+use Rattle.templates.proofs.Keys.{eq-or, lt-or, share-sym, share-trans, share-more}
+use Rattle.templates.proofs.Table.{one-more}
+use Rattle.templates.proofs.Choosing.{stay-away, stay-other, move-on}
 use Rattle.tree.proofs.Nodes.{Next, Agree}
 
 module _ (f : ℕ → ℕ → ℕ) (len : ℕ → ℕ) (n : ℕ) where

@@ -10,7 +10,7 @@ use Rattle.model.specs.Parts.{Elem, elems}
 use Rattle.nodes.specs.declared.Node.{Node}
 use Rattle.nodes.specs.Rows.{elem, Child, Tree}
 use Rattle.nodes.specs.Templates.{Represents, Begins}
-use Rattle.tree.specs.Count.{beginnings}
+use Rattle.templates.specs.Count.{beginnings}
 
 -- the templates are few, short and of at most nine placeholders p, and the row has room for their tree
 pub record Ready (p : ℕ) (ts : List Bytes) (rows : List Node) : Type 0 where

@@ -1,6 +1,3 @@
--- Templates in a text, how many beginnings they have, and the tree of them.
-pub mod Table
-pub mod Count
-pub mod Keys
+-- The tree of templates: while it is built, and when it is.
 pub mod Nodes
 pub mod Built

@@ -8,8 +8,8 @@ use lib.ListN.{length, getD}
 use Rattle.nodes.specs.declared.Node.{Node}
 use Rattle.nodes.specs.Rows.{elem, firstOf, countOf, templateOf, height, holes}
 use Rattle.model.specs.Text.{Bytes}
-use Rattle.tree.specs.Keys.{Smalls, Share, one, cnt, holed, codeOf, keys}
-use Rattle.tree.specs.Count.{beginnings}
+use Rattle.templates.specs.Keys.{Smalls, Share, one, cnt, holed, codeOf, keys}
+use Rattle.templates.specs.Count.{beginnings}
 
 -- the fields of nodes: the template, the height, the element, how many placeholders, the first child, how many children
 pub record Columns : Type 0 where

@@ -48,7 +48,7 @@ use mathlib.Core.Option.{some}
 use Rattle.scan.specs.Lines.{CodeAt}
 use Rattle.state.specs.State.{Sound}
 use Rattle.matching.specs.Book.{Prepared}
-use Rattle.cycle.specs.Meets.{Open}
+use Rattle.resume.specs.Answers.{Open}
 use Rattle.walk.proofs.Walk as Walk
 use Rattle.walk.proofs.Again as Again
 use native.Mathlib.Nat.{pos-of-ne-zero}
@@ -57,10 +57,6 @@ use Rattle.cycle.proofs.Turn.{below-turn, below-body, below-call, count
 use Rattle.call.specs.declared.Call.{Call}
 use Rattle.call.proofs.Call as Call-T
 use Rattle.call.proofs.Call.Laws as Call-L
-use Rattle.cycle.proofs.Advanced as Advanced-T
-use Rattle.cycle.proofs.Advanced.Laws as Advanced-L
-use Rattle.cycle.proofs.Res as Res-T
-use Rattle.cycle.proofs.Res.Laws as Res-L
 use Rattle.finish.proofs.Carried as Carried-T
 use Rattle.finish.proofs.Carried.Laws as Carried-L
 use Rattle.matching.proofs.Match as Match-T
@@ -70,6 +66,10 @@ use Rattle.model.proofs.Marks as Marks-T
 use Rattle.model.proofs.Marks.Laws as Marks-L
 use Rattle.nodes.specs.declared.Node.{Node}
 use Rattle.nodes.proofs.Node as Node-T
+use Rattle.resume.proofs.Advanced as Advanced-T
+use Rattle.resume.proofs.Advanced.Laws as Advanced-L
+use Rattle.resume.proofs.Res as Res-T
+use Rattle.resume.proofs.Res.Laws as Res-L
 use Rattle.scan.specs.declared.CodeLine.{CodeLine}
 use Rattle.scan.proofs.CodeLine as CodeLine-T
 use Rattle.scan.proofs.CodeLine.Laws as CodeLine-L
@@ -91,38 +91,38 @@ use Rattle.carry.proofs.carry as g-carry
 use Rattle.carry.proofs.carry.Symbol as g-carry-def
 use Rattle.carry.proofs.carry.Symbol.{name as #g-carry}
 use Rattle.carry.proofs.carry.Met as g-carry-thm
-use Rattle.cycle.proofs.is_offer as g-is-offer
-use Rattle.cycle.proofs.is_offer.Symbol as g-is-offer-def
-use Rattle.cycle.proofs.is_offer.Symbol.{name as #g-is-offer}
-use Rattle.cycle.proofs.is_offer.Met as g-is-offer-thm
-use Rattle.cycle.proofs.land as g-land
-use Rattle.cycle.proofs.land.Symbol as g-land-def
-use Rattle.cycle.proofs.land.Symbol.{name as #g-land}
-use Rattle.cycle.proofs.land.Met as g-land-thm
-use Rattle.cycle.proofs.take_turn as g-take-turn
-use Rattle.cycle.proofs.take_turn.Symbol as g-take-turn-def
-use Rattle.cycle.proofs.take_turn.Symbol.{name as #g-take-turn}
-use Rattle.cycle.proofs.take_turn.Met as g-take-turn-thm
+use Rattle.resume.proofs.is_offer as g-is-offer
+use Rattle.resume.proofs.is_offer.Symbol as g-is-offer-def
+use Rattle.resume.proofs.is_offer.Symbol.{name as #g-is-offer}
+use Rattle.resume.proofs.is_offer.Met as g-is-offer-thm
+use Rattle.resume.proofs.land as g-land
+use Rattle.resume.proofs.land.Symbol as g-land-def
+use Rattle.resume.proofs.land.Symbol.{name as #g-land}
+use Rattle.resume.proofs.land.Met as g-land-thm
+use Rattle.resume.proofs.take_turn as g-take-turn
+use Rattle.resume.proofs.take_turn.Symbol as g-take-turn-def
+use Rattle.resume.proofs.take_turn.Symbol.{name as #g-take-turn}
+use Rattle.resume.proofs.take_turn.Met as g-take-turn-thm
 use Rattle.scan.proofs.read_code as g-read-code
 use Rattle.scan.proofs.read_code.Symbol as g-read-code-def
 use Rattle.scan.proofs.read_code.Symbol.{name as #g-read-code}
 use Rattle.scan.proofs.read_code.Met as g-read-code-thm
-use Rattle.cycle.proofs.go_back as g-go-back
-use Rattle.cycle.proofs.go_back.Symbol as g-go-back-def
-use Rattle.cycle.proofs.go_back.Symbol.{name as #g-go-back}
-use Rattle.cycle.proofs.go_back.Met as g-go-back-thm
-use Rattle.cycle.proofs.end_with as g-end-with
-use Rattle.cycle.proofs.end_with.Symbol as g-end-with-def
-use Rattle.cycle.proofs.end_with.Symbol.{name as #g-end-with}
-use Rattle.cycle.proofs.end_with.Met as g-end-with-thm
+use Rattle.resume.proofs.go_back as g-go-back
+use Rattle.resume.proofs.go_back.Symbol as g-go-back-def
+use Rattle.resume.proofs.go_back.Symbol.{name as #g-go-back}
+use Rattle.resume.proofs.go_back.Met as g-go-back-thm
+use Rattle.resume.proofs.end_with as g-end-with
+use Rattle.resume.proofs.end_with.Symbol as g-end-with-def
+use Rattle.resume.proofs.end_with.Symbol.{name as #g-end-with}
+use Rattle.resume.proofs.end_with.Met as g-end-with-thm
 use Rattle.matching.proofs.match_line as g-match-line
 use Rattle.matching.proofs.match_line.Symbol as g-match-line-def
 use Rattle.matching.proofs.match_line.Symbol.{name as #g-match-line}
 use Rattle.matching.proofs.match_line.Met as g-match-line-thm
-use Rattle.cycle.proofs.put_line as g-put-line
-use Rattle.cycle.proofs.put_line.Symbol as g-put-line-def
-use Rattle.cycle.proofs.put_line.Symbol.{name as #g-put-line}
-use Rattle.cycle.proofs.put_line.Met as g-put-line-thm
+use Rattle.resume.proofs.put_line as g-put-line
+use Rattle.resume.proofs.put_line.Symbol as g-put-line-def
+use Rattle.resume.proofs.put_line.Symbol.{name as #g-put-line}
+use Rattle.resume.proofs.put_line.Met as g-put-line-thm
 use Rattle.state.proofs.add_call as g-add-call
 use Rattle.state.proofs.add_call.Symbol as g-add-call-def
 use Rattle.state.proofs.add_call.Symbol.{name as #g-add-call}
@@ -1990,11 +1990,11 @@ unfolding code.advance-routine code.body-routine code.offer-routine tablesOf
     (cited 𝓤 H (Walk.Of 𝓤 H (𝓖 .A) g-carry.ended (g-carry.clauses 𝓤 H (𝓖 .A) (𝓜 .mem)
     (𝓡 .run))) 𝓜 𝓡 code.env #g-carry g-carry-def.routine code.calls-carry·carry (g-carry-thm.met 𝓤 H 𝓜 𝓖 𝓡))
     (cited 𝓤 H (Walk.Of 𝓤 H (𝓖 .A) g-is-offer.ended (g-is-offer.clauses 𝓤 H (𝓖 .A) (𝓜 .mem)
-    (𝓡 .run))) 𝓜 𝓡 code.env #g-is-offer g-is-offer-def.routine code.calls-cycle·is-offer (g-is-offer-thm.met 𝓤 H 𝓜 𝓖 𝓡))
+    (𝓡 .run))) 𝓜 𝓡 code.env #g-is-offer g-is-offer-def.routine code.calls-resume·is-offer (g-is-offer-thm.met 𝓤 H 𝓜 𝓖 𝓡))
     (cited 𝓤 H (Walk.Of 𝓤 H (𝓖 .A) g-land.ended (g-land.clauses 𝓤 H (𝓖 .A) (𝓜 .mem)
-    (𝓡 .run))) 𝓜 𝓡 code.env #g-land g-land-def.routine code.calls-cycle·land (g-land-thm.met 𝓤 H 𝓜 𝓖 𝓡))
+    (𝓡 .run))) 𝓜 𝓡 code.env #g-land g-land-def.routine code.calls-resume·land (g-land-thm.met 𝓤 H 𝓜 𝓖 𝓡))
     (cited 𝓤 H (Walk.Of 𝓤 H (𝓖 .A) g-take-turn.ended (g-take-turn.clauses 𝓤 H (𝓖 .A) (𝓜 .mem)
-    (𝓡 .run))) 𝓜 𝓡 code.env #g-take-turn g-take-turn-def.routine code.calls-cycle·take-turn (g-take-turn-thm.met 𝓤 H 𝓜 𝓖 𝓡))
+    (𝓡 .run))) 𝓜 𝓡 code.env #g-take-turn g-take-turn-def.routine code.calls-resume·take-turn (g-take-turn-thm.met 𝓤 H 𝓜 𝓖 𝓡))
     (λ z lt. smaller .0 (μ-advance 𝓤 H (𝓖 .A) (𝓜 .mem) (𝓡 .run) z) (subst (λ (m : ℕ). μ-advance 𝓤 H (𝓖 .A) (𝓜 .mem)
     (𝓡 .run) z < m) e lt) z refl) (λ z lt. smaller .1 .0 (μ-body 𝓤 H (𝓖 .A) (𝓜 .mem) (𝓡 .run) z) (subst (λ (m : ℕ). μ-body 𝓤 H (𝓖 .A) (𝓜 .mem)
     (𝓡 .run) z < m) e lt) z refl) (λ z lt. smaller .1 .1 (μ-offer 𝓤 H (𝓖 .A) (𝓜 .mem) (𝓡 .run) z) (subst (λ (m : ℕ). μ-offer 𝓤 H (𝓖 .A) (𝓜 .mem)
@@ -2012,9 +2012,9 @@ unfolding code.advance-routine code.body-routine code.offer-routine tablesOf
     (cited 𝓤 H (Walk.Of 𝓤 H (𝓖 .A) g-read-code.ended (g-read-code.clauses 𝓤 H (𝓖 .A) (𝓜 .mem)
     (𝓡 .run))) 𝓜 𝓡 code.env #g-read-code g-read-code-def.routine code.calls-scan·read-code (g-read-code-thm.met 𝓤 H 𝓜 𝓖 𝓡))
     (cited 𝓤 H (Walk.Of 𝓤 H (𝓖 .A) g-go-back.ended (g-go-back.clauses 𝓤 H (𝓖 .A) (𝓜 .mem)
-    (𝓡 .run))) 𝓜 𝓡 code.env #g-go-back g-go-back-def.routine code.calls-cycle·go-back (g-go-back-thm.met 𝓤 H 𝓜 𝓖 𝓡))
+    (𝓡 .run))) 𝓜 𝓡 code.env #g-go-back g-go-back-def.routine code.calls-resume·go-back (g-go-back-thm.met 𝓤 H 𝓜 𝓖 𝓡))
     (cited 𝓤 H (Walk.Of 𝓤 H (𝓖 .A) g-end-with.ended (g-end-with.clauses 𝓤 H (𝓖 .A) (𝓜 .mem)
-    (𝓡 .run))) 𝓜 𝓡 code.env #g-end-with g-end-with-def.routine code.calls-cycle·end-with (g-end-with-thm.met 𝓤 H 𝓜 𝓖 𝓡))
+    (𝓡 .run))) 𝓜 𝓡 code.env #g-end-with g-end-with-def.routine code.calls-resume·end-with (g-end-with-thm.met 𝓤 H 𝓜 𝓖 𝓡))
     (λ z lt. smaller .0 (μ-advance 𝓤 H (𝓖 .A) (𝓜 .mem) (𝓡 .run) z) (subst (λ (m : ℕ). μ-advance 𝓤 H (𝓖 .A) (𝓜 .mem)
     (𝓡 .run) z < m) e lt) z refl) (λ z lt. smaller .1 .0 (μ-body 𝓤 H (𝓖 .A) (𝓜 .mem) (𝓡 .run) z) (subst (λ (m : ℕ). μ-body 𝓤 H (𝓖 .A) (𝓜 .mem)
     (𝓡 .run) z < m) e lt) z refl) (λ z lt. smaller .1 .1 (μ-offer 𝓤 H (𝓖 .A) (𝓜 .mem) (𝓡 .run) z) (subst (λ (m : ℕ). μ-offer 𝓤 H (𝓖 .A) (𝓜 .mem)
@@ -2030,13 +2030,13 @@ unfolding code.advance-routine code.body-routine code.offer-routine tablesOf
     (y .0 .3 .1 .0) (y .0 .3 .1 .1 .0) (y .0 .3 .1 .1 .1 .0) (y .0 .3 .1 .1 .1 .1 .0) (y .0 .3 .1 .1 .1 .1 .1 .0) (y .0 .3 .1 .1 .1 .1 .1 .1 .0)
     (y .0 .3 .1 .1 .1 .1 .1 .1 .1 .0) (y .0 .3 .1 .1 .1 .1 .1 .1 .1 .1 .0) (𝓣 .C) (𝓣 .Λ) (fmOf 𝓤 H (W .laws) 𝓣)
     (cited 𝓤 H (Walk.Of 𝓤 H (𝓖 .A) g-end-with.ended (g-end-with.clauses 𝓤 H (𝓖 .A) (𝓜 .mem)
-    (𝓡 .run))) 𝓜 𝓡 code.env #g-end-with g-end-with-def.routine code.calls-cycle·end-with (g-end-with-thm.met 𝓤 H 𝓜 𝓖 𝓡))
+    (𝓡 .run))) 𝓜 𝓡 code.env #g-end-with g-end-with-def.routine code.calls-resume·end-with (g-end-with-thm.met 𝓤 H 𝓜 𝓖 𝓡))
     (cited 𝓤 H (Walk.Of 𝓤 H (𝓖 .A) g-count-event.ended (g-count-event.clauses 𝓤 H (𝓖 .A) (𝓜 .mem)
     (𝓡 .run))) 𝓜 𝓡 code.env #g-count-event g-count-event-def.routine code.calls-state·count-event (g-count-event-thm.met 𝓤 H 𝓜 𝓖 𝓡))
     (cited 𝓤 H (Walk.Of 𝓤 H (𝓖 .A) g-match-line.ended (g-match-line.clauses 𝓤 H (𝓖 .A) (𝓜 .mem)
     (𝓡 .run))) 𝓜 𝓡 code.env #g-match-line g-match-line-def.routine code.calls-matching·match-line (g-match-line-thm.met 𝓤 H 𝓜 𝓖 𝓡))
     (cited 𝓤 H (Walk.Of 𝓤 H (𝓖 .A) g-put-line.ended (g-put-line.clauses 𝓤 H (𝓖 .A) (𝓜 .mem)
-    (𝓡 .run))) 𝓜 𝓡 code.env #g-put-line g-put-line-def.routine code.calls-cycle·put-line (g-put-line-thm.met 𝓤 H 𝓜 𝓖 𝓡))
+    (𝓡 .run))) 𝓜 𝓡 code.env #g-put-line g-put-line-def.routine code.calls-resume·put-line (g-put-line-thm.met 𝓤 H 𝓜 𝓖 𝓡))
     (cited 𝓤 H (Walk.Of 𝓤 H (𝓖 .A) g-add-call.ended (g-add-call.clauses 𝓤 H (𝓖 .A) (𝓜 .mem)
     (𝓡 .run))) 𝓜 𝓡 code.env #g-add-call g-add-call-def.routine code.calls-state·add-call (g-add-call-thm.met 𝓤 H 𝓜 𝓖 𝓡))
     (λ z lt. smaller .0 (μ-advance 𝓤 H (𝓖 .A) (𝓜 .mem) (𝓡 .run) z) (subst (λ (m : ℕ). μ-advance 𝓤 H (𝓖 .A) (𝓜 .mem)

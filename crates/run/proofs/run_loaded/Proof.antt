@@ -44,8 +44,6 @@ use Rattle.run.specs.Inner.{Ready}
 use Rattle.walk.proofs.Walk as Walk
 use Rattle.walk.proofs.Again as Again
 use Rattle.run.proofs.Running.{prepared, starts-sound, starts-within, loaded-runs}
-use Rattle.cycle.proofs.Res as Res-T
-use Rattle.cycle.proofs.Res.Laws as Res-L
 use Rattle.load.specs.declared.Loading.{Loading}
 use Rattle.load.proofs.Loading as Loading-T
 use Rattle.load.proofs.Loading.Laws as Loading-L
@@ -55,6 +53,8 @@ use Rattle.model.proofs.Ran as Ran-T
 use Rattle.model.proofs.Ran.Laws as Ran-L
 use Rattle.nodes.specs.declared.Node.{Node}
 use Rattle.nodes.proofs.Node as Node-T
+use Rattle.resume.proofs.Res as Res-T
+use Rattle.resume.proofs.Res.Laws as Res-L
 use Rattle.state.proofs.State as State-T
 use Rattle.state.proofs.State.Laws as State-L
 use Rattle.store.specs.declared.Index.{Index}
@@ -64,10 +64,10 @@ use Rattle.run.proofs.start as g-start
 use Rattle.run.proofs.start.Symbol as g-start-def
 use Rattle.run.proofs.start.Symbol.{name as #g-start}
 use Rattle.run.proofs.start.Met as g-start-thm
-use Rattle.cycle.proofs.expand as g-expand
-use Rattle.cycle.proofs.expand.Symbol as g-expand-def
-use Rattle.cycle.proofs.expand.Symbol.{name as #g-expand}
-use Rattle.cycle.proofs.expand.Met as g-expand-thm
+use Rattle.input.proofs.expand as g-expand
+use Rattle.input.proofs.expand.Symbol as g-expand-def
+use Rattle.input.proofs.expand.Symbol.{name as #g-expand}
+use Rattle.input.proofs.expand.Met as g-expand-thm
 use Rattle.run.proofs.end as g-end
 use Rattle.run.proofs.end.Symbol as g-end-def
 use Rattle.run.proofs.end.Symbol.{name as #g-end}
@@ -468,7 +468,7 @@ run-loaded-spec 𝓤 H 𝓜 𝓖 𝓡 =
     (a .1 .1 .1 .1 .1 .1 .1 .1 .0) (𝓣 .C) (𝓣 .Λ) (fmOf 𝓤 H (W .laws) 𝓣) (cited 𝓤 H (Walk.Of 𝓤 H (𝓖 .A) g-start.ended (g-start.clauses 𝓤 H (𝓖 .A)
     (𝓜 .mem) (𝓡 .run))) 𝓜 𝓡 code.env #g-start g-start-def.routine code.calls-run·start (g-start-thm.met 𝓤 H 𝓜 𝓖 𝓡))
     (cited 𝓤 H (Walk.Of 𝓤 H (𝓖 .A) g-expand.ended (g-expand.clauses 𝓤 H (𝓖 .A) (𝓜 .mem)
-    (𝓡 .run))) 𝓜 𝓡 code.env #g-expand g-expand-def.routine code.calls-cycle·expand (g-expand-thm.met 𝓤 H 𝓜 𝓖 𝓡))
+    (𝓡 .run))) 𝓜 𝓡 code.env #g-expand g-expand-def.routine code.calls-input·expand (g-expand-thm.met 𝓤 H 𝓜 𝓖 𝓡))
     (cited 𝓤 H (Walk.Of 𝓤 H (𝓖 .A) g-end.ended (g-end.clauses 𝓤 H (𝓖 .A) (𝓜 .mem)
     (𝓡 .run))) 𝓜 𝓡 code.env #g-end g-end-def.routine code.calls-run·end (g-end-thm.met 𝓤 H 𝓜 𝓖 𝓡)) (are .0) (are .1 .0) (are .1 .1 .0)
     (are .1 .1 .1 .0) (are .1 .1 .1 .1 .0 .1) (are .1 .1 .1 .1 .1 .0) (are .1 .1 .1 .1 .1 .1 .0) (are .1 .1 .1 .1 .1 .1 .1 .0)

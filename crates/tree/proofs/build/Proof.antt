@@ -44,14 +44,14 @@ use denote.Memory.{pointee}
 use denote.Signature.{plain, shrSliceOf}
 use Prim.Native.Nat.{ℕ, _<_, _^_}
 use lib.ListN.{length, replicate, length-replicate, getD}
-use Rattle.tree.specs.Table.{table, Entries}
+use Rattle.templates.specs.Table.{table, Entries}
 use Rattle.tree.specs.Built.{Ready}
 use Rattle.walk.proofs.Walk as Walk
 use Rattle.walk.proofs.Again as Again
 use Rattle.walk.proofs.Numbers as Numbers
 use Rattle.walk.proofs.Arrays as Arrays
 use Rattle.tree.proofs.Filling.{no-more, root-alone}
-use Rattle.tree.proofs.Table.{table-length}
+use Rattle.templates.proofs.Table.{table-length}
 use Rattle.tree.proofs.Known.{table-small}
 use Rattle.tree.proofs.Built.{ready-kept, built-in-row}
 use Rattle.model.specs.declared.Marks.{Marks}

@@ -42,8 +42,8 @@ use denote.Memory.{pointee}
 use denote.Signature.{plain, shrSliceOf}
 use Prim.Native.Nat.{ℕ, _<_, _≤_, _^_, suc}
 use lib.ListN.{length}
-use Rattle.tree.specs.Table.{table, Entries}
-use Rattle.tree.specs.Count.{beginnings}
+use Rattle.templates.specs.Table.{table, Entries}
+use Rattle.templates.specs.Count.{beginnings}
 use Rattle.tree.specs.Nodes.{Made}
 use Rattle.tree.specs.Built.{Ready}
 use Rattle.walk.proofs.Walk as Walk

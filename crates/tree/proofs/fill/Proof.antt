@@ -44,8 +44,8 @@ use denote.Signature.{plain, shrSliceOf}
 use Prim.Native.Nat.{ℕ, _+_, _-_, _<_, _≤_, _^_, suc}
 use lib.ListN.{length}
 use Rattle.nodes.specs.Rows.{elem}
-use Rattle.tree.specs.Table.{table, Entries}
-use Rattle.tree.specs.Count.{beginnings}
+use Rattle.templates.specs.Table.{table, Entries}
+use Rattle.templates.specs.Count.{beginnings}
 use Rattle.tree.specs.Nodes.{Made}
 use Rattle.tree.specs.Built.{Ready}
 use Rattle.walk.proofs.Walk as Walk
@@ -54,8 +54,8 @@ use Rattle.tree.proofs.Filling.{Filling, not-high, started, child-fits,
 use Rattle.nodes.specs.declared.Node.{Node}
 use Rattle.nodes.proofs.Node as Node-T
 use Rattle.nodes.proofs.Node.Laws as Node-L
-use Rattle.tree.proofs.Pick as Pick-T
-use Rattle.tree.proofs.Pick.Laws as Pick-L
+use Rattle.templates.proofs.Pick as Pick-T
+use Rattle.templates.proofs.Pick.Laws as Pick-L
 use Rattle.nodes.proofs.node_at as g-node-at
 use Rattle.nodes.proofs.node_at.Symbol as g-node-at-def
 use Rattle.nodes.proofs.node_at.Symbol.{name as #g-node-at}
@@ -64,10 +64,10 @@ use Rattle.tree.proofs.depth_of as g-depth-of
 use Rattle.tree.proofs.depth_of.Symbol as g-depth-of-def
 use Rattle.tree.proofs.depth_of.Symbol.{name as #g-depth-of}
 use Rattle.tree.proofs.depth_of.Met as g-depth-of-thm
-use Rattle.tree.proofs.least as g-least
-use Rattle.tree.proofs.least.Symbol as g-least-def
-use Rattle.tree.proofs.least.Symbol.{name as #g-least}
-use Rattle.tree.proofs.least.Met as g-least-thm
+use Rattle.templates.proofs.least as g-least
+use Rattle.templates.proofs.least.Symbol as g-least-def
+use Rattle.templates.proofs.least.Symbol.{name as #g-least}
+use Rattle.templates.proofs.least.Met as g-least-thm
 use Rattle.tree.proofs.make_child as g-make-child
 use Rattle.tree.proofs.make_child.Symbol as g-make-child-def
 use Rattle.tree.proofs.make_child.Symbol.{name as #g-make-child}
@@ -76,10 +76,10 @@ use Rattle.nodes.proofs.set_node as g-set-node
 use Rattle.nodes.proofs.set_node.Symbol as g-set-node-def
 use Rattle.nodes.proofs.set_node.Symbol.{name as #g-set-node}
 use Rattle.nodes.proofs.set_node.Met as g-set-node-thm
-use Rattle.tree.proofs.advance as g-advance
-use Rattle.tree.proofs.advance.Symbol as g-advance-def
-use Rattle.tree.proofs.advance.Symbol.{name as #g-advance}
-use Rattle.tree.proofs.advance.Met as g-advance-thm
+use Rattle.templates.proofs.advance as g-advance
+use Rattle.templates.proofs.advance.Symbol as g-advance-def
+use Rattle.templates.proofs.advance.Symbol.{name as #g-advance}
+use Rattle.templates.proofs.advance.Met as g-advance-thm
 use Rattle.tree.proofs.fill as f-fill
 use Rattle.tree.proofs.fill.Key.{name as #fill}
 use Rattle.tree.proofs.fill.Statement as stated
@@ -656,12 +656,12 @@ fill-spec 𝓤 H 𝓜 𝓖 𝓡 =
     (cited 𝓤 H (Walk.Of 𝓤 H (𝓖 .A) g-depth-of.ended (g-depth-of.clauses 𝓤 H (𝓖 .A) (𝓜 .mem)
     (𝓡 .run))) 𝓜 𝓡 code.env #g-depth-of g-depth-of-def.routine code.calls-tree·depth-of (g-depth-of-thm.met 𝓤 H 𝓜 𝓖 𝓡))
     (cited 𝓤 H (Walk.Of 𝓤 H (𝓖 .A) g-least.ended (g-least.clauses 𝓤 H (𝓖 .A) (𝓜 .mem)
-    (𝓡 .run))) 𝓜 𝓡 code.env #g-least g-least-def.routine code.calls-tree·least (g-least-thm.met 𝓤 H 𝓜 𝓖 𝓡))
+    (𝓡 .run))) 𝓜 𝓡 code.env #g-least g-least-def.routine code.calls-templates·least (g-least-thm.met 𝓤 H 𝓜 𝓖 𝓡))
     (cited 𝓤 H (Walk.Of 𝓤 H (𝓖 .A) g-make-child.ended (g-make-child.clauses 𝓤 H (𝓖 .A) (𝓜 .mem)
     (𝓡 .run))) 𝓜 𝓡 code.env #g-make-child g-make-child-def.routine code.calls-tree·make-child (g-make-child-thm.met 𝓤 H 𝓜 𝓖 𝓡))
     (cited 𝓤 H (Walk.Of 𝓤 H (𝓖 .A) g-set-node.ended (g-set-node.clauses 𝓤 H (𝓖 .A) (𝓜 .mem)
     (𝓡 .run))) 𝓜 𝓡 code.env #g-set-node g-set-node-def.routine code.calls-nodes·set-node (g-set-node-thm.met 𝓤 H 𝓜 𝓖 𝓡))
     (cited 𝓤 H (Walk.Of 𝓤 H (𝓖 .A) g-advance.ended (g-advance.clauses 𝓤 H (𝓖 .A) (𝓜 .mem)
-    (𝓡 .run))) 𝓜 𝓡 code.env #g-advance g-advance-def.routine code.calls-tree·advance (g-advance-thm.met 𝓤 H 𝓜 𝓖 𝓡)) (are .0 .1) (are .1 .0)
+    (𝓡 .run))) 𝓜 𝓡 code.env #g-advance g-advance-def.routine code.calls-templates·advance (g-advance-thm.met 𝓤 H 𝓜 𝓖 𝓡)) (are .0 .1) (are .1 .0)
     (are .1 .1 .0) (are .1 .1 .1 .0) (are .1 .1 .1 .1 .0 .1) (are .1 .1 .1 .1 .1 .0) (are .1 .1 .1 .1 .1 .1 .0) (are .1 .1 .1 .1 .1 .1 .1 .0 .1)
     (are .1 .1 .1 .1 .1 .1 .1 .1 .0 .1))))

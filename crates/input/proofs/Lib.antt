@@ -1,0 +1,4 @@
+-- Laws of the run over the input.
+mod Reading
+mod Lines
+mod Whole

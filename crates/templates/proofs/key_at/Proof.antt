@@ -1,0 +1,29 @@
+-- key_at answers the key at a place of a template.
+use borrow.Author.Needs.{needs}
+use native.Mathlib.Omega.{arith}
+use Prim.Native.Nat.{_+_}
+use Rattle.templates.proofs.Keys.{key-hole, key-byte, key-end}
+use Rattle.templates.proofs.key_at.Statement.{statement}
+use Rattle.templates.proofs.key_at.Tie as tie
+
+add-b : tie.Need-add-b
+add-b c = search needs
+
+shared-slice-read-b : tie.Need-shared-slice-read-b
+shared-slice-read-b c = search needs
+
+returns : tie.Need-returns
+returns c = search (key-hole, needs)
+
+cast-result : tie.Need-cast-result
+cast-result c = omega (arith, c .before .shared-slice-known .given (c .before .before .before .args .start + c .before .before .before .args .x))
+
+returns-2 : tie.Need-returns-2
+returns-2 c = key-byte _ _ _ _ _ (c .before .before .before .pre) (search needs) (c .if2 .left) (omega (arith, c .before .shared-slice-known .given (c .before .before .before .args .start + c .before .before .before .args .x)))
+
+returns-3 : tie.Need-returns-3
+returns-3 c = search (key-end, needs)
+
+pub key-at-spec : {M : Type 1} → statement M
+key-at-spec =
+    tie.close (tie.spec add-b shared-slice-read-b returns cast-result returns-2 returns-3)
