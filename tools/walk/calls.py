@@ -63,8 +63,15 @@ class Walk(Steps):
         assert None not in tokens and len(set(t[0] for t in tokens)) == len(tokens), "one slice twice"
         return arguments, tokens, loans, brackets
 
-    def lends(self, loan, given, law):
+    def lends(self, loan, row, slice, value, owed, law):
+        """What the callee is given, and what is owed back; slice is its reference under a name."""
+        type = loan.type
+        kind = "MutSlice" if type.mutable else "ShrSlice"
+        given = f"‵ ({kind} (named {type.lifetime}) {loan.lifetime} {row} .own {slice('δ')} ({value} ∷ [])) ⊛ ‵ ({owed})"
         self.say(f"Kit.use2 W (later (Kit.some (λ (δ : GName). {given}))) ({law}) $ Kit.await ! tt $ Kit.pick ! (λ δ{loan.number}. Kit.split ! $")
+        argument = Value(loan.value.type, slice(f"δ{loan.number}"), lends="loan")
+        argument.machine, argument.loan = value, loan
+        return argument
 
     def lend_array(self, loan):
         k, type = loan.value.array, loan.type
@@ -72,7 +79,7 @@ class Walk(Steps):
         at, row = f"l{low(k)}", of.row()
         self.has_local = True
         self.front(("cell", k), ("array", k))
-        slice = f"(record {{ ptr = ({at}, 0); name = δ{{}}; now = {xs} }})".replace("{}", "%s")
+        slice = lambda name: f"(record {{ ptr = ({at}, 0); name = {name}; now = {xs} }})"
         value = f"(sliceVal ({at}, 0) (length {xs}))"
         room = f"(subst (Slice.Room {row}) (sym {long}) (lit< tt, lit< tt))"
         loan.base = f"𝓤 H A W {row} tt {n} {at}"
@@ -80,10 +87,8 @@ class Walk(Steps):
             owed, law = f"Lend.Held {row} (length {xs}) {at} 0 δ", "Arrays.lends-local"
         else:
             owed, law = f"arr-parts (shares {row}) (length {xs}) .part fullShare {xs} {at} 0", "Arrays.shares-local"
-        kind = "MutSlice" if type.mutable else "ShrSlice"
-        given = f"‵ ({kind} (named {type.lifetime}) {loan.lifetime} {row} .own {slice % ''} ({value} ∷ [])) ⊛ ‵ (flent {loan.lifetime} ({owed}))"
-        self.lends(loan, given, f"{law} {loan.base} (named {type.lifetime}) {loan.lifetime} {xs} {machine} {room}")
-        return self.lent(loan, slice % loan.number, value)
+        law = f"{law} {loan.base} (named {type.lifetime}) {loan.lifetime} {xs} {machine} {room}"
+        return self.lends(loan, row, slice, value, f"flent {loan.lifetime} ({owed})", law)
 
     def lend_on(self, loan):
         p, type = loan.value.lends, loan.type
@@ -97,15 +102,7 @@ class Walk(Steps):
             owed, law = f"Again.LentAgain {loan.base} δ {now}", "Again.lends-again"
         else:
             owed, law = f"Again.LentShared {loan.base} {now}", "Again.shares-again"
-        kind = "MutSlice" if type.mutable else "ShrSlice"
-        given = f"‵ ({kind} (named {type.lifetime}) {loan.lifetime} {mine.of.row()} .own {slice('δ')} ({value} ∷ [])) ⊛ ‵ ({owed})"
-        self.lends(loan, given, f"{law} {loan.base} 𝓤 H A W (named {mine.lifetime}) (named {type.lifetime}) {now}")
-        return self.lent(loan, slice(f"δ{loan.number}"), value)
-
-    def lent(self, loan, d, machine):
-        value = Value(loan.value.type, d, lends="loan")
-        value.machine, value.loan = machine, loan
-        return value
+        return self.lends(loan, mine.of.row(), slice, value, owed, f"{law} {loan.base} 𝓤 H A W (named {mine.lifetime}) (named {type.lifetime}) {now}")
 
     def own_arguments(self, types, arguments):
         self.say("Walk.nothing ! $")
