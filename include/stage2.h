@@ -1,7 +1,7 @@
 /* STAGE2 for name tables: check a text, fit a line against a text's templates, and run a text.
  *
  * Link with target/staticlib/libapi.a (x86-64 Linux), which `rt staticlib api` writes. The calls keep nothing between one and
- * the next, allocate nothing, and may run in several threads at once. A check and a fit need 256 KB of stack, a run 1 MB.
+ * the next, allocate nothing, and may run in several threads at once. A check and a fit need 128 KB of stack, a run 256 KB.
  *
  * An array is passed as a pointer and a count of elements. No pointer may be NULL, not even with a count of 0. The arrays
  * that a call writes to, the node row, output and store, overlap neither each other nor the text or line. Nothing else is

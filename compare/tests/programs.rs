@@ -1,5 +1,5 @@
-//! The proved programs on the vectors, and against the reference's answers
-//! where a file or an argument is missing.
+//! The proved programs on the vectors, and against the reference on long texts
+//! and lines. What they say of files and arguments is in `commands.rs`.
 
 use std::ffi::OsStr;
 use std::fs::{self, File};
@@ -96,8 +96,7 @@ fn fit_vectors() {
 
 #[test]
 fn long_lines_and_texts() {
-    let lines =
-        [&[b'A'; 200][..], &[b'A'; 201], &[b'A'; 70_000], b"", b"AB\0\x80", &[b'B'; 65_536]].join(&b'\n');
+    let lines = [&[b'A'; 200][..], &[b'A'; 201], &[b'A'; 60_000], b"", b"AB\0\x80", &[b'B'; 5_000]].join(&b'\n');
     let mut long = b"$!$!0 (+-*/)\nA!$\n$$\n".to_vec();
     let lines_file = Scratch::new("long.lines", &lines);
     for length in [long.len(), 65_536, 65_537, 70_000] {
@@ -113,22 +112,15 @@ fn long_lines_and_texts() {
     }
 }
 
+/// A file of lines has at most 65,536 bytes; the rows of that many lines fit.
 #[test]
-fn missing_files_and_arguments() {
-    let (good, lines) = ("fit/examples.text", "fit/examples.lines");
-    let none: [&str; 0] = [];
-    assert_eq!(printed("check_text", &none), "check_text: give the names of the files to check\n");
-    for bad in ["no such file", "run", ""] {
-        assert_eq!(printed("check_text", &[good, bad, good]), format!("check_text: {bad} cannot be read\n"));
-        assert_eq!(printed("fit_line", &[bad, lines]), format!("fit_line: {bad} cannot be read\n"));
-        assert_eq!(printed("fit_line", &[good, bad]), format!("fit_line: {bad} cannot be read\n"));
+fn many_lines() {
+    let text = b"$!$!0 (+-*/)\n\n$$\n";
+    let text_file = Scratch::new("many.text", text);
+    for lines in [vec![b'\n'; 65_536], b"AAAAAAAAA\n".repeat(6_553), vec![b'A'; 65_536], vec![]] {
+        let lines_file = Scratch::new("many.lines", &lines);
+        assert!(printed("fit_line", &[text_file.name(), lines_file.name()]) == programs::fit_rows(text, &lines));
     }
-    let few = "fit_line: give the file of the text and the file of the lines\n";
-    assert_eq!(printed("fit_line", &none), few);
-    assert_eq!(printed("fit_line", &[good]), few);
-    assert_eq!(printed("fit_line", &[good, lines, lines]), few);
-    let long = "n".repeat(100_000);
-    assert_eq!(printed("check_text", &[&long]), format!("check_text: {long} cannot be read\n"));
 }
 
 #[test]
@@ -153,7 +145,6 @@ fn long_texts_expanded() {
 }
 
 #[test]
-fn no_standard_input() {
-    assert_eq!(expanded(&vectors()), b"expand: standard input cannot be read\n");
+fn nothing_on_standard_input() {
     assert_eq!(expanded(Path::new("/dev/null")), b"END 3 1 0\n");
 }

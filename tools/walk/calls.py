@@ -20,6 +20,8 @@ class Walk(Steps):
         if not inside and callee.name not in self.callees:
             self.callees.append(callee.name)
         key = self.key("call")
+        times = self.called[callee.short] = self.called.get(callee.short, 0) + 1
+        self.by_callee = f"({callee.short})" if times == 1 else f"({callee.short} {times})"
         types = [self.program.types.read(t) for t in callee.locals[:1 + callee.params]]
         arguments = [self.operand(o)[1] for o in mir.items(code[2])]
         self.say(f"-- {self.named()}")
@@ -102,7 +104,8 @@ class Walk(Steps):
             owed, law = f"Again.LentAgain {loan.base} δ {now}", "Again.lends-again"
         else:
             owed, law = f"Again.LentShared {loan.base} {now}", "Again.shares-again"
-        return self.lends(loan, mine.of.row(), slice, value, owed, f"{law} {loan.base} 𝓤 H A W (named {mine.lifetime}) (named {type.lifetime}) {now}")
+        law = f"{law} {loan.base} 𝓤 H A W (named {mine.lifetime}) (named {type.lifetime}) {now}"
+        return self.lends(loan, mine.of.row(), slice, value, owed, law)
 
     def own_arguments(self, types, arguments):
         self.say("Walk.nothing ! $")
@@ -111,7 +114,7 @@ class Walk(Steps):
             if a.lends:
                 self.front(("lent", a.loan.number), "arguments")
             elif a.type.kind == "slice":
-                t, own = a.type, f"({self.slice_row(a.d)} .own {a.d} (v-{a.d} ∷ []))"
+                t, own = a.type, f"({self.slice_row(a.d)} .own {a.d} ({self.of_slice('v', a.d)} ∷ []))"
                 self.front(("own", a.d))
                 copy = f"shr-slice-copy 𝓤 H A W (named {t.lifetime}) κ{low(t.lifetime)} {t.of.row()} .twice {a.d} _"
                 self.say(f"Kit.use1 W (‵ {own} ⊛ ‵ {own}) ({copy}) $ Kit.split ! $")
@@ -126,14 +129,14 @@ class Walk(Steps):
     # ---- the call
     def ask(self, code, rest, key, callee, alias, inside, arguments, tokens, writes):
         said = self.program.source.function(callee.name)
-        machines = [(f"v-{a.d}" if a.type.kind == "slice" and not a.lends else a.machine) + " ∷ []" for a in arguments]
+        machines = [(self.of_slice("v", a.d) if a.type.kind == "slice" and not a.lends else a.machine) + " ∷ []" for a in arguments]
         lifetimes, shares = nest([k for _, k, _ in tokens]), nest([q for _, _, q in tokens])
         bound = f"(({lifetimes}, {shares}, tt, {nest([a.d for a in arguments])}, {nest(machines)}), tt)"
         requires = self.required(key, len(said.requires))
         ensures = ["factI 𝓤 (Unit {0}) (emp 𝓤) tt", "id⊢ 𝓤 _", "Walk.hears-both 𝓤 _ _"][said.ensures]
         known = f"known-{dash(callee.short)} {bound}"
         if inside:
-            known += f" ({self.answer('less' + key[4:])})"
+            known += f" ({self.answer('less' + key[4:], 'less' + self.by_callee)})"
         operands = "(Run.no-more !)"
         for o in reversed(mir.items(code[2])):
             operands = f"(Run.and-then ! {self.operand(o, 1)[0]} {operands})"
@@ -146,8 +149,9 @@ class Walk(Steps):
         if clauses == 0:
             return "id⊢ 𝓤 (emp 𝓤)"
         if clauses == 1:
-            return f"factI 𝓤 _ (emp 𝓤) ({self.answer(key)})"
-        return f"Walk.says-both 𝓤 _ _ ({self.answer(key)}) ({self.answer('also' + key[4:])})"
+            return f"factI 𝓤 _ (emp 𝓤) ({self.answer(key, 'call' + self.by_callee)})"
+        one, two = self.answer(key, "call" + self.by_callee), self.answer("also" + key[4:], "also" + self.by_callee)
+        return f"Walk.says-both 𝓤 _ _ ({one}) ({two})"
 
     # ---- after the call
     def come_back(self, code, rest, key, types, tokens, loans, writes, brackets, then):
@@ -192,9 +196,10 @@ class Walk(Steps):
         assert not mir.items(code[3][2]), "a call's result in a field"
         write = f"(Run.{'store' if self.values[k] is not None else 'init'} ! {self.cell(k)} refl ({result.lawful()} .typed {r} _ {proof}′ .0))"
         self.say(f"{'Run.land !' if rest is None else self.by('lands', rest)} (Run.from ! (Run.stop !)) {write} $")
-        self.say(f"Kit.rewrite ! {self.cell(k)} (λ (w : Val). ‵ (fat fullShare {result.written()} l{low(k)} 0 w)) (ap only ({result.tells()} {r} _ {proof}′)) refl $")
+        holds, tells = f"‵ (fat fullShare {result.written()} l{low(k)} 0 w)", f"({result.tells()} {r} _ {proof}′)"
+        self.say(f"Kit.rewrite ! {self.cell(k)} (λ (w : Val). {holds}) (ap only {tells}) refl $")
         is_ = f"Is {result.row()} {r}"
-        self.say(f"let {proof} : {is_} ({result.machine(r)} ∷ []) = subst (λ (vs : List Val). {is_} vs) ({result.tells()} {r} _ {proof}′) {proof}′ in")
+        self.say(f"let {proof} : {is_} ({result.machine(r)} ∷ []) = subst (λ (vs : List Val). {is_} vs) {tells} {proof}′ in")
         self.values[k] = Value(result, r, proof if result.kind != "int" else f"(refl, {proof} .1)")
         self.values[k].case = case
         self.say(f"Walk.written-out ! ({self.items()}) refl $")
@@ -226,16 +231,17 @@ class Walk(Steps):
         xs, _, long, of, count = self.arrays[k]
         at = f"l{low(k)}"
         zs = last if loan.type.mutable else xs
-        held = f"Kit.some (λ (w : Val). ‵ (fat fullShare (Arrays.τ {loan.base}) {at} 0 w) ⊛ ‵ (Array {of.row()} {count} .own {zs} (w ∷ [])))"
+        cell, array = f"fat fullShare (Arrays.τ {loan.base}) {at} 0 w", f"Array {of.row()} {count} .own {zs} (w ∷ [])"
+        held = f"Kit.some (λ (w : Val). ‵ ({cell}) ⊛ ‵ ({array}))"
         if loan.type.mutable:
             self.front(("dead", n), ("owed", n), ("final", n))
             uses, law = 3, f"Arrays.local-back {loan.base} {loan.lifetime} δ{n} {xs} {zs} {long}"
         else:
             self.front(("dead", n), ("owed", n))
             uses, law = 2, f"Arrays.shared-local-back {loan.base} {loan.lifetime} {xs} {long}"
-        self.say(f"Kit.use{uses} W (later ({held})) ({law}) $ Kit.await ! tt $ Kit.pick ! (λ w{n}. Kit.split ! $")
+        self.say(f"Kit.use{uses} W (later ({held})) ({law}) $ Kit.await ! tt $ Kit.pick ! (λ cell{n}. Kit.split ! $")
         self.context[0:uses] = [("cell", k), ("array", k)]
-        self.arrays[k] = (zs, f"w{n}", f"(len{n} ∙ {long})" if loan.type.mutable else long, of, count)
+        self.arrays[k] = (zs, f"cell{n}", f"(len{n} ∙ {long})" if loan.type.mutable else long, of, count)
 
     def slice_back(self, loan, last):
         p, n = loan.value.lends, loan.number
@@ -258,5 +264,6 @@ class Walk(Steps):
         self.say(f"Kit.rewrite ! 0 (λ (m : ℕ). ‵ ({own(zs, f'sliceVal ({p} .ptr) m')})) (sym len{n}) refl $")
         k = 1 + self.params.index(p)
         reference = f"(sliceTy (tyRef (named {j}) mut (pointee ({row} .written))))"
-        self.say(f"Kit.rewrite ! {self.cell(k)} (λ (m : ℕ). ‵ (fat fullShare {reference} l{low(k)} 0 (sliceVal ({p} .ptr) m))) (sym len{n}) refl $")
+        holds = f"‵ (fat fullShare {reference} l{low(k)} 0 (sliceVal ({p} .ptr) m))"
+        self.say(f"Kit.rewrite ! {self.cell(k)} (λ (m : ℕ). {holds}) (sym len{n}) refl $")
         self.lists[p] = (zs, f"(subst (Slice.Room {row}) (sym len{n}) ({room}))", f"(len{n} ∙ {long})", True)

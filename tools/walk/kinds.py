@@ -53,7 +53,7 @@ class Type:
 
     def machine(self, d):
         """The machine value of d."""
-        if self.kind == "struct" and self.with_arrays:
+        if self.kind == "struct" and self.holds_more:
             return f"(LL.val {self.both()}-L.the-laws {d})"
         plain = {"int": f"(vint {self.width} {d})", "bool": f"(vbool {d})", "unit": "vunit"}
         return plain.get(self.kind) or f"({self.short}-L.lowered {d})"
@@ -91,13 +91,15 @@ class Types:
 
     def read(self, t):
         if isinstance(t, str):
-            return {"tyBool": BOOL, "tyUnit": UNIT, "tyPtr": POINTER}[t]
+            plain = {"tyBool": BOOL, "tyUnit": UNIT, "tyPtr": POINTER}
+            assert t in plain, f"the type {t}"
+            return plain[t]
         if t[0] == "tyInt":
             return integer(t[1])
         if t[0] == "tyNamed":
             name = mir.named(t[1][1])
             kind = "enum" if self.table.get(name, [""])[0] == "variants" else "struct"
-            return Type(kind, name=name, short=self.alias(name), with_arrays=self.holds_array(t))
+            return Type(kind, name=name, short=self.alias(name), holds_more=kind == "struct" and self.holds_more(t))
         if t[0] == "tyArray":
             return Type("array", of=self.read(t[1]), count=int(t[2][1]))
         if t[0] == "tyStruct" and t[1] == '"&[]"':
@@ -106,14 +108,15 @@ class Types:
             return Type("slice", lifetime=lifetime, mutable=reference[2] == "mut", of=self.read(reference[3]))
         return Type("other", term=t)
 
-    def holds_array(self, t):
+    def holds_more(self, t):
+        """Whether there is an array or an enum in it, so that its machine value is the laws' own."""
         if isinstance(t, str):
             return False
-        if t[0] == "tyArray":
+        if t[0] in ("tyArray", "variants"):
             return True
         if t[0] == "tyNamed":
-            return self.holds_array(self.table.get(mir.named(t[1][1]), []))
-        return any(self.holds_array(part) for part in t)
+            return self.holds_more(self.table.get(mir.named(t[1][1]), []))
+        return any(self.holds_more(part) for part in t)
 
     def fields(self, t):
         return [self.read(f) for f in mir.items(self.table[t.name][1])]

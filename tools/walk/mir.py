@@ -2,6 +2,8 @@
 import re
 import subprocess
 
+from fault import ask
+
 
 class Function:
     def __init__(self, name, item):
@@ -24,10 +26,12 @@ def read(text):
         if word == "(":
             stack.append([])
         elif word == ")":
+            ask(len(stack) > 1, "rt mir: a bracket too many")
             done = stack.pop()
             stack[-1].append(done)
         else:
             stack[-1].append(word)
+    ask(len(stack) == 1 and len(stack[0]) == 1, "rt mir: not one term in brackets")
     return stack[0][0]
 
 
@@ -53,9 +57,14 @@ def named(quoted):
     return quoted.strip('"')
 
 
-def load(crate):
+def load(root, crate):
     """Every function that the crate's code reaches, by its full name, and what each named type is made of."""
-    printed = subprocess.run(["rt", "mir", crate], capture_output=True, text=True).stdout
+    ran = subprocess.run(["rt", "mir", crate], capture_output=True, text=True, cwd=root)
+    ask(ran.returncode == 0, f"rt mir {crate} ended with status {ran.returncode}:\n{ran.stderr}{ran.stdout}".strip())
+    return tables(ran.stdout)
+
+
+def tables(printed):
     program = read("(" + printed + ")")
     functions, types = {}, {}
     for definition in items(program[1]):
@@ -99,3 +108,7 @@ def assigned(body, found=None):
         for part in body:
             assigned(part, found)
     return found
+
+
+def has_loop(body):
+    return isinstance(body, list) and (body[:1] == ["loop"] or any(map(has_loop, body)))

@@ -1,10 +1,9 @@
 """A proof file: the walks of one function, or of the functions of one cycle of calls, and the theorem that they make."""
-import re
-
 import mir
 import source
 import text
 from calls import Walk
+from fault import ask
 from steps import Value, cons, dash, low, nest, path
 from kinds import Types
 
@@ -14,9 +13,10 @@ MODULE = "module _ {M : Type 1} (𝓤 : URA M) (H : Heap 𝓤) (A : Atoms 𝓤)"
 class Program:
     """The code that a crate reaches, and the sources of all crates."""
 
-    def __init__(self, crate, sources):
-        self.crate, self.source = crate, sources
-        self.functions, table = mir.load(crate)
+    def __init__(self, root, crate, sources):
+        self.root, self.crate, self.source = root, crate, sources
+        ask("walk_laws" in source.dependencies(root, crate), f"crates.txt: {crate} has walks, and not walk_laws among its dependencies")
+        self.functions, table = mir.load(root, crate)
         self.types = Types(table)
 
     def proofs(self, full):
@@ -33,12 +33,12 @@ def of(alias, model="A mem run"):
     return f"{alias}.ended ({alias}.clauses 𝓤 H {model})"
 
 
-INNER, OUTER = "A mem run", "(𝓖 .A) (𝓜 .mem) (𝓡 .run)"
+OUTER = "(𝓖 .A) (𝓜 .mem) (𝓡 .run)"
 
 
 class Proof:
-    def __init__(self, program, names, answers, cited, shows):
-        self.program, self.cited, self.shows = program, cited, shows
+    def __init__(self, program, names, answers, shows):
+        self.program, self.cited, self.shows = program, [line for _, line in answers.uses], shows
         self.functions = [program.functions[f"{program.crate}::{n}"] for n in names]
         calls_itself = f'"{self.functions[0].name}"' in str(self.functions[0].body)
         self.share_names()
@@ -66,60 +66,64 @@ class Proof:
     def code(self, w):
         return f"code.{dash(w.name)}-function" if self.cycle else "code.function"
 
-    def own_name(self, w, name):
-        """The members of a cycle stand in one file, each with its own names."""
-        return f"{name}-{dash(w.name)}" if self.cycle else name
-
     def member(self, w):
-        n, alias = dash(w.name), w.alias
-        before, module = [], []
+        """What stands before a function's walk, and the walk."""
         types = [w.param_type[p] for p in w.params]
-        if self.cycle:
-            before.append(f"abbrev measure-{n} : {' → '.join(t.denotes() for t in types)} → ℕ\nmeasure-{n} {' '.join(w.params)} = {w.answer('measure')}\n")
-            bound = " ".join(f"(y .0 .3{path(i)})" for i in range(len(w.params)))
-            before.append(f"{MODULE} (mem : Memory → SProp 𝓤) (run : Routine → Fun 𝓤) where\n  abbrev μ-{n} : Walk.Of 𝓤 H A {of(alias)} .Ghost → ℕ\n  μ-{n} y = measure-{n} {bound}\n")
-        if w.mutable:
-            stays = nest([f"gave-slice ({t.lifetime} ∷ []) tt (plain (λ _. {t.of.row()}))" if p in w.mutable else f"stay-dropped ({self.slot(t)}) yes" for p, t in zip(w.params, types)])
-            before.append(f"abbrev stayed-{n} : Stays ({alias}.ended .signature .params) ({alias}.ended .kept)\nstayed-{n} = {stays}\n")
-        lifetimes = range(w.function.lifetimes)
-        binders = [f"(κ{low(j)} : Lft) (q{low(j)} : Share)" for j in lifetimes] + [f"({p} : {t.denotes()})" for p, t in zip(w.params, types)]
-        module.append(f"{MODULE} (W : Given 𝓤 H A) (mem : Memory → SProp 𝓤) (run : Routine → Fun 𝓤) {' '.join(binders)} where")
-        for p in w.slices:
-            module.append(f"  abbrev T-{p} : RattleType\n  T-{p} = {w.slice_type(p)}\n")
-            written = self.program.types.term(w.function.locals[1 + w.params.index(p)])[1:-1]
-            module.append(f"  abbrev Y-{p} : Ty\n  Y-{p} = {written}\n")
-            module.append(f"  abbrev v-{p} : Val\n  v-{p} = sliceVal ({p} .ptr) (length ({p} .now))\n")
-        ks, qs = nest([f"κ{low(j)}" for j in lifetimes]), nest([f"q{low(j)}" for j in lifetimes])
-        machines = [f"v-{p}" if t.kind == "slice" else t.machine(p) for p, t in zip(w.params, types)]
-        values = nest([f"{m} ∷ []" for m in machines])
-        module.append(f"  abbrev bound : Walk.Of 𝓤 H A {of(alias)} .Ghost\n  bound = (({ks}, {qs}, tt, {nest(w.params)}, {values}), tt)\n")
-        post = f"walkOf 𝓤 H A {alias}.ended stayed-{n} ({alias}.clauses 𝓤 H A mem run) .post bound" if w.mutable else f"Walk.Ends 𝓤 H A W {of(alias)} bound"
-        module.append(f"  abbrev Post : Val → SProp 𝓤\n  Post = {post}\n")
+        machines = [w.of_slice("v", p) if t.kind == "slice" else t.machine(p) for p, t in zip(w.params, types)]
         self.enter(w, machines)
-        loops = w.counts.get("loop", 0) > 0
-        w.tables = "𝓣" if loops else "(𝓣 .C) (𝓣 .Λ)"
+        before = (self.measure(w, types) if self.cycle else []) + (self.stays(w, types) if w.mutable else [])
+        return "\n".join(before), "\n".join(self.names(w, types, machines) + self.walk(w, types, machines)) + "\n"
+
+    def measure(self, w, types):
+        n = dash(w.name)
+        bound = " ".join(f"(y .0 .3{path(i)})" for i in range(len(w.params)))
+        takes, names = " → ".join(t.denotes() for t in types), " ".join(w.params)
+        return [f"abbrev measure-{n} : {takes} → ℕ\nmeasure-{n} {names} = {w.answer('measure')}\n",
+                f"{MODULE} (mem : Memory → SProp 𝓤) (run : Routine → Fun 𝓤) where\n"
+                f"  abbrev μ-{n} : Walk.Of 𝓤 H A {of(w.alias)} .Ghost → ℕ\n  μ-{n} y = measure-{n} {bound}\n"]
+
+    def stays(self, w, types):
+        n = dash(w.name)
+        stays = nest([f"gave-slice ({t.lifetime} ∷ []) tt (plain (λ _. {t.of.row()}))" if p in w.mutable
+                      else f"stay-dropped ({self.slot(t)}) yes" for p, t in zip(w.params, types)])
+        return [f"abbrev stayed-{n} : Stays ({w.alias}.ended .signature .params) ({w.alias}.ended .kept)\nstayed-{n} = {stays}\n"]
+
+    def lifetimes(self, w):
+        """The names of a function's lifetimes and of their shares, as tuples."""
+        count = range(w.function.lifetimes)
+        return nest([f"κ{low(j)}" for j in count]), nest([f"q{low(j)}" for j in count])
+
+    def names(self, w, types, machines):
+        """The module of a walk, with names for what it speaks of: each slice, the arguments, what is to be had at the end."""
+        binders = [f"(κ{low(j)} : Lft) (q{low(j)} : Share)" for j in range(w.function.lifetimes)]
+        binders += [f"({p} : {t.denotes()})" for p, t in zip(w.params, types)]
+        lines = [f"{MODULE} (W : Given 𝓤 H A) (mem : Memory → SProp 𝓤) (run : Routine → Fun 𝓤) {' '.join(binders)} where"]
+        define = lambda name, type, term: lines.append(f"  abbrev {name} : {type}\n  {name} = {term}\n")
+        for p in w.slices:
+            define(w.of_slice("T", p), "RattleType", w.slice_type(p))
+            define(w.of_slice("Y", p), "Ty", self.program.types.term(w.function.locals[1 + w.params.index(p)])[1:-1])
+            define(w.of_slice("v", p), "Val", f"sliceVal ({p} .ptr) (length ({p} .now))")
+        (ks, qs), bound = self.lifetimes(w), w.own("bound")
+        values = nest([f"{m} ∷ []" for m in machines])
+        define(bound, f"Walk.Of 𝓤 H A {of(w.alias)} .Ghost", f"(({ks}, {qs}, tt, {nest(w.params)}, {values}), tt)")
+        kept = f"walkOf 𝓤 H A {w.alias}.ended stayed-{dash(w.name)} ({w.alias}.clauses 𝓤 H A mem run) .post {bound}"
+        define(w.own("Post"), "Val → SProp 𝓤", kept if w.mutable else f"Walk.Ends 𝓤 H A W {of(w.alias)} {bound}")
+        return lines
+
+    def walk(self, w, types, machines):
+        n, (ks, qs), values = dash(w.name), self.lifetimes(w), nest([f"{m} ∷ []" for m in machines])
         facts = self.facts(w, types)
-        known = [f"(known-{c} : Triple 𝓤 (C #g-{c}) (Walk.Of 𝓤 H A {of('g-' + c)}))" for c in self.short_callees(w)]
+        known = [f"(known-{c} : Triple 𝓤 ({w.C} #g-{c}) (Walk.Of 𝓤 H A {of('g-' + c)}))" for c in self.short_callees(w)]
         known += [self.known_member(c, n, w) for c in self.cycle]
-        entry = f"onEntry 𝓤 H A {alias}.signature {ks} {qs} {nest(w.params)} {values}"
-        wp = f"WpFn 𝓤 H C Λ {self.code(w)} ({' ∷ '.join(machines + ['[]'])}) Post"
-        names = " ".join(f[1:].split(" :")[0] for f in facts)
-        walk = [f"  module _ (C : Calls 𝓤 H) (Λ : Loops 𝓤 H) (fm : FmC 𝓤 H (W .laws) C) {' '.join(known)} where",
+        tables = "(𝓣 : Wp.Tables 𝓤 H)" if w.loops else "(C : Calls 𝓤 H) (Λ : Loops 𝓤 H)"
+        entry = f"onEntry 𝓤 H A {w.alias}.signature {ks} {qs} {nest(w.params)} {values}"
+        wp = f"WpFn 𝓤 H {w.C} {w.Λ} {self.code(w)} ({' ∷ '.join(machines + ['[]'])}) {w.own('Post')}"
+        names, rows = " ".join(f[1:].split(" :")[0] for f in facts), cons([w.row(p) for p in w.params])
+        alive = f"raw (alive 𝓤 H A {w.alias}.signature {ks} {qs})"
+        return [f"  module _ {tables} (fm : FmC 𝓤 H (W .laws) {w.C}) {' '.join(known)} where",
                 f"    walk-{n} : {' → '.join(facts)} → ent 𝓤 ({entry}) ({wp})",
-                f"    walk-{n} {names} ="]
-        rows = cons([w.row(p) for p in w.params])
-        walk.append(f"        Kit.qed W (raw (alive 𝓤 H A {alias}.signature {ks} {qs}) ∷ ‵ (owns {rows} {nest(w.params)} {values}) ∷ []) ∵")
-        walk += w.lines
-        if loops:
-            walk[0] = walk[0].replace("(C : Calls 𝓤 H) (Λ : Loops 𝓤 H)", "(𝓣 : Wp.Tables 𝓤 H)")
-            walk = [l if l.strip().startswith("--") else re.sub(r"(?<![\w.·-])([CΛ])(?![\w-])", r"(𝓣 .\1)", l) for l in walk]
-        whole = "\n".join(module + walk) + "\n"
-        if self.cycle:
-            for name in ("bound", "Post"):
-                whole = re.sub(rf"(?<![\w.-]){name}(?![\w-])", f"{name}-{n}", whole)
-            for p in w.slices:
-                whole = re.sub(rf"(?<![\w-])([vTY])-{re.escape(p)}(?![\w-])", rf"\1-{n}-{p}", whole)
-        return "\n".join(before), whole
+                f"    walk-{n} {names} =",
+                f"        Kit.qed W ({alive} ∷ ‵ (owns {rows} {nest(w.params)} {values}) ∷ []) ∵"] + w.lines
 
     def slot(self, t):
         return f"shrSliceOf ({t.lifetime} ∷ []) tt (plain (λ _. {t.of.row()}))" if t.kind == "slice" else f"plain (λ _. {t.row()})"
@@ -133,7 +137,8 @@ class Proof:
             if t.kind == "int":
                 facts.append(f"(fits-{p} : {p} < 2 ^ {t.bits})")
             else:
-                facts.append(f"(is-{p} : Is {w.row(p)} {p} ({f'v-{p}' if t.kind == 'slice' else t.machine(p)} ∷ []))")
+                machine = w.of_slice("v", p) if t.kind == "slice" else t.machine(p)
+                facts.append(f"(is-{p} : Is {w.row(p)} {p} ({machine} ∷ []))")
         if w.declared.requires:
             facts.append(f"(pre : {w.declared.requires[0].strip()})")
         return facts
@@ -142,7 +147,7 @@ class Proof:
         c = dash(full.split("::")[-1])
         said = f"Walk.Of 𝓤 H A {of('f-' + c)}"
         return (f"(known-{c} : (y : {said} .Ghost) → μ-{c} 𝓤 H A mem run y < measure-{n} {' '.join(w.params)}"
-                f" → ent 𝓤 ({said} .pre y) (C #{c} ({said} .args y) ({said} .post y)))")
+                f" → ent 𝓤 ({said} .pre y) ({w.C} #{c} ({said} .args y) ({said} .post y)))")
 
     def enter(self, w, machines):
         """From what the caller gives to the function's first step, and on to its end."""
@@ -158,7 +163,7 @@ class Proof:
         w.drop()
         w.front("tokens")
         w.split_tokens(w.own_tokens())
-        w.say(f"Run.enter ! C Λ {self.code(w)} ({' ∷ '.join(machines + ['[]'])}) Post $")
+        w.say(f"Run.enter ! {w.C} {w.Λ} {self.code(w)} ({' ∷ '.join(machines + ['[]'])}) {w.own('Post')} $")
         locals = range(len(w.types))
         w.say(" ".join(f"Run.alloc1 ! (λ l{low(k)}." for k in locals))
         for k in locals:
@@ -191,7 +196,8 @@ class Proof:
                 f"goes-gave-slice 𝓤 H (𝓖 .A) W {count} {t.lifetime} tt (plain (λ _. {t.of.row()}))" if p in w.mutable
                 else f"goes-dropped 𝓤 H (𝓖 .A) W {count} ({self.slot(t)}) yes (λ κs x f. refl)" for p, t in zip(w.params, types)])
         spelt = f"(λ κs. {nest([t.values() for t in types])})"
-        tells = nest([f"{'mut' if t.mutable else 'shr'}-slice-tells (named {t.lifetime}) (κs{path(t.lifetime)}) {t.of.row()}" if t.kind == "slice" else t.tells() for t in types])
+        of_slice = lambda t: f"{'mut' if t.mutable else 'shr'}-slice-tells (named {t.lifetime}) (κs{path(t.lifetime)}) {t.of.row()}"
+        tells = nest([of_slice(t) if t.kind == "slice" else t.tells() for t in types])
         return silent, spelt, f"(λ κs. {tells})"
 
     def holds(self, w):
@@ -200,18 +206,22 @@ class Proof:
     def cite(self, full):
         c = dash(full.split("::")[-1])
         calls = dash("·".join(full.split("::")))
-        return f"(cited 𝓤 H (Walk.Of 𝓤 H (𝓖 .A) g-{c}.ended (g-{c}.clauses 𝓤 H {OUTER})) 𝓜 𝓡 code.env #g-{c} g-{c}-def.routine code.calls-{calls} (g-{c}-thm.met 𝓤 H 𝓜 𝓖 𝓡))"
+        said = f"Walk.Of 𝓤 H (𝓖 .A) {of('g-' + c, OUTER)}"
+        return f"(cited 𝓤 H ({said}) 𝓜 𝓡 code.env #g-{c} g-{c}-def.routine code.calls-{calls} (g-{c}-thm.met 𝓤 H 𝓜 𝓖 𝓡))"
 
     def asked(self, w, term):
         return f"needs 𝓤 _ _ ({term})" if w.declared.requires else f"via 𝓤 _ (fst∗ 𝓤 _ (emp 𝓤)) ({term})"
 
     def applied(self, w, lifetimes, arguments, known):
-        n = dash(w.name)
-        return f"walk-{n} 𝓤 H (𝓖 .A) W (𝓜 .mem) (𝓡 .run) {lifetimes} {arguments} {w.tables} (fmOf 𝓤 H (W .laws) 𝓣) {known} {' '.join(self.holds(w))}"
+        n, tables, holds = dash(w.name), "𝓣" if w.loops else "(𝓣 .C) (𝓣 .Λ)", " ".join(self.holds(w))
+        return f"walk-{n} 𝓤 H (𝓖 .A) W (𝓜 .mem) (𝓡 .run) {lifetimes} {arguments} {tables} (fmOf 𝓤 H (W .laws) 𝓣) {known} {holds}"
 
     def begin(self, name, statement, unfolds):
-        return [f"pub {name}-spec : {{M : Type 1}} → {statement}.statement M", f"unfolding {unfolds} tablesOf", f"{name}-spec 𝓤 H 𝓜 𝓖 𝓡 =",
-                "    let W : Given 𝓤 H (𝓖 .A) = givenOf 𝓤 H 𝓜 𝓖 in", "    let 𝓣 : Wp.Tables 𝓤 H = tablesOf 𝓤 H 𝓜 (tables 𝓤 H 𝓜 𝓡 code.env) in"]
+        return [f"pub {name}-spec : {{M : Type 1}} → {statement}.statement M",
+                f"unfolding {unfolds} tablesOf",
+                f"{name}-spec 𝓤 H 𝓜 𝓖 𝓡 =",
+                "    let W : Given 𝓤 H (𝓖 .A) = givenOf 𝓤 H 𝓜 𝓖 in",
+                "    let 𝓣 : Wp.Tables 𝓤 H = tablesOf 𝓤 H 𝓜 (tables 𝓤 H 𝓜 𝓡 code.env) in"]
 
     def theorem(self, w):
         n, alias = dash(w.name), w.alias
@@ -260,26 +270,24 @@ class Proof:
 
     # ---- imports
     def imports(self):
-        lines = text.standard(source.cited(self.program.crate))
-        kit = "walk" if "walk" in source.dependencies(self.program.crate) else None
-        lines += [f"use Rattle.{kit}.proofs.Walk as Walk", f"use Rattle.{kit}.proofs.Again as Again", f"use Rattle.{kit}.proofs.Numbers as Numbers"]
-        if any(w.has_local for w in self.walks):
-            lines.append(f"use Rattle.{kit}.proofs.Arrays as Arrays")
-        lines += self.cited
+        lines = text.standard(source.cited(self.program.root, self.program.crate))
+        laws = ["Walk", "Again", "Numbers"] + (["Arrays"] if any(w.has_local for w in self.walks) else [])
+        lines += [f"use Rattle.walk_laws.proofs.{module} as {module}" for module in laws] + self.cited
         for full in sorted(self.declared_types()):
-            short, name = self.program.types.alias(full), full.split("::")[-1]
-            lines += [f"use {self.program.specs(full)}.{{{name if name == short else f'{name} as {short}'}}}", f"use {self.program.proofs(full)} as {short}-T", f"use {self.program.proofs(full)}.Laws as {short}-L"]
+            short, name, module = self.program.types.alias(full), full.split("::")[-1], self.program.proofs(full)
+            lines.append(f"use {self.program.specs(full)}.{{{name if name == short else f'{name} as {short}'}}}")
+            lines += [f"use {module} as {short}-T", f"use {module}.Laws as {short}-L"]
         for full, variant in sorted(set().union(*[w.variants for w in self.walks])):
             lines.append(f"use {self.program.specs(full)}.the-variants.{{{variant} as {self.program.types.alias(full)}-{variant}}}")
         for full in dict.fromkeys(c for w in self.walks for c in w.callees):
             c, module = dash(full.split("::")[-1]), self.program.proofs(full)
-            lines += [f"use {module} as g-{c}", f"use {module}.Symbol as g-{c}-def", f"use {module}.Symbol.{{name as #g-{c}}}", f"use {module}.Met as g-{c}-thm"]
+            lines += [f"use {module} as g-{c}", f"use {module}.Symbol as g-{c}-def"]
+            lines += [f"use {module}.Symbol.{{name as #g-{c}}}", f"use {module}.Met as g-{c}-thm"]
         for w in self.walks:
             module = self.program.proofs(w.function.name)
             lines += [f"use {module} as {w.alias}", f"use {module}.Key.{{name as #{dash(w.name)}}}"]
         own = f"Rattle.{self.program.crate}.proofs.{self.folder}"
-        lines += [f"use {own} as cycle" if self.cycle else f"use {own}.Statement as stated", f"use {own}.Code as code"]
-        return lines
+        return lines + [f"use {own} as cycle" if self.cycle else f"use {own}.Statement as stated", f"use {own}.Code as code"]
 
     def declared_types(self):
         met = [t for w in self.walks for t in w.types]

@@ -9,6 +9,7 @@ A step names entries by their places, so the context is followed here, and each 
 import re
 
 import mir
+import text
 from kinds import BOOL, POINTER, UNIT, Type, integer
 
 BIG = 1024  # from here on the code has a literal as a big one
@@ -56,6 +57,8 @@ class Steps:
         self.program, self.function, self.cycle, self.answers = program, function, cycle, answers
         self.name = function.short
         self.alias = "f-" + dash(self.name)
+        self.loops = mir.has_loop(function.body)
+        self.C, self.Λ = ("(𝓣 .C)", "(𝓣 .Λ)") if self.loops else ("C", "Λ")
         self.declared = program.source.function(function.name)
         self.params = self.declared.params
         self.types = [program.types.read(t) for t in function.locals]
@@ -63,23 +66,33 @@ class Steps:
         self.slices = [p for p in self.params if self.param_type[p].kind == "slice"]
         self.mutable = [p for p in self.slices if self.param_type[p].mutable]
         self.counts, self.callees, self.variants = {}, [], set()
+        self.called, self.by_callee = {}, ""  # how often each function was called; the call at hand, by its callee
         self.lines, self.loans, self.has_local = [], 0, False
         self.matches = "['variant'" in str(function.body)
         self.context, self.values, self.arrays = [], [None] * len(self.types), {}
         self.lists = {p: (f"({p} .now)", f"is-{p} .0 .1", "refl", False) for p in self.slices}
+
+    # ---- names: the members of a cycle stand in one file, each with its own
+    def own(self, name):
+        return f"{name}-{dash(self.name)}" if self.cycle else name
+
+    def of_slice(self, letter, p):
+        """T, Y or v of a slice: its type, its type in the code, its value."""
+        return f"{self.own(letter)}-{p}"
 
     # ---- facts
     def key(self, kind):
         self.counts[kind] = self.counts.get(kind, 0) + 1
         return f"{kind}{self.counts[kind]}"
 
-    def answer(self, key):
-        every = re.sub(r"\d+$", "*", key)
-        return self.answers.get(f"{self.name}.{key}") or self.answers.get(f"{self.name}.{every}", "?")
+    def answer(self, key, by_callee=None):
+        """by_callee is the key that a call's fact has by its callee's name."""
+        term = self.answers.of(self.name, *filter(None, (key, by_callee, re.sub(r"\d+$", "*", key)))) or "?"
+        return text.marked(f"{self.name}.{by_callee or key}", term) if self.answers.marks else term
 
     # ---- text
-    def say(self, text):
-        self.lines.append("        " + text)
+    def say(self, step):
+        self.lines.append("        " + step)
 
     def close(self, n):
         self.lines[-1] += ")" * n
@@ -110,14 +123,15 @@ class Steps:
     # ---- the numbers of a slice
     def learn_fits(self):
         """Of the slices of numbers that the answers name, that each number fits; how many they are."""
-        slices = self.answers.get(f"{self.name}.fits", "").split()
+        slices = (self.answers.of(self.name, "fits") or "").split()
         for p in slices:
             t, at = self.param_type[p], self.param_type[p].lifetime
             assert p in self.slices and not t.mutable and t.of.kind == "int", "the numbers of a slice"
             self.front(("own", p), ("token", at))
-            own, token = f"‵ ({self.row(p)} .own {p} (v-{p} ∷ []))", f"κ{low(at)} q{low(at)}"
+            own, token = f"‵ ({self.row(p)} .own {p} ({self.of_slice('v', p)} ∷ []))", f"κ{low(at)} q{low(at)}"
             fact = f"((i : ℕ) → getD ({p} .now) i 0 < 2 ^ {t.of.bits})"
-            self.say(f"Kit.use2 W (later (Kit.given {fact} ({own} ⊛ ‵ (flft {token})))) (Numbers.numbers-fit 𝓤 H A W (named {at}) {token} w{t.of.bits} {p}) $")
+            law = f"Numbers.numbers-fit 𝓤 H A W (named {at}) {token} w{t.of.bits} {p}"
+            self.say(f"Kit.use2 W (later (Kit.given {fact} ({own} ⊛ ‵ (flft {token})))) ({law}) $")
             self.say(f"Kit.await ! tt $ Kit.learn ! (λ fits-{p}. Kit.split ! $")
         return len(slices)
 
@@ -127,7 +141,7 @@ class Steps:
         return f"{'MutSlice' if t.mutable else 'ShrSlice'} (named {t.lifetime}) κ{low(t.lifetime)} {t.of.row()}"
 
     def slice_row(self, p):
-        return f"T-{p}"
+        return self.of_slice("T", p)
 
     def row(self, p):
         return self.slice_row(p) if self.param_type[p].kind == "slice" else self.param_type[p].row()
@@ -228,7 +242,9 @@ class Steps:
                 return self.array_field(r[1][1], dest)
             script, value = self.operand(r[1])
             return f"(Run.of-opd ! {script})", value
-        return getattr(self, {"op2": "binary", "op1": "unary", "repeat": "repeated", "addrOf": "address", "aggregate": "aggregate"}[r[0]])(r, dest)
+        steps = {"op2": self.binary, "op1": self.unary, "repeat": self.repeated, "addrOf": self.address, "aggregate": self.aggregate}
+        assert r[0] in steps, f"{r[0]} on the right of an assignment"
+        return steps[r[0]](r, dest)
 
     def binary(self, r, dest):
         op = r[1] if isinstance(r[1], str) else r[1][0]
@@ -237,8 +253,10 @@ class Steps:
         if op in tests:
             assert op in ("lt", "le") or a.type.kind == "int", "== of bools"
             return f"(Run.bin ! {left} {right} tt)", Value(BOOL, tests[op].format(a.d, b.d), "refl")
+        signs = {"add": "+", "sub": "-", "mul": "*"}
+        assert op in signs and a.type.kind == "int", f"the operation {op}"
         key = self.key(op)
-        d = f"({a.d} {({'add': '+', 'sub': '-', 'mul': '*'}[op])} {b.d})"
+        d = f"({a.d} {signs[op]} {b.d})"
         bound = f"{d} < 2 ^ {a.type.bits}"
         self.say(f"let {key} : {f'{b.d} ≤ {a.d}' if op == 'sub' else bound} = {self.answer(key)} in")
         if op == "sub":
@@ -281,8 +299,10 @@ class Steps:
         xs = f"({value.d} .{self.program.source.fields_of(value.type.name)[i]})"
         machine = f"(arrayVal (map (λ (x : {each}). {type.of.machine('x')}) (map (λ (x : {each}). x) {xs})))"
         owed = f"LL.owed {value.type.both()}-L.the-laws {value.d} _ {value.proof}{path(i)}"
-        self.say(f"let isa{k} : Is ({row}) {xs} ({machine} ∷ []) = subst (λ (xs : List {each}). Is ({row}) xs ({machine} ∷ [])) (map-id {xs}) ({owed}) in")
-        self.say(f"Kit.use0 W (‵ ({row} .own {xs} ({machine} ∷ []))) (array-makes 𝓤 H A W {type.of.row()} ({type.of.makes()}) {type.count} {xs} _ isa{k}) $")
+        is_ = f"subst (λ (xs : List {each}). Is ({row}) xs ({machine} ∷ [])) (map-id {xs}) ({owed})"
+        self.say(f"let isa{k} : Is ({row}) {xs} ({machine} ∷ []) = {is_} in")
+        law = f"array-makes 𝓤 H A W {type.of.row()} ({type.of.makes()}) {type.count} {xs} _ isa{k}"
+        self.say(f"Kit.use0 W (‵ ({row} .own {xs} ({machine} ∷ []))) ({law}) $")
         self.context.insert(0, ("array", k))
         self.arrays[k] = (xs, machine, f"(isa{k} .1 .0 .1)", type.of, type.count)
         self.has_local = True
@@ -393,7 +413,9 @@ class Steps:
             return self.close(brackets)
         if kind == "call":
             return self.call(code, rest, lambda: self.go_on(rest))
-        return {"loop": self.loop, "if": self.branch, "switch": self.switch}[kind](code, rest)
+        steps = {"loop": self.loop, "if": self.branch, "switch": self.switch}
+        assert kind in steps, f"the statement {kind}"
+        return steps[kind](code, rest)
 
     def assign(self, code, rest):
         """rest is what is to come where the assignment is the last of its sequence, else None. Answers how many brackets it opened."""
@@ -412,7 +434,8 @@ class Steps:
             value.machine = f"(sliceVal (l{at}, 0) (length {xs}))"
             mutable = mir.items(self.function.locals[k][2])[0][2]
             reference = f"(sliceTy (tyRef erased {mutable} (pointee ({of.row()} .written))))"
-            self.say(f"Kit.rewrite ! {self.cell(k)} (λ (m : ℕ). ‵ (fat fullShare {reference} l{low(k)} 0 (sliceVal (l{at}, 0) m))) (sym {long}) refl $")
+            holds = f"‵ (fat fullShare {reference} l{low(k)} 0 (sliceVal (l{at}, 0) m))"
+            self.say(f"Kit.rewrite ! {self.cell(k)} (λ (m : ℕ). {holds}) (sym {long}) refl $")
         return brackets
 
     def branch(self, code, rest):
@@ -484,7 +507,8 @@ class Steps:
                 turn.locals.append(k)
             else:
                 self.forget(k)
-        names = self.answers.get(f"{self.name}.vars{number}", "").split()
+        names = (self.answers.of(self.name, f"vars{number}") or "").split()
+        assert len(names) <= len(turn.locals), f"{self.name}.vars{number}: the loop has {len(turn.locals)} numbers and structs"
         names += [f"v{number}-{i + 1}" for i in range(len(names), len(turn.locals))]
         turn.slices = self.lent_in(code[1])
         begins, facts, start = self.loop_data(turn), self.loop_facts(turn), self.answer("start" + number)
@@ -494,7 +518,7 @@ class Steps:
         lets = "".join(f"let {name} : {type} = ({state} .{i}) in " for i, (name, type) in enumerate(parts))
         known = self.loop_known(turn, names)
         invariant = self.answer("inv" + number)
-        known.append((f"inv{number}", f"({'Unit {0}' if invariant == '?' else invariant})"))
+        known.append((f"inv{number}", f"({'Unit {0}' if text.unmarked(invariant) == '?' else invariant})"))
         product = " × ".join([type if " " not in type else f"({type})" for _, type in parts] + ["Unit {0}"])
         self.say(f"let D{number} : Type 0 = {product} in")
         self.say(f"let P{number} : D{number} → Type 0 = λ {state}. {lets}{' × '.join(type for _, type in known)} in")
@@ -566,7 +590,7 @@ class Steps:
 
     def type_term(self, k):
         if 0 < k <= len(self.params) and self.params[k - 1] in self.slices:
-            return f"Y-{self.params[k - 1]}"
+            return self.of_slice("Y", self.params[k - 1])
         return self.program.types.term(self.function.locals[k])
 
     def item(self, entry):
@@ -615,19 +639,20 @@ class Steps:
 
     def returns(self, rest):
         key, value = self.key("ret"), self.values[0]
-        through = "refl"
+        through, post, bound = "refl", self.own("Post"), self.own("bound")
         for x in reversed(rest):
             if isinstance(x, Turn):
-                through = f"(Walk.through-turn 𝓤 H E _ _ Post {through})"
+                through = f"(Walk.through-turn 𝓤 H E _ _ {post} {through})"
             elif x is None:
-                through = f"(Walk.through-block 𝓤 H E _ Post {through})"
+                through = f"(Walk.through-block 𝓤 H E _ {post} {through})"
             else:
-                through = f"(Walk.through 𝓤 H C Λ E _ _ Post {through})"
-        self.say(f"Run.returns-within ! Post {through} (Run.look ! {self.cell(0)} refl) $")
+                through = f"(Walk.through 𝓤 H {self.C} {self.Λ} E _ _ {post} {through})"
+        self.say(f"Run.returns-within ! {post} {through} (Run.look ! {self.cell(0)} refl) $")
         locals = range(len(self.types))
         self.front(*[("cell", k) for k in locals], "ends")
         self.context = self.context[len(self.types) + 1:]
-        cells = [f"Walk.full {self.type_term(k)} l{low(k)} {self.machine(k)}" if self.values[k] is not None else f"Walk.bare {self.type_term(k)} l{low(k)}" for k in locals]
+        cells = [f"Walk.{'bare' if self.values[k] is None else 'full'} {self.type_term(k)} l{low(k)}" for k in locals]
+        cells = [cell if self.values[k] is None else f"{cell} {self.machine(k)}" for k, cell in zip(locals, cells)]
         self.say(f"Walk.frees-gathered ! {cons(cells)} Fd ed ({self.items()}) $")
         self.say(f"Kit.use0 W (‵ ({value.type.row()} .own {value.d} ({value.machine} ∷ []))) ({value.type.makes()} {value.d} _ {value.proof}) $")
         self.context.insert(0, "result")
@@ -637,12 +662,14 @@ class Steps:
         said = f"{self.alias}.ended ({self.alias}.clauses 𝓤 H A mem run)"
         if not self.mutable:
             self.say(f"Kit.keep ! ({self.place('tokens')} ∷ {self.place('result')} ∷ []) $")
-            self.say(f"Kit.by ! (Walk.leave 𝓤 H A W {said} bound {value.machine} {value.d} {nest(['tt'] * len(self.params))} ({self.ensured(key)}))")
+            none = nest(["tt"] * len(self.params))
+            self.say(f"Kit.by ! (Walk.leave 𝓤 H A W {said} {bound} {value.machine} {value.d} {none} ({self.ensured(key)}))")
             return
         self.say(f"Kit.keep ! ({self.place('tokens')} ∷ {self.place('arguments')} ∷ {self.place('result')} ∷ []) $")
         lasts = nest([self.lists[p][0] if p in self.mutable else "tt" for p in self.params])
         kept = nest([self.lists[p][2] if p in self.mutable else "tt" for p in self.params])
-        self.say(f"Kit.by ! (Walk.leave-by 𝓤 H A W {said} stayed-{dash(self.name)} bound {value.machine} {value.d} {lasts} {kept} ({self.ensured(key)}))")
+        leaves = f"Walk.leave-by 𝓤 H A W {said} stayed-{dash(self.name)} {bound}"
+        self.say(f"Kit.by ! ({leaves} {value.machine} {value.d} {lasts} {kept} ({self.ensured(key)}))")
 
     def end_slices(self):
         for p in self.mutable:

@@ -2,6 +2,8 @@
 import re
 
 WIDTH = 150
+WRITTEN = "-- Written by tools/walk with the facts of its answers."
+BEGIN, NAMED, END = "\ue000", "\ue001", "\ue002"  # around a fact that is marked: its key, then its term
 
 STANDARD = """use mathlib.Core.Path.{_≡_, refl, ap, sym, subst, _∙_}
 use mathlib.Core.Bool.{Bool, true, false, not}
@@ -36,10 +38,12 @@ use denote.Steps as Steps
 use sound.WpLaws.{FmC, fmOf}
 use denote.RattleType.{RattleType, owns}
 use denote.Laws.{Is, shows}
-use denote.Plain.{UInt, Boolean, Nothing, uint-vals, uint-tells, uint-makes, uint-lawful, uint-copy, bool-vals, bool-tells, bool-makes, bool-lawful, bool-copy, nothing-vals, nothing-tells, nothing-makes, nothing-lawful}
+use denote.Plain.{UInt, Boolean, Nothing, uint-vals, uint-tells, uint-makes, uint-lawful, uint-copy, \
+bool-vals, bool-tells, bool-makes, bool-lawful, bool-copy, nothing-vals, nothing-tells, nothing-makes, nothing-lawful}
 use denote.Ref.{RefT, now, at-last}
 use denote.Slice as Slice
-use denote.Slice.{sliceTy, sliceVal, MutSlice, ShrSlice, heres, codedHoleys, finally, res-finally, slice-vals, mut-slice-tells, mut-slice-lawful, shr-slice-tells, shr-slice-lawful, shr-slice-copy}
+use denote.Slice.{sliceTy, sliceVal, MutSlice, ShrSlice, heres, codedHoleys, finally, res-finally, slice-vals, \
+mut-slice-tells, mut-slice-lawful, shr-slice-tells, shr-slice-lawful, shr-slice-copy}
 use denote.Steps.{only}
 use denote.Struct.Laws as LL
 use denote.Enum.Laws as EL
@@ -70,7 +74,30 @@ def standard(cited):
 
 
 def file(shows, imports, body):
-    return f"-- {shows}\n-- Written by tools/walk with the facts of its answers.\n" + "\n".join(used(imports, body)) + "\n\n" + layout(body).strip() + "\n"
+    head = [f"-- {shows}", WRITTEN] + used(imports, unmarked(body))
+    return "\n".join(head) + "\n\n" + layout(body).strip() + "\n"
+
+
+def marked(key, term):
+    return BEGIN + key + NAMED + term + END
+
+
+def unmarked(text):
+    return re.sub(f"{BEGIN}[^{NAMED}]*{NAMED}|{END}", "", text)
+
+
+def facts(text):
+    """Where in the unmarked text each marked fact stands: where it starts and ends, and its key."""
+    found, opened, at = [], [], 0
+    for part in re.findall(f"{BEGIN}[^{NAMED}]*{NAMED}|{END}|[^{BEGIN}{END}]+", text):
+        if part.startswith(BEGIN):
+            opened.append((at, part[1:-1]))
+        elif part == END:
+            start, key = opened.pop()
+            found.append((start, at, key))
+        else:
+            at += len(part)
+    return found
 
 
 def used(imports, body):

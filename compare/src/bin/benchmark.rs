@@ -1,29 +1,40 @@
 //! Prints, for the proved library and the reference, how long runs take, and
-//! the ratio of the two times.
+//! the ratio of the two times. Both are timed in turn, and the shortest of many
+//! times counts, which other work on the machine disturbs least. A run loads its
+//! text first; where the same text is timed without input too, a last column has
+//! the ratio of what the input adds.
 
 use std::time::{Duration, Instant};
 
 use stage2_compare::{run, Node};
 use stage2_reference::{self as reference, Ran, FUEL_LIMIT, NODE_ROW, STORE_ROOM};
 
-/// How long each library is timed on a case.
-const LEAST: Duration = Duration::from_millis(400);
+/// How long both libraries are timed on a case.
+const LEAST: Duration = Duration::from_millis(1_500);
 
 const FLAG: &str = "$!$!0 (+-*/)\n";
 
 fn main() {
-    println!("{:50} {:>8} {:>12} {:>12} {:>6}", "case", "events", "proved", "reference", "ratio");
-    print("1,000,000 events: passes of an iteration", &passes());
-    print("1,000,000 events: calls in an iteration", &calls());
-    print("900 order lines through name templates", &orders());
+    println!(
+        "{:50} {:>8} {:>12} {:>12} {:>6} {:>6}",
+        "case", "events", "proved", "reference", "ratio", "input"
+    );
+    print("1,000,000 events: passes of an iteration", &passes(), None);
+    print("1,000,000 events: calls in an iteration", &calls(), None);
+    print("900 order lines through name templates", &orders(), None);
     // Table 2.4.6 of the source: 0, 3 and 6 code lines, 1 to 100 macros.
     for codes in [0, 3, 6] {
         for macros in [1, 10, 50, 100] {
-            print(&format!("{macros} macros, {codes} code lines, no call"), &table(macros, codes, 0, 1));
-            print(&format!("{macros} macros, {codes} code lines, 100 calls"), &table(macros, codes, 100, 1));
+            let set = format!("{macros} macros, {codes} code lines");
+            let loading = print(&format!("{set}, no call"), &table(macros, codes, 0, 1), None);
+            for called in if macros < 100 { vec![1] } else { vec![1, macros] } {
+                print(
+                    &format!("{set}, 100 calls of {called}"),
+                    &table(macros, codes, 100, called),
+                    Some(loading),
+                );
+            }
         }
-        let last = format!("100 macros, {codes} code lines, 100 calls of the last");
-        print(&last, &table(100, codes, 100, 100));
     }
 }
 
@@ -60,34 +71,53 @@ fn table(macros: usize, codes: usize, calls: usize, called: usize) -> String {
     format!("{FLAG}{}$$\n{input}", bodies.join("$\n"))
 }
 
+/// The shortest times of one text.
+#[derive(Clone, Copy)]
+struct Times {
+    proved: Duration,
+    reference: Duration,
+}
+
+impl Times {
+    fn ratio(self) -> f64 {
+        self.proved.as_secs_f64() / self.reference.as_secs_f64()
+    }
+
+    /// What these have more than the times of the text without input.
+    fn beyond(self, loading: Times) -> Times {
+        Times { proved: self.proved - loading.proved, reference: self.reference - loading.reference }
+    }
+}
+
 /// One row: both libraries run the text and agree.
-fn print(case: &str, text: &str) {
+fn print(case: &str, text: &str, loading: Option<Times>) -> Times {
     let mut nodes = vec![Node::default(); NODE_ROW];
     let (mut output, mut store) = (vec![0; 65_536], vec![0; STORE_ROOM]);
     let text = text.as_bytes();
-    let (proved_ran, proved) = timed(|| run(text, FUEL_LIMIT, &mut nodes, &mut output, &mut store));
-    let (ran, reference) = timed(|| reference::run(text, FUEL_LIMIT, NODE_ROW, &mut output, &mut store));
-    assert_eq!(proved_ran, ran, "{case}");
-    assert!(ran.number == 0 || ran.events == FUEL_LIMIT, "{case}: {ran:?}");
-    let ratio = proved.as_secs_f64() / reference.as_secs_f64();
-    println!("{case:50} {:8} {:>12} {:>12} {ratio:6.2}", ran.events, shown(proved), shown(reference));
+    let start = Instant::now();
+    let mut shortest = Times { proved: Duration::MAX, reference: Duration::MAX };
+    while start.elapsed() < LEAST {
+        let (proved_ran, time) = timed(|| run(text, FUEL_LIMIT, &mut nodes, &mut output, &mut store));
+        shortest.proved = shortest.proved.min(time);
+        let (ran, time) = timed(|| reference::run(text, FUEL_LIMIT, NODE_ROW, &mut output, &mut store));
+        shortest.reference = shortest.reference.min(time);
+        assert_eq!(proved_ran, ran, "{case}");
+        assert!(ran.number == 0 || ran.events == FUEL_LIMIT, "{case}: {ran:?}");
+    }
+    let ran = reference::run(text, FUEL_LIMIT, NODE_ROW, &mut output, &mut store);
+    let input = loading.map_or(String::new(), |times| format!("{:6.2}", shortest.beyond(times).ratio()));
+    let (proved, reference) = (shown(shortest.proved), shown(shortest.reference));
+    println!("{case:50} {:8} {proved:>12} {reference:>12} {:6.2} {input}", ran.events, shortest.ratio());
+    shortest
 }
 
 fn shown(time: Duration) -> String {
     format!("{:.1} us", time.as_secs_f64() * 1e6)
 }
 
-/// The answer and the shortest of several times, which other work on the
-/// machine disturbs least.
-fn timed(mut call: impl FnMut() -> Ran) -> (Ran, Duration) {
+/// A run's answer and its time.
+fn timed(call: impl FnOnce() -> Ran) -> (Ran, Duration) {
     let start = Instant::now();
-    let mut shortest = Duration::MAX;
-    loop {
-        let turn = Instant::now();
-        let ran = call();
-        shortest = shortest.min(turn.elapsed());
-        if start.elapsed() >= LEAST {
-            return (ran, shortest);
-        }
-    }
+    let ran = call();
+    (ran, start.elapsed())
 }

@@ -6,8 +6,8 @@ ghost use lib.ListN.{length};
 ghost use Rattle.model.specs.Load.{Loaded, loaded, load};
 ghost use Rattle.model.specs.Results.{checkText, fitLine, illegal, runText};
 ghost use Rattle.model.specs.FirstReading.{FitsFirst};
-ghost use Rattle.run.specs.Runs.{Runs};
-ghost use Rattle.run.specs.Demands.{FollowsExpansion};
+ghost use Rattle.model.specs.Runs.{Runs};
+ghost use Rattle.model.specs.Demands.{FollowsExpansion};
 use model::Checked;
 use model::Fitted;
 use model::Ran;
@@ -23,7 +23,8 @@ pub extern "C" fn stage2_check(text: &[u8], nodes: &mut [Node]) -> Checked
 #[no_mangle]
 pub extern "C" fn stage2_fit(text: &[u8], nodes: &mut [Node], line: &[u8]) -> Fitted
     ensures { λ r. ⌜ r ≡ fitLine (length (now (nodes .entry))) (now (text .entry)) (now (line .entry)) ⌝ }
-    ensures { λ r. ⌜ ((t : Loaded) → load (now (text .entry)) ≡ loaded t → 2048 ≤ length (now (nodes .entry)) → length (now (line .entry)) ≤ 200 → FitsFirst t (now (line .entry)) r) ⌝ }
+    ensures { λ r. ⌜ ((t : Loaded) → load (now (text .entry)) ≡ loaded t → 2048 ≤ length (now (nodes .entry)) → length (now (line .entry)) ≤ 200
+        → FitsFirst t (now (line .entry)) r) ⌝ }
 {
     stage2::fit(text, nodes, line)
 }
@@ -36,8 +37,10 @@ pub extern "C" fn stage2_run(
     output: &mut [u8],
     store: &mut [u8],
 ) -> Ran
-    ensures { λ r. ⌜ Runs (runText fuel (length (now (nodes .entry))) (length (now (output .entry))) (length (now (store .entry))) (now (text .entry))) (now (output .entry)) (now (store .entry)) r (now (output .exit)) (now (store .exit)) ⌝ }
-    ensures { λ r. ⌜ ((t : Loaded) → load (now (text .entry)) ≡ loaded t → illegal fuel (length (now (nodes .entry))) (length (now (store .entry))) ≡ false → FollowsExpansion t fuel (now (output .entry)) (now (store .entry)) r (now (output .exit)) (now (store .exit))) ⌝ }
+    ensures { λ r. ⌜ Runs (runText fuel (length (now (nodes .entry))) (length (now (output .entry))) (length (now (store .entry))) (now (text .entry)))
+        (now (output .entry)) (now (store .entry)) r (now (output .exit)) (now (store .exit)) ⌝ }
+    ensures { λ r. ⌜ ((t : Loaded) → load (now (text .entry)) ≡ loaded t → illegal fuel (length (now (nodes .entry))) (length (now (store .entry))) ≡ false
+        → FollowsExpansion t fuel (now (output .entry)) (now (store .entry)) r (now (output .exit)) (now (store .exit))) ⌝ }
 {
-    run::run(text, fuel, nodes, output, store)
+    stage2::run(text, fuel, nodes, output, store)
 }

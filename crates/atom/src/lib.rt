@@ -1,4 +1,4 @@
-// The atoms of a line (document 01, "Fitting a line").
+// The atoms of a line (document 01, "Fitting a line"). No public function has a `requires`.
 ghost use mathlib.Core.Path.{_≡_};
 ghost use Prim.Native.Nat.{_<_, _^_};
 ghost use Rattle.atom.specs.Atoms.{depthPast, AtomAt};

@@ -23,7 +23,7 @@ use Rattle.body.specs.declared.Passed.{Passed}
 use Rattle.body.specs.declared.Passed.the-variants.{Landed, Beyond, Bad}
 use Rattle.body.specs.declared.Stepped.{Stepped}
 use Rattle.body.specs.declared.Stepped.the-variants.{Ended, Closed, On}
-use Rattle.body.specs.Steps.{passedOf, Ranged, Drops, Passes, Leaves, Shuts, Goes, StepsTo, Steps}
+use Rattle.body.specs.Steps.{passedOf, passedFault, RangedPassed, DropsFirst, PassesOver, Leaves, Shuts, Goes, StepsTo, StepsOver}
 
 -- ---- one line, by its effect
 
@@ -113,13 +113,13 @@ module _ (m : Marks) where
   past-end d = refl
 
 module _ {m : Marks} {text : Bytes} {at : ℕ} {l : CodeLine} (k : CodeAt m text at l) where
-  pub drops : Drops m text at (l .next)
+  pub drops : DropsFirst m text at (l .next)
   drops = record { is = dropped (l .there) refl; from = omega arith; within = k .within } where
     dropped : (q : Bool) → l .there ≡ q → drop 1 (bodyAt m text at) ≡ bodyAt m text (l .next)
     dropped true e = ap (λ s. drop 1 s) (k .more e)
     dropped false e = ap (λ s. drop 1 s) (k .ended e) ∙ sym (k .ended e) ∙ ap (λ i. bodyAt m text i) (sym (k .still e))
 
-  pub step-ended : {depth : ℕ} → not (l .there) ≡ true → Steps m text at depth Ended
+  pub step-ended : {depth : ℕ} → not (l .there) ≡ true → StepsOver m text at depth Ended
   step-ended h = record { is = k .ended (not-true _ h) }
 
   module _ (there : not (l .there) ≡ false) {e : Effect} (a : Affects m text at (l .end) e) where
@@ -136,35 +136,35 @@ module _ {m : Marks} {text : Bytes} {at : ℕ} {l : CodeLine} (k : CodeAt m text
     module _ {depth : ℕ} (few : depth ≤ at) where
       goes : {p d : ℕ} → ((n : ℕ) → Machine.passOver m (suc n) depth (bodyAt m text at) ≡ Machine.passOver m n d (bodyAt m text p))
           → Machine.pastLoop m depth (bodyAt m text at) ≡ Machine.pastLoop m d (bodyAt m text p) → l .next ≤ p → p ≤ length text → d ≤ depth + 1
-          → Steps m text at depth (On p d)
+          → StepsOver m text at depth (On p d)
       goes s t from w o =
           let f = k .ahead (not-false _ there) in
           record { is = record { skip = s; leave = t; ahead = omega arith; within = w; few = omega arith } }
 
-      pub step-malformed : e ≡ Malformed → Steps m text at depth (On (l .next) depth)
+      pub step-malformed : e ≡ Malformed → StepsOver m text at depth (On (l .next) depth)
       step-malformed q = goes (λ n. skips n depth q) (leaves depth q) (omega arith) (k .within) (omega arith)
 
-      pub step-plain : e ≡ Plain → Steps m text at depth (On (l .next) depth)
+      pub step-plain : e ≡ Plain → StepsOver m text at depth (On (l .next) depth)
       step-plain q = goes (λ n. skips n depth q) (leaves depth q) (omega arith) (k .within) (omega arith)
 
-      pub step-opens : e ≡ Opens → Steps m text at depth (On (l .next) (depth + 1))
+      pub step-opens : e ≡ Opens → StepsOver m text at depth (On (l .next) (depth + 1))
       step-opens q =
           goes (λ n. skips n depth q ∙ ap (λ d. Machine.passOver m n d (bodyAt m text (l .next))) (sym (add-one depth)))
           (leaves depth q ∙ ap (λ d. Machine.pastLoop m d (bodyAt m text (l .next))) (sym (add-one depth)))
           (omega arith) (k .within) (omega arith)
 
-      pub step-owns : {p : ℕ} → e ≡ Owns → Drops m text (l .next) p → Steps m text at depth (On p depth)
+      pub step-owns : {p : ℕ} → e ≡ Owns → DropsFirst m text (l .next) p → StepsOver m text at depth (On p depth)
       step-owns q o =
           goes (λ n. skips n depth q ∙ ap (λ cs. Machine.passOver m n depth cs) (o .is))
           (leaves depth q ∙ ap (λ cs. Machine.pastLoop m depth cs) (o .is))
           (o .from) (o .within) (omega arith)
 
-      pub step-closes : e ≡ Closes → (depth ≡ 0 → ⊥) → Steps m text at depth (On (l .next) (depth - 1))
+      pub step-closes : e ≡ Closes → (depth ≡ 0 → ⊥) → StepsOver m text at depth (On (l .next) (depth - 1))
       step-closes q o =
           goes (λ n. skips n depth q ∙ closes-open m n depth _ o) (leaves depth q ∙ when-false _ _ (ne-eqb depth 0 o))
           (omega arith) (k .within) (omega arith)
 
-      pub step-shuts : e ≡ Closes → depth ≡ 0 → Steps m text at depth (Closed (l .next))
+      pub step-shuts : e ≡ Closes → depth ≡ 0 → StepsOver m text at depth (Closed (l .next))
       step-shuts q o =
           record {
             is = record {
@@ -178,7 +178,7 @@ module _ {m : Marks} {text : Bytes} {at : ℕ} {l : CodeLine} (k : CodeAt m text
 
 -- ---- what a step says, by its case
 
-module _ {m : Marks} {text : Bytes} {at depth : ℕ} {r : Stepped} (s : Steps m text at depth r) where
+module _ {m : Marks} {text : Bytes} {at depth : ℕ} {r : Stepped} (s : StepsOver m text at depth r) where
   at-ended : r ≡ Ended → bodyAt m text at ≡ []
   at-ended q = subst (λ (x : Stepped). StepsTo m text at depth x) q (s .is)
 
@@ -204,21 +204,29 @@ passing-starts h = record { is = refl; from = omega arith; within = h; few = ome
 one-less : {left : ℕ} → 0 < left → left ≡ suc (left - 1)
 one-less h = omega arith
 
+-- an answer's number is that of what it stands for
+passed-fault : (m : Marks) (text : Bytes) (r : Passed) → passedFault r ≡ Machine.landingFault (passedOf m text r)
+passed-fault m text (Landed p) = refl
+passed-fault m text (Beyond k) = refl
+passed-fault m text Bad = refl
+
+passes : {m : Marks} {text : Bytes} {at n : ℕ} {r : Passed} → Machine.passOver m n 0 (bodyAt m text at) ≡ passedOf m text r → RangedPassed text at n r → PassesOver m text at n r
+passes {m} {text} {r = r} e g = record { is = e; number = passed-fault m text r ∙ ap Machine.landingFault (sym e); ranged = g }
+
 module _ {m : Marks} {text : Bytes} {at n i depth left : ℕ} (p : Passing m text at n i depth left) where
-  pub landed : left ≤ 0 → depth ≡ 0 → Passes m text at n (Landed i)
+  pub landed : left ≤ 0 → depth ≡ 0 → PassesOver m text at n (Landed i)
   landed h o =
       let z : left ≡ 0 = omega arith in
-      record {
-        is = p .is ∙ ap (λ x. Machine.passOver m x depth (bodyAt m text i)) z ∙ ap (λ x. Machine.passOver m 0 x (bodyAt m text i)) o ∙ lands m (bodyAt m text i);
-        ranged = (p .from, p .within);
-      }
+      passes
+      (p .is ∙ ap (λ x. Machine.passOver m x depth (bodyAt m text i)) z ∙ ap (λ x. Machine.passOver m 0 x (bodyAt m text i)) o ∙ lands m (bodyAt m text i))
+      (p .from, p .within)
 
-  pub open-landing : left ≤ 0 → (depth ≡ 0 → ⊥) → Passes m text at n Bad
+  pub open-landing : left ≤ 0 → (depth ≡ 0 → ⊥) → PassesOver m text at n Bad
   open-landing h o =
       let z : left ≡ 0 = omega arith in
-      record { is = p .is ∙ ap (λ x. Machine.passOver m x depth (bodyAt m text i)) z ∙ lands-open m depth (bodyAt m text i) o; ranged = tt }
+      passes (p .is ∙ ap (λ x. Machine.passOver m x depth (bodyAt m text i)) z ∙ lands-open m depth (bodyAt m text i) o) tt
 
-  module _ (h : 0 < left) {r : Stepped} (s : Steps m text i depth r) where
+  module _ (h : 0 < left) {r : Stepped} (s : StepsOver m text i depth r) where
     at-line : Machine.passOver m n 0 (bodyAt m text at) ≡ Machine.passOver m (suc (left - 1)) depth (bodyAt m text i)
     at-line = p .is ∙ ap (λ x. Machine.passOver m x depth (bodyAt m text i)) (one-less h)
 
@@ -230,20 +238,19 @@ module _ {m : Marks} {text : Bytes} {at n i depth left : ℕ} (p : Passing m tex
         let b = p .rest in
         record { is = at-line ∙ g .skip (left - 1); from = omega arith; within = g .within; few = g .few; rest = omega arith }
 
-    pub shut : {j : ℕ} → r ≡ Closed j → Passes m text at n Bad
-    shut q = record { is = at-line ∙ at-closed s q .skip (left - 1); ranged = tt }
+    pub shut : {j : ℕ} → r ≡ Closed j → PassesOver m text at n Bad
+    shut q = passes (at-line ∙ at-closed s q .skip (left - 1)) tt
 
-    pub beyond-end : r ≡ Ended → depth ≡ 0 → Passes m text at n (Beyond left)
+    pub beyond-end : r ≡ Ended → depth ≡ 0 → PassesOver m text at n (Beyond left)
     beyond-end q o =
-        record {
-          is = at-line ∙ ap (λ cs. Machine.passOver m (suc (left - 1)) depth cs) (at-ended s q)
-              ∙ ap (λ x. Machine.passOver m (suc (left - 1)) x []) o ∙ ends m (left - 1) ∙ ap Machine.beyond (sym (one-less h));
-          ranged = p .rest;
-        }
+        passes
+        (at-line ∙ ap (λ cs. Machine.passOver m (suc (left - 1)) depth cs) (at-ended s q)
+        ∙ ap (λ x. Machine.passOver m (suc (left - 1)) x []) o ∙ ends m (left - 1) ∙ ap Machine.beyond (sym (one-less h)))
+        (p .rest)
 
-    pub open-end : r ≡ Ended → (depth ≡ 0 → ⊥) → Passes m text at n Bad
+    pub open-end : r ≡ Ended → (depth ≡ 0 → ⊥) → PassesOver m text at n Bad
     open-end q o =
-        record { is = at-line ∙ ap (λ cs. Machine.passOver m (suc (left - 1)) depth cs) (at-ended s q) ∙ ends-open m depth (left - 1) o; ranged = tt }
+        passes (at-line ∙ ap (λ cs. Machine.passOver m (suc (left - 1)) depth cs) (at-ended s q) ∙ ends-open m depth (left - 1) o) tt
 
 -- ---- past an iteration
 
@@ -257,7 +264,7 @@ pub record Leaving (m : Marks) (text : Bytes) (at i depth : ℕ) : Type 0 where
 pub leaving-starts : {m : Marks} {text : Bytes} {at : ℕ} → at ≤ length text → Leaving m text at at 0
 leaving-starts h = record { is = refl; from = omega arith; within = h; few = omega arith }
 
-module _ {m : Marks} {text : Bytes} {at i depth : ℕ} (p : Leaving m text at i depth) {r : Stepped} (s : Steps m text i depth r) where
+module _ {m : Marks} {text : Bytes} {at i depth : ℕ} (p : Leaving m text at i depth) {r : Stepped} (s : StepsOver m text i depth r) where
   pub leaving-more : {j d : ℕ} → r ≡ On j d → Leaving m text at j d
   leaving-more q =
       let g = at-on s q in
@@ -285,7 +292,7 @@ module _ {m : Marks} {text : Bytes} {at i depth : ℕ} (p : Leaving m text at i 
 
 -- ---- what callers take from a skip, by its case
 
-module _ {m : Marks} {text : Bytes} {at n : ℕ} {r : Passed} (s : Passes m text at n r) where
+module _ {m : Marks} {text : Bytes} {at n : ℕ} {r : Passed} (s : PassesOver m text at n r) where
   pub passes-landed : {p : ℕ} → r ≡ Landed p → Machine.passOver m n 0 (bodyAt m text at) ≡ Machine.landed (bodyAt m text p)
   passes-landed q = s .is ∙ ap (λ x. passedOf m text x) q
 
@@ -296,4 +303,4 @@ module _ {m : Marks} {text : Bytes} {at n : ℕ} {r : Passed} (s : Passes m text
   passes-bad q = s .is ∙ ap (λ x. passedOf m text x) q
 
   pub landed-within : {p : ℕ} → r ≡ Landed p → p ≤ length text
-  landed-within q = subst (λ (x : Passed). Ranged text at n x) q (s .ranged) .1
+  landed-within q = subst (λ (x : Passed). RangedPassed text at n x) q (s .ranged) .1

@@ -1,7 +1,7 @@
 // Passing over code lines of a body: for a skip, and past an iteration that makes no pass.
 ghost use Prim.Native.Nat.{_≤_};
 ghost use lib.ListN.{length};
-ghost use Rattle.body.specs.Steps.{Drops, Steps, Passes, Leaves};
+ghost use Rattle.body.specs.Steps.{DropsFirst, StepsOver, PassesOver, Leaves};
 use model::Effect;
 use model::Marks;
 
@@ -23,7 +23,7 @@ enum Stepped {
 // The place after the line at `at`, if there is one there.
 pub fn skip_layout(m: Marks, text: &[u8], at: usize) -> usize
     requires { ⌜ at ≤ length (now text) ⌝ }
-    ensures { λ r. ⌜ Drops m (now (text .entry)) at r ⌝ }
+    ensures { λ r. ⌜ DropsFirst m (now (text .entry)) at r ⌝ }
 {
     let line = scan::read_code(text, m, at);
     line.next
@@ -32,7 +32,7 @@ pub fn skip_layout(m: Marks, text: &[u8], at: usize) -> usize
 // Passes over the code line at `at`, a layout with its owner; `depth` iterations were opened on the way there.
 fn step_over(m: Marks, text: &[u8], at: usize, depth: usize) -> Stepped
     requires { ⌜ (at ≤ length (now text)) × (depth ≤ at) ⌝ }
-    ensures { λ r. ⌜ Steps m (now (text .entry)) at depth r ⌝ }
+    ensures { λ r. ⌜ StepsOver m (now (text .entry)) at depth r ⌝ }
 {
     let line = scan::read_code(text, m, at);
     if !line.there {
@@ -56,7 +56,7 @@ fn step_over(m: Marks, text: &[u8], at: usize, depth: usize) -> Stepped
 // Passes over n code lines from `at` on.
 pub fn pass_over(m: Marks, text: &[u8], at: usize, n: usize) -> Passed
     requires { ⌜ at ≤ length (now text) ⌝ }
-    ensures { λ r. ⌜ Passes m (now (text .entry)) at n r ⌝ }
+    ensures { λ r. ⌜ PassesOver m (now (text .entry)) at n r ⌝ }
 {
     let mut i = at;
     let mut depth: usize = 0;

@@ -1,4 +1,4 @@
--- The loops that copy and move: their invariants, and a turn of each. Assumes nothing.
+-- The loops that copy and move: their invariants, and a turn of each.
 use mathlib.Core.Path.{_≡_, refl, sym, ap, ap₂, _∙_}
 use mathlib.Core.List.{List, [], _∷_, _++_}
 use Prim.Native.Nat.{ℕ, suc, _+_, _-_, _≤_, _<_}

@@ -1,4 +1,4 @@
--- What stands where after a copy or a move, over `paste` of lib.Seq. Assumes nothing.
+-- What stands where after a copy or a move, over `paste` of lib.Seq.
 use mathlib.Core.Path.{_≡_, sym, ap, ap₂, _∙_}
 use mathlib.Core.List.{List, _++_}
 use Prim.Native.Nat.{ℕ, _+_, _-_, _≤_}

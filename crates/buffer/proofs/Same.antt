@@ -1,4 +1,4 @@
--- `same` of two lists is equality, and the loop that compares them. Assumes nothing.
+-- `same` of two lists is equality, and the loop that compares them.
 use mathlib.Core.Path.{_≡_, refl, sym, ap, ap₂, _∙_}
 use mathlib.Core.Bool.{Bool, true, false}
 use mathlib.Core.List.{List, [], _∷_}

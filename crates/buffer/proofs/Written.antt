@@ -1,4 +1,4 @@
--- A list that is written from its front. Assumes nothing.
+-- A list that is written from its front.
 use mathlib.Core.Path.{_≡_, sym, ap, ap₂, _∙_}
 use mathlib.Core.List.{List, [], _∷_, _++_}
 use Prim.Native.Nat.{ℕ, suc, _+_, _-_, _≤_, _<_}

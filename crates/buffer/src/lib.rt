@@ -1,4 +1,6 @@
 // Bytes in lent slices: copied, moved, compared, and numbers written in decimal. Nothing here knows what the bytes mean.
+// What is copied or moved has to lie in its slice, at its old place and at the new one; move_down asks for a new place that is no higher,
+// move_up for one that is no lower. A number to be narrowed has to be below 256, and one in decimal to have 20 bytes for its digits.
 ghost use mathlib.Core.Path.{_≡_};
 ghost use Prim.Native.Nat.{_+_, _≤_, _<_, _^_};
 ghost use lib.ListN.{length, drop};
@@ -84,6 +86,13 @@ pub fn narrow(n: usize) -> u8
     ensures { λ r. ⌜ r ≡ n ⌝ }
 {
     n as u8
+}
+
+// A count as the public calls answer it.
+pub fn widen(n: usize) -> u64
+    ensures { λ r. ⌜ r ≡ n ⌝ }
+{
+    n as u64
 }
 
 // The digits of n, which has at most f of them, to the front of out; the answer is how many.

@@ -4,20 +4,20 @@ use mathlib.Core.Bool.{true}
 use Prim.Native.Nat.{ℕ}
 use native.Mathlib.Omega.{arith}
 use borrow.Author.Tests.{eq-eqb, ne-eqb}
+use lib.ListN.{take}
 use Rattle.model.specs.declared.Marks.{Marks}
 use Rattle.model.specs.Text.{Bytes, part}
 use Rattle.model.specs.Code.{parse}
 use Rattle.model.specs.Machine.{halts, finish, carryOut}
 use Rattle.model.proofs.Choices.{when-true, when-false}
 use Rattle.state.specs.declared.State.{State}
-use Rattle.state.specs.State.{bytesOf, sharedOf, Sound}
+use Rattle.state.specs.State.{sharedOf, Sound}
 use Rattle.code.specs.Tokens.{endingOf}
-use Rattle.call.specs.declared.Call.{Call}
-use Rattle.call.specs.Call.{frameOf}
+use Rattle.call.specs.Call.{Laid, frameOf}
 use Rattle.build.specs.declared.Built.{Built}
 use Rattle.build.specs.Built.{builtStep, Builds}
 
-module _ {m : Marks} {text : Bytes} {at to : ℕ} {c : Call} {memory : Bytes} {s : State} {memory′ : Bytes} {r : Built} (b : Builds m text at to c memory s memory′ r) where
+module _ {m : Marks} {text : Bytes} {at to : ℕ} {c : Laid} {memory : Bytes} {s : State} {line′ memory′ : Bytes} {r : Built} (b : Builds m text at to c memory s line′ memory′ r) where
   pub builds-sound : {output : Bytes} → Sound s output memory → Sound (r .state) output memory′
   builds-sound h =
       let k = b .keeps in
@@ -31,7 +31,7 @@ module _ {m : Marks} {text : Bytes} {at to : ℕ} {c : Call} {memory : Bytes} {s
 
   -- the ending is done with the built line, or a number ends the run
   pub builds-finish : r .number ≡ 0 → (room : ℕ) (o : Bytes) → carryOut room m (parse m true (part text at to)) (frameOf m text c) (sharedOf s o memory)
-      ≡ finish room m (endingOf text to (r .ending)) (bytesOf (r .line)) (frameOf m text c) (sharedOf (r .state) o memory′)
+      ≡ finish room m (endingOf text to (r .ending)) (take (r .len) line′) (frameOf m text c) (sharedOf (r .state) o memory′)
   unfolding builtStep
   builds-finish e room o = b .same room o ∙ when-true _ _ (eq-eqb (r .number) 0 e)
 

@@ -21,10 +21,9 @@ use Rattle.code.specs.declared.Ending.{Ending}
 use Rattle.code.specs.declared.Ending.the-variants.{Malformed}
 use Rattle.code.specs.declared.Token.{Token}
 use Rattle.code.specs.declared.Token.the-variants.{Ends, Has}
-use Rattle.code.specs.Tokens.{RangedToken, Reads}
+use Rattle.code.specs.Tokens.{RangedToken, ReadsToken}
 use Rattle.code.proofs.Lines.{Ahead, ahead-starts, ahead-more, ahead-ends, says-ends, says-has}
-use Rattle.call.specs.declared.Call.{Call}
-use Rattle.call.specs.Call.{frameOf, Placed}
+use Rattle.call.specs.Call.{Laid, frameOf, Placed}
 use Rattle.convert.specs.declared.Added.{Added}
 use Rattle.convert.specs.Added.{addedStep, Keeps}
 use Rattle.convert.proofs.Adding.{keeps-same}
@@ -43,7 +42,7 @@ keeps-more k h = record {
   fuel = h .fuel ∙ k .fuel;
 }
 
-pub has-ranges : {m : Marks} {text : Bytes} {at to : ℕ} {first : Bool} {r : Token} {p : Part} {e : ℕ} → Reads m text at to first r → r ≡ Has p e → Ranges p
+pub has-ranges : {m : Marks} {text : Bytes} {at to : ℕ} {first : Bool} {r : Token} {p : Part} {e : ℕ} → ReadsToken m text at to first r → r ≡ Has p e → Ranges p
 has-ranges {at = at} {to} s q = record { is = subst (λ (x : Token). RangedToken at to x) q (s .ranged) .0 }
 
 -- what the parts ps come to after what is built so far
@@ -51,7 +50,7 @@ unfoldable pub rest : Marks → Frame → List Code.Part → Building → Buildi
 rest m f ps b = elim b [ built l w ↦ build m f ps l w | failed n w ↦ failed n w ]
 
 -- the loop's invariant: the rest of the code line starts at i, and a answers what is built so far
-pub record Partly (m : Marks) (text : Bytes) (at to : ℕ) (c : Call) (memory₀ : Bytes) (s : State) (line : Bytes) (a : Added) (i : ℕ) (first : Bool) (memory : Bytes) : Type 0 where
+pub record Partly (m : Marks) (text : Bytes) (at to : ℕ) (c : Laid) (memory₀ : Bytes) (s : State) (line : Bytes) (a : Added) (i : ℕ) (first : Bool) (memory : Bytes) : Type 0 where
   pub is : (o : Bytes)
       → build m (frameOf m text c) (parse m true (part text at to) .parts) [] (sharedOf s o memory₀)
       ≡ rest m (frameOf m text c) (parse m first (part text i to) .parts) (addedStep line a (sharedOf (a .state) o memory))
@@ -60,21 +59,21 @@ pub record Partly (m : Marks) (text : Bytes) (at to : ℕ) (c : Call) (memory₀
   pub short : a .len ≤ 200
   pub long : length line ≡ 200
   pub room : length memory ≡ length memory₀
-  pub number : c .number ≤ 1000000
+  pub placed : Placed text c
 
-pub partly-starts : {m : Marks} {text : Bytes} {at to : ℕ} {c : Call} {memory : Bytes} {s : State} {line : Bytes} → at ≤ to → Kept memory (s .index) → s .symbols ≤ s .index .count
+pub partly-starts : {m : Marks} {text : Bytes} {at to : ℕ} {c : Laid} {memory : Bytes} {s : State} {line : Bytes} → at ≤ to → Kept memory (s .index) → s .symbols ≤ s .index .count
     → Placed text c → length line ≡ 200 → Partly m text at to c memory s line (record { number = 0; len = 0; state = s }) at true memory
 unfolding rest addedStep
-partly-starts h k g p l = record { is = λ o. refl; ahead = ahead-starts h; keeps = keeps-same k g; short = omega arith; long = l; room = refl; number = p .number }
+partly-starts h k g p l = record { is = λ o. refl; ahead = ahead-starts h; keeps = keeps-same k g; short = omega arith; long = l; room = refl; placed = p }
 
-module _ {m : Marks} {text : Bytes} {at to : ℕ} {c : Call} {memory₀ : Bytes} {s : State} {line : Bytes} {a : Added} {i : ℕ} {first : Bool} {memory : Bytes}
+module _ {m : Marks} {text : Bytes} {at to : ℕ} {c : Laid} {memory₀ : Bytes} {s : State} {line : Bytes} {a : Added} {i : ℕ} {first : Bool} {memory : Bytes}
     (h : Partly m text at to c memory₀ s line a i first memory) where
   -- a part was met that ends the run
-  pub partly-stops : {r : Built} → (a .number ≡ 0 → ⊥) → r ≡ builtOf a line Malformed → Builds m text at to c memory₀ s memory r
+  pub partly-stops : {r : Built} → (a .number ≡ 0 → ⊥) → r ≡ builtOf a Malformed → Builds m text at to c memory₀ s line memory r
   unfolding carryOut finishBuilt builtStep rest addedStep
   partly-stops z e =
       let f = frameOf m text c in
-      subst (λ (x : Built). Builds m text at to c memory₀ s memory x) (sym e)
+      subst (λ (x : Built). Builds m text at to c memory₀ s line memory x) (sym e)
       (record {
         same = λ room o. ap (λ x. finishBuilt room m (parse m true (part text at to) .ending) f x)
             (h .is o ∙ ap (λ x. rest m f (parse m first (part text i to) .parts) x) (when-false _ _ (ne-eqb (a .number) 0 z)))
@@ -86,19 +85,19 @@ module _ {m : Marks} {text : Bytes} {at to : ℕ} {c : Call} {memory₀ : Bytes}
         effect = λ y. absurd (z y);
       })
 
-  module _ {t : Token} (z : a .number ≡ 0) (g : Reads m text i to first t) where
+  module _ {t : Token} (z : a .number ≡ 0) (g : ReadsToken m text i to first t) where
     so-far : (o : Bytes) → build m (frameOf m text c) (parse m true (part text at to) .parts) [] (sharedOf s o memory₀)
         ≡ build m (frameOf m text c) (parse m first (part text i to) .parts) (part line 0 (a .len)) (sharedOf (a .state) o memory)
     unfolding rest addedStep
     so-far o = h .is o ∙ ap (λ x. rest m (frameOf m text c) (parse m first (part text i to) .parts) x) (when-true _ _ (eq-eqb (a .number) 0 z))
 
     -- the code line is at its end
-    pub partly-ends : {k : Ending} {r : Built} → t ≡ Ends k → r ≡ builtOf a line k → Builds m text at to c memory₀ s memory r
+    pub partly-ends : {k : Ending} {r : Built} → t ≡ Ends k → r ≡ builtOf a k → Builds m text at to c memory₀ s line memory r
     unfolding carryOut build finishBuilt builtStep effect Code.only
     partly-ends {k} q e =
         let f = frameOf m text c in
         let y = ahead-ends (h .ahead) g q in
-        subst (λ (x : Built). Builds m text at to c memory₀ s memory x) (sym e)
+        subst (λ (x : Built). Builds m text at to c memory₀ s line memory x) (sym e)
         (record {
           same = λ room o. ap (λ x. finishBuilt room m (parse m true (part text at to) .ending) f x)
               (so-far o ∙ ap (λ x. build m f (x .parts) (part line 0 (a .len)) (sharedOf (a .state) o memory)) (says-ends g q))
@@ -126,5 +125,5 @@ module _ {m : Marks} {text : Bytes} {at to : ℕ} {c : Call} {memory₀ : Bytes}
           short = d .adds text .short;
           long = l ∙ h .long;
           room = omega arith;
-          number = h .number;
+          placed = h .placed;
         }

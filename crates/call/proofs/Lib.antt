@@ -1,5 +1,4 @@
 -- The laws of a call.
-pub mod Holding
 pub mod Slots
 pub mod Loops
 pub mod Calls

@@ -1,4 +1,4 @@
--- A line that is built, and the texts it is built from. Assumes nothing.
+-- A line that is built, and the texts it is built from.
 use mathlib.Core.Path.{_≡_, sym, ap, ap₂, _∙_}
 use mathlib.Core.Bool.{Bool, true, false, cond}
 use mathlib.Core.List.{_++_}

@@ -1,70 +1,83 @@
--- The open iterations of a call. Assumes nothing.
-use mathlib.Core.Path.{_≡_, refl, ap, ap₂, _∙_}
-use mathlib.Core.List.{List, [], _∷_}
-use Prim.Native.Nat.{ℕ, zero, suc, _+_, _-_, _<_}
-use native.Mathlib.Numerals.{add-one}
+-- The open iterations of a call.
+use mathlib.Core.Path.{_≡_, refl, sym, ap, ap₂, subst, _∙_}
+use mathlib.Core.List.{List, _∷_}
+use Prim.Native.Nat.{ℕ, zero, suc, _+_, _-_, _*_, _≤_, _<_}
 use native.Mathlib.Omega.{arith}
 use borrow.Author.Tests.{eq-eqb, ne-eqb}
-use lib.ListN.{length, set}
-use lib.Seq.{getD-set-same, getD-set-other}
+use lib.ListN.{length, getD, take}
 use Rattle.model.specs.declared.Marks.{Marks}
 use Rattle.model.specs.Text.{Bytes, part}
 use Rattle.model.specs.Load.{bodyAt}
 use Rattle.model.specs.Machine.{Loop, byPieces, byCount}
 use Rattle.model.proofs.Choices.{when-true, when-false}
-use Rattle.call.specs.declared.Iteration.{Iteration}
-use Rattle.call.specs.declared.Call.{Call}
-use Rattle.call.specs.Call.{textOf, noIteration, iteration, loopOf, loopsOf, frameOf, PlacedLoop}
+use Rattle.buffer.specs.Pasted.{Pasted}
+use Rattle.buffer.proofs.Pasted.{drop-paste-past}
+use Rattle.call.specs.Call.{Iteration, iteration, textsAt, restOf, oldOf, loopOf, loopsOf, Laid, frameOf, PlacedLoop}
 
-module _ (m : Marks) (text : Bytes) where
-  -- ---- one iteration
+-- ---- one iteration
 
-  pub loop-count : (x : Iteration) → x .param ≡ 0 → loopOf m text x ≡ byCount (x .left) (bodyAt m text (x .after))
+module _ (m : Marks) (text s : Bytes) where
+  pub loop-count : (x : Iteration) → x .param ≡ 0 → loopOf m text s x ≡ byCount (x .left) (bodyAt m text (x .after))
   unfolding loopOf
   loop-count x e = when-true (byCount (x .left) (bodyAt m text (x .after))) _ (eq-eqb (x .param) 0 e)
 
   pub loop-pieces : (x : Iteration) → ¬ (x .param ≡ 0)
-      → loopOf m text x ≡ byPieces (x .param) (textOf (x .rest)) (part text (x .list) (x .end)) (textOf (x .old)) (bodyAt m text (x .after))
+      → loopOf m text s x ≡ byPieces (x .param) (restOf s x) (part text (x .list) (x .end)) (oldOf s x) (bodyAt m text (x .after))
   unfolding loopOf
   loop-pieces x h = when-false (byCount (x .left) (bodyAt m text (x .after))) _ (ne-eqb (x .param) 0 h)
 
-  -- ---- the first k
+-- ---- the first k
 
+module _ (m : Marks) (text : Bytes) where
   -- as many as the call says
-  loops-depth : (xs : List Iteration) (k : ℕ) → length (loopsOf m text xs k) ≡ k
+  loops-depth : (nums : List ℕ) (bytes : Bytes) (k : ℕ) → length (loopsOf m text nums bytes k) ≡ k
   unfolding loopsOf
-  loops-depth xs zero = refl
-  loops-depth xs (suc k) = ap suc (loops-depth xs k)
+  loops-depth nums bytes zero = refl
+  loops-depth nums bytes (suc k) = ap suc (loops-depth nums bytes k)
 
-  pub frame-depth : (c : Call) → length (frameOf m text c .loops) ≡ c .depth
-  frame-depth c = loops-depth (c .iterations) (c .depth)
+  pub frame-depth : (c : Laid) → length (frameOf m text c .loops) ≡ c .head .depth
+  frame-depth c = loops-depth (c .nums) (c .bytes) (c .head .depth)
 
-  pub loops-top : (xs : List Iteration) (k : ℕ) → 0 < k → loopsOf m text xs k ≡ loopOf m text (iteration xs (k - 1)) ∷ loopsOf m text xs (k - 1)
+  pub loops-top : (nums : List ℕ) (bytes : Bytes) (k : ℕ) → 0 < k
+      → loopsOf m text nums bytes k ≡ loopOf m text (textsAt bytes (k - 1)) (iteration nums (k - 1)) ∷ loopsOf m text nums bytes (k - 1)
   unfolding loopsOf
-  loops-top xs k h = let z : k ≡ suc (k - 1) = omega arith in ap (λ (n : ℕ). loopsOf m text xs n) z
+  loops-top nums bytes k h = let z : k ≡ suc (k - 1) = omega arith in ap (λ (n : ℕ). loopsOf m text nums bytes n) z
 
-  loops-agree : (xs ys : List Iteration) (k : ℕ) → ((j : ℕ) → j < k → iteration xs j ≡ iteration ys j) → loopsOf m text xs k ≡ loopsOf m text ys k
+-- ---- others that say the same
+
+module _ (nums nums′ : List ℕ) where
+  pub iteration-agree : (i : ℕ) → ((q : ℕ) → 18 + 8 * i ≤ q → q < 18 + 8 * i + 8 → getD nums′ q 0 ≡ getD nums q 0) → iteration nums′ i ≡ iteration nums i
+  iteration-agree i h =
+      let a : ℕ = 18 + 8 * i in
+      rw (
+        h a (omega arith) (omega arith),
+        h (a + 1) (omega arith) (omega arith),
+        h (a + 2) (omega arith) (omega arith),
+        h (a + 3) (omega arith) (omega arith),
+        h (a + 4) (omega arith) (omega arith),
+        h (a + 5) (omega arith) (omega arith),
+        h (a + 6) (omega arith) (omega arith),
+        h (a + 7) (omega arith) (omega arith),
+      ) refl
+
+  module _ (k : ℕ) (h : (q : ℕ) → 18 ≤ q → q < 18 + 8 * k → getD nums′ q 0 ≡ getD nums q 0) where
+    pub iterations-agree : (i : ℕ) → i < k → iteration nums′ i ≡ iteration nums i
+    iterations-agree i u = iteration-agree i (λ q v w. h q (omega arith) (omega arith))
+
+    pub placed-agree : {text : Bytes} → ((i : ℕ) → i < k → PlacedLoop text (iteration nums i)) → (i : ℕ) → i < k → PlacedLoop text (iteration nums′ i)
+    placed-agree {text} p i u = subst (λ (x : Iteration). PlacedLoop text x) (sym (iterations-agree i u)) (p i u)
+
+  pub loops-agree : (m : Marks) (text bytes bytes′ : Bytes) (k : ℕ) → ((q : ℕ) → 18 ≤ q → q < 18 + 8 * k → getD nums′ q 0 ≡ getD nums q 0)
+      → ((i : ℕ) → i < k → textsAt bytes′ i ≡ textsAt bytes i) → loopsOf m text nums′ bytes′ k ≡ loopsOf m text nums bytes k
   unfolding loopsOf
-  loops-agree xs ys zero h = refl
-  loops-agree xs ys (suc k) h = ap₂ (λ (x : Iteration) (ls : List Loop). loopOf m text x ∷ ls) (h k (omega arith)) (loops-agree xs ys k (λ j l. h j (omega arith)))
+  loops-agree m text bytes bytes′ zero h g = refl
+  loops-agree m text bytes bytes′ (suc k) h g =
+      ap₂ (λ (l : Loop) (ls : List Loop). l ∷ ls)
+      (ap₂ (λ (s : Bytes) (x : Iteration). loopOf m text s x) (g k (omega arith)) (iterations-agree (suc k) h k (omega arith)))
+      (loops-agree m text bytes bytes′ k (λ q u v. h q u (omega arith)) (λ i u. g i (omega arith)))
 
-  -- one that was set is the innermost
-  pub loops-set : (xs : List Iteration) (i : ℕ) (x : Iteration) → i < length xs → loopsOf m text (set xs i x) (i + 1) ≡ loopOf m text x ∷ loopsOf m text xs i
-  unfolding loopsOf
-  loops-set xs i x h =
-      ap (λ (k : ℕ). loopsOf m text (set xs i x) k) (add-one i)
-      ∙ ap₂ (λ (y : Iteration) (ls : List Loop). loopOf m text y ∷ ls) (getD-set-same xs i x noIteration h)
-      (loops-agree (set xs i x) xs i (λ j l. getD-set-other xs i j x noIteration (omega arith)))
-
--- ---- their places
-
-pub none-placed : (text : Bytes) → PlacedLoop text noIteration
-none-placed text = record { param = omega arith; after = omega arith; list = omega arith; end = omega arith }
-
-pub set-placed : (text : Bytes) (xs : List Iteration) (i : ℕ) (x : Iteration) → ((j : ℕ) → PlacedLoop text (iteration xs j)) → PlacedLoop text x
-    → (j : ℕ) → PlacedLoop text (iteration (set xs i x) j)
-set-placed text [] i x h p j = none-placed text
-set-placed text (y ∷ xs) zero x h p zero = p
-set-placed text (y ∷ xs) zero x h p (suc j) = h (suc j)
-set-placed text (y ∷ xs) (suc i) x h p zero = h zero
-set-placed text (y ∷ xs) (suc i) x h p (suc j) = set-placed text xs i x (λ k. h (suc k)) p j
+-- a change of a parameter's bytes is none of an iteration's
+pub texts-past : {bytes : Bytes} {at : ℕ} {s : Bytes} {n : ℕ} {bytes′ : Bytes} → Pasted bytes at s n bytes′ → at ≤ length bytes → n ≤ length s → at + n ≤ 1800
+    → (i : ℕ) → textsAt bytes′ i ≡ textsAt bytes i
+texts-past {bytes} {at} {s} {n} g l k h i =
+    ap (λ (x : Bytes). textsAt x i) (g .is) ∙ ap (λ (x : Bytes). take 400 x) (drop-paste-past (1800 + 400 * i) bytes at s n l k (omega arith))

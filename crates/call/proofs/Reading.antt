@@ -1,4 +1,4 @@
--- The pieces of a reading as the parameters of a call. Assumes nothing.
+-- The pieces of a reading as the parameters of a call.
 use mathlib.Core.Path.{_≡_, refl, sym, ap, ap₂, _∙_, subst}
 use mathlib.Core.List.{List, [], _∷_, _++_, map}
 use Prim.Native.Nat.{ℕ, zero, suc, _+_, _-_, _≤_, _<_}
@@ -10,7 +10,7 @@ use Rattle.model.specs.Load.{bodyAt}
 use Rattle.model.specs.Machine.{padded}
 use Rattle.model.specs.Results.{nine}
 use Rattle.call.specs.declared.Call.{Call}
-use Rattle.call.specs.Call.{frameOf}
+use Rattle.call.specs.Call.{openedOf}
 use Rattle.call.specs.Params.{piecesAt, Opens}
 
 -- pieces of no byte
@@ -48,6 +48,6 @@ module _ (line : Bytes) (starts lens : List ℕ) (ps : List Bytes) (h : length s
 
   -- the call that a reading opens
   pub opens-reading : {number next : ℕ} {r : Call} → Opens number next line starts lens r → (m : Marks) (text : Bytes)
-      → frameOf m text r ≡ record { number = number; params = padded ps; delimiters = replicate 9 []; next = bodyAt m text next; loops = [] }
+      → openedOf m text r ≡ record { number = number; params = padded ps; delimiters = replicate 9 []; next = bodyAt m text next; loops = [] }
   opens-reading {number} {next} o m text =
       o .frame m text ∙ ap (λ (xs : List Bytes). record { number = number; params = xs; delimiters = replicate 9 []; next = bodyAt m text next; loops = [] }) pieces-padded

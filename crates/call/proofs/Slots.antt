@@ -1,16 +1,16 @@
--- Texts in places of 200 bytes each. Assumes nothing.
+-- Texts in places of 200 bytes each.
 use mathlib.Core.Path.{_≡_, refl, sym, ap, ap₂, _∙_}
-use mathlib.Core.List.{List, [], _∷_}
+use mathlib.Core.List.{List, [], _∷_, _++_}
 use Prim.Native.Nat.{ℕ, zero, suc, _+_, _*_, _≤_, _<_, min}
 use native.Mathlib.Omega.{arith}
 use borrow.Author.Count.{below-more}
 use lib.ListN.{length, getD, set, take, drop, length-drop}
-use lib.Seq.{paste, take-paste, take-length, drop-drop, set-getD, getD-set-same, getD-set-other, ext-getD}
+use lib.Seq.{paste, take-paste, take-length, take-append-le, drop-append-le, drop-drop, set-getD, getD-set-same, getD-set-other, ext-getD}
 use Rattle.model.specs.Text.{Bytes, part}
 use Rattle.model.proofs.Text.{part-long}
 use Rattle.buffer.proofs.Pasted.{pasted-long, take-paste-before, drop-paste-before, drop-paste-past}
 use Rattle.call.specs.Call.{slots}
-use Rattle.call.specs.Params.{Inside, Copies, Within, piecesAt, CopiesAll}
+use Rattle.call.specs.Params.{PieceInside, Copies, PiecesInside, piecesAt, CopiesAll}
 
 pub slots-get : (ns : List ℕ) (s : Bytes) (i : ℕ) → i < length ns → getD (slots ns s) i [] ≡ take (min (getD ns i 0) 200) (drop (200 * i) s)
 unfolding slots
@@ -43,6 +43,14 @@ slots-set (n ∷ ns) s t (suc i) h l k =
     (take-paste-before (min n 200) s (200 * suc i) t (length t) (omega arith) (omega arith))
     (ap (λ (x : Bytes). slots (set ns i (length t)) x) f ∙ slots-set ns (drop 200 s) t i (omega arith) l (omega arith))
 
+-- what lies past them does not matter
+pub slots-front : (ns : List ℕ) (s rest : Bytes) → 200 * length ns ≤ length s → slots ns (s ++ rest) ≡ slots ns s
+unfolding slots
+slots-front [] s rest u = refl
+slots-front (n ∷ ns) s rest u =
+    ap₂ (λ (x : Bytes) (y : List Bytes). x ∷ y) (take-append-le (min n 200) s rest (omega arith))
+    (ap (λ (x : Bytes). slots ns x) (drop-append-le 200 s rest (omega arith)) ∙ slots-front ns (drop 200 s) rest (omega (arith, length-drop 200 s)))
+
 -- ---- the pieces of a line
 
 pieces-get : (line : Bytes) (bs ns : List ℕ) (i : ℕ) → i < length bs → i < length ns → getD (piecesAt line bs ns) i [] ≡ part line (getD bs i 0) (getD bs i 0 + getD ns i 0)
@@ -68,10 +76,10 @@ module _ {line : Bytes} {starts lens : List ℕ} where
   pub copying-none : {bytes : Bytes} → length bytes ≡ 1800 → Copying line starts lens 0 bytes
   copying-none h = record { upto = omega arith; long = h; is = λ j k. absurd (omega arith) }
 
-  pub piece-inside : {i : ℕ} → Within line starts lens → i < 9 → Inside line (getD starts i 0) (getD lens i 0)
+  pub piece-inside : {i : ℕ} → PiecesInside line starts lens → i < 9 → PieceInside line (getD starts i 0) (getD lens i 0)
   piece-inside {i} w h = w .each i h
 
-  pub copying-more : {i : ℕ} {bytes bytes′ : Bytes} → Copying line starts lens i bytes → Within line starts lens → length starts ≡ 9 → length lens ≡ 9 → i < 9
+  pub copying-more : {i : ℕ} {bytes bytes′ : Bytes} → Copying line starts lens i bytes → PiecesInside line starts lens → length starts ≡ 9 → length lens ≡ 9 → i < 9
       → Copies line (getD starts i 0) (getD lens i 0) bytes (200 * i) bytes′ → Copying line starts lens (i + 1) bytes′
   copying-more {i} {bytes} {bytes′} p w ls ln h g =
       let a : ℕ = getD starts i 0 in

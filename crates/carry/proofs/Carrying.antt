@@ -1,5 +1,6 @@
 -- A line is built, then its code line's end is done. Assumes nothing.
 use mathlib.Core.Path.{_≡_, subst, _∙_}
+use mathlib.Core.List.{List}
 use Prim.Native.Nat.{ℕ, _≤_, _<_}
 use lib.ListN.{length}
 use Rattle.model.specs.declared.Marks.{Marks}
@@ -9,27 +10,26 @@ use Rattle.model.specs.Code.{effect}
 use Rattle.model.specs.Machine.{Step}
 use Rattle.state.specs.declared.State.{State}
 use Rattle.state.specs.State.{Sound}
-use Rattle.call.specs.declared.Call.{Call}
-use Rattle.call.specs.Call.{Placed}
+use Rattle.call.specs.declared.Head.{Head}
+use Rattle.call.specs.Call.{laid, Placed}
 use Rattle.convert.specs.Added.{Keeps}
 use Rattle.build.specs.declared.Built.{Built}
 use Rattle.build.specs.Built.{Builds}
 use Rattle.build.proofs.Callers.{builds-sound, builds-finish, builds-halts}
-use Rattle.write.specs.Output.{Extends}
-use Rattle.finish.specs.declared.Turn.the-variants.{Halts}
-use Rattle.finish.specs.declared.Carried.{Carried}
-use Rattle.finish.specs.Carried.{cameTo, Comes}
-use Rattle.finish.proofs.Coming.{comes-as, came}
-use Rattle.carry.specs.Carries.{Ready, Finishes, Carries}
+use Rattle.answer.specs.declared.Answer.{Answer}
+use Rattle.answer.specs.Answers.{endsWith}
+use Rattle.answer.specs.Kept.{Extends, Comes}
+use Rattle.answer.proofs.Coming.{comes-as, came-end}
+use Rattle.carry.specs.Carries.{ReadyToFinish, Finishes, Carries}
 
 -- what comes of the state after building comes of the state before it
-comes-from : {m : Marks} {text : Bytes} {p : Step} {s t : State} {o : Bytes} {r : Carried} {o′ memory memory′ : Bytes} → Keeps s memory t → Comes m text p t o r o′ memory′ → Comes m text p s o r o′ memory′
+comes-from : {m : Marks} {text : Bytes} {p : Step} {s t : State} {o line : Bytes} {r : Answer} {nums : List ℕ} {bytes o′ memory memory′ : Bytes} → Keeps s memory t → Comes m text p t o line r nums bytes o′ memory′
+    → Comes m text p s o line r nums bytes o′ memory′
 comes-from {o = o} {r = r} {o′ = o′} k h = record {
   same = h .same;
   sound = h .sound;
   placed = h .placed;
   short = h .short;
-  few = h .few;
   stays = record {
     at = h .stays .at ∙ k .at;
     line = h .stays .line ∙ k .line;
@@ -40,15 +40,17 @@ comes-from {o = o} {r = r} {o′ = o′} k h = record {
   extends = subst (λ (n : ℕ). Extends o n o′ (r .state .written)) (k .written) (h .extends);
 }
 
-module _ {m : Marks} {text : Bytes} {at to : ℕ} {c : Call} {s : State} {memory memory′ : Bytes} {b : Built} (g : Builds m text at to c memory s memory′ b) where
+module _ {m : Marks} {text : Bytes} {at to : ℕ} {c : Head} {nums : List ℕ} {bytes : Bytes} {s : State} {memory line memory′ : Bytes} {b : Built} (g : Builds m text at to (laid c nums bytes) memory s line memory′ b) where
   -- what the code line's end asks
-  pub ready : b .number ≡ 0 → to ≤ length text → (effect m (part text at to) ≡ Opens → c .depth < 4) → Ready text to c (b .ending) (b .line)
-  ready z h d = record { from = at; ranged = g .ranged; within = h; depth = λ e. d (g .effect z ∙ e); short = g .short }
+  pub ready : b .number ≡ 0 → to ≤ length text → length line ≡ 200 → (effect m (part text at to) ≡ Opens → c .depth < 4) → ReadyToFinish text to c (b .ending) line (b .len)
+  ready z h l d = record { from = at; ranged = g .ranged; within = h; depth = λ e. d (g .effect z ∙ e); short = g .short; long = l }
 
-  module _ {o : Bytes} {r : Carried} where
+  module _ {o : Bytes} {r : Answer} where
     -- a number met while building ends the run
-    pub carries-halt : Sound s o memory → Placed text c → ¬ (b .number ≡ 0) → r ≡ cameTo (Halts (b .number)) c (b .state) → Carries m text at to c s o memory r o memory′
-    carries-halt h q z e = record { comes = comes-from (g .keeps) (came (builds-sound g h) q e (builds-halts g z (length o) o) tt) }
+    pub carries-halt : Sound s o memory → Placed text (laid c nums bytes) → ¬ (b .number ≡ 0) → r ≡ endsWith (b .number) (b .state)
+        → Carries m text at to (laid c nums bytes) s o memory line r nums bytes o memory′
+    carries-halt h q z e = record { comes = comes-from (g .keeps) (came-end (builds-sound g h) q e (builds-halts g z (length o) o)) }
 
-    pub carries-finish : {o′ memory₂ : Bytes} → b .number ≡ 0 → Finishes m text to c (b .ending) (b .line) (b .state) o memory′ r o′ memory₂ → Carries m text at to c s o memory r o′ memory₂
+    pub carries-finish : {nums′ : List ℕ} {bytes′ o′ memory₂ : Bytes} → b .number ≡ 0 → Finishes m text to (laid c nums bytes) (b .ending) line (b .len) (b .state) o memory′ r nums′ bytes′ o′ memory₂
+        → Carries m text at to (laid c nums bytes) s o memory line r nums′ bytes′ o′ memory₂
     carries-finish z f = record { comes = comes-from (g .keeps) (comes-as (builds-finish g z (length o) o) (f .comes)) }

@@ -1,35 +1,56 @@
 -- A whole code line, as the expansion carries it out, and its end.
 use mathlib.Core.Path.{_≡_}
-use mathlib.Core.Bool.{true}
+use mathlib.Core.Bool.{true, false}
+use mathlib.Core.Option.{none}
+use mathlib.Core.List.{List, _∷_}
 use Prim.Native.Nat.{ℕ, _≤_, _<_}
-use lib.ListN.{length}
+use lib.ListN.{length, take}
+use Rattle.model.specs.Limits.{lineMost, nestingMost}
 use Rattle.model.specs.declared.Marks.{Marks}
 use Rattle.model.specs.declared.Effect.the-variants.{Opens}
 use Rattle.model.specs.Text.{Bytes, part}
 use Rattle.model.specs.Code.{parse, effectOf}
-use Rattle.model.specs.Machine.{finish, carryOut}
+use Rattle.model.specs.Load.{Loaded}
+use Rattle.model.specs.Machine.{Frame, finish, carryOut, running}
 use Rattle.code.specs.declared.Ending.{Ending}
 use Rattle.code.specs.Tokens.{endingOf, Ranged}
 use Rattle.state.specs.declared.State.{State}
-use Rattle.state.specs.declared.Line.{Line}
-use Rattle.state.specs.State.{bytesOf, sharedOf}
-use Rattle.call.specs.declared.Call.{Call}
-use Rattle.call.specs.Call.{frameOf}
-use Rattle.finish.specs.declared.Carried.{Carried}
-use Rattle.finish.specs.Carried.{Comes}
+use Rattle.state.specs.State.{sharedOf, stateOf}
+use Rattle.call.specs.declared.Head.{Head}
+use Rattle.call.specs.Call.{Laid, laid, frameOf}
+use Rattle.answer.specs.declared.Answer.{Answer}
+use Rattle.answer.specs.Answers.{isLeft, offeredLength, nextOf, comesTo}
+use Rattle.answer.specs.Kept.{Open, Comes, Follows}
 
 -- what was read of a code line's end, and the line built: an iteration is opened only where it may be
-pub record Ready (text : Bytes) (to : ℕ) (c : Call) (k : Ending) (line : Line) : Type 0 where
+pub record ReadyToFinish (text : Bytes) (to : ℕ) (c : Head) (k : Ending) (line : Bytes) (n : ℕ) : Type 0 where
   pub from : ℕ
   pub ranged : Ranged from to k
   pub within : to ≤ length text
-  pub depth : effectOf (endingOf text to k) ≡ Opens → c .depth < 4
-  pub short : line .len ≤ 200
+  pub depth : effectOf (endingOf text to k) ≡ Opens → c .depth < nestingMost
+  pub short : n ≤ lineMost
+  pub long : length line ≡ lineMost
 
--- r is what is done at that end
-pub record Finishes (m : Marks) (text : Bytes) (to : ℕ) (c : Call) (k : Ending) (line : Line) (s : State) (o memory : Bytes) (r : Carried) (o′ memory′ : Bytes) : Type 0 where
-  pub comes : Comes m text (finish (length o) m (endingOf text to k) (bytesOf line) (frameOf m text c) (sharedOf s o memory)) s o r o′ memory′
+-- In the records below, c is the call before, s o memory are the state, output and memory before, and r nums bytes o′ memory′ the
+-- answer, the call's numbers and bytes, output and memory after.
 
--- r is what the code line from `at` up to `to` comes to in the call c
-pub record Carries (m : Marks) (text : Bytes) (at to : ℕ) (c : Call) (s : State) (o memory : Bytes) (r : Carried) (o′ memory′ : Bytes) : Type 0 where
-  pub comes : Comes m text (carryOut (length o) m (parse m true (part text at to)) (frameOf m text c) (sharedOf s o memory)) s o r o′ memory′
+-- r is what is done at the end k of the code line that ends before place `to`, with the first n bytes of `line` built
+pub record Finishes (m : Marks) (text : Bytes) (to : ℕ) (c : Laid) (k : Ending) (line : Bytes) (n : ℕ)
+    (s : State) (o memory : Bytes) (r : Answer) (nums : List ℕ) (bytes o′ memory′ : Bytes) : Type 0 where
+  pub comes : Comes m text (finish (length o) m (endingOf text to k) (take n line) (frameOf m text c) (sharedOf s o memory)) s o line r nums bytes o′ memory′
+
+-- r is what the code line text[at..to] comes to in the call c, with `line` built
+pub record Carries (m : Marks) (text : Bytes) (at to : ℕ) (c : Laid)
+    (s : State) (o memory line : Bytes) (r : Answer) (nums : List ℕ) (bytes o′ memory′ : Bytes) : Type 0 where
+  pub comes : Comes m text (carryOut (length o) m (parse m true (part text at to)) (frameOf m text c) (sharedOf s o memory)) s o line r nums bytes o′ memory′
+
+-- r is what the expansion comes to from the next code line of the call c on, whoever its callers are, with `built` built
+pub record Steps (m : Marks) (text : Bytes) (c : Laid)
+    (s : State) (o memory built : Bytes) (r : Answer) (nums : List ℕ) (bytes o′ memory′ : Bytes) : Type 0 where
+  pub follows : Follows s o (r .state) o′ memory′
+  pub less : isLeft (r .turn) ≡ false → r .state .fuel < s .fuel
+  pub stays : isLeft (r .turn) ≡ false → Open m text (laid (r .call) nums bytes)
+  pub short : offeredLength (r .turn) ≤ lineMost
+  pub same : (t : Loaded) → t .marks ≡ m → (fs : List Frame)
+      → comesTo (s .fuel) (length o) t (running (stateOf text none (frameOf m text c ∷ fs) s o memory))
+      ≡ comesTo (r .state .fuel) (length o) t (nextOf m text fs r nums bytes built o′ memory′)

@@ -1,23 +1,27 @@
 // A code line of a call is carried out, but for the offering of what it builds (document 01, "A call's code").
+use answer::Answer;
+use answer::end_with;
+use answer::go_back;
+use answer::go_on;
+use answer::offer_built;
 use build::build_line;
-use call::Call;
+use call::Head;
+use call::move_to;
 use code::Ending;
-use finish::Carried;
-use finish::Turn;
 use finish::assign;
 use finish::begin_passes;
-use finish::come_to;
-use finish::lay_out;
 use finish::pass_again;
 use finish::repeat;
 use finish::save;
+use finish::write_layout_line;
 use finish::write_to;
 use model::Marks;
+use scan::read_code;
 use skip::skip_by;
 use skip::skip_text;
 use skip::skip_value;
-use state::Line;
 use state::State;
+use state::count_event;
 ghost use mathlib.Core.Path.{_≡_};
 ghost use Prim.Native.Nat.{_≤_, _<_};
 ghost use lib.ListN.{length};
@@ -25,70 +29,146 @@ ghost use Rattle.model.specs.declared.Effect.the-variants.{Opens};
 ghost use Rattle.model.specs.Text.{part};
 ghost use Rattle.model.specs.Code.{effect};
 ghost use Rattle.state.specs.State.{Sound};
-ghost use Rattle.call.specs.Call.{Placed};
-ghost use Rattle.carry.specs.Carries.{Ready, Finishes, Carries};
+ghost use Rattle.call.specs.Call.{laid, Placed};
+ghost use Rattle.answer.specs.Kept.{Open};
+ghost use Rattle.carry.specs.Carries.{ReadyToFinish, Finishes, Carries, Steps};
+ghost use Rattle.model.specs.Limits.{lineMost, nestingMost};
 
 // What is done at the end of the code line that ends before place `to`. The call's next code line is the one after it.
 fn finish_code(
     m: Marks,
     text: &[u8],
     to: usize,
-    call: Call,
+    call: Head,
+    nums: &mut [usize],
+    params: &mut [u8],
     ending: Ending,
-    line: Line,
+    line: &[u8],
+    n: usize,
     output: &mut [u8],
     memory: &mut [u8],
     s: State,
-) -> Carried
+) -> Answer
     requires { ⌜ Sound s (now output) (now memory) ⌝ }
-    requires { ⌜ Placed (now text) call × Ready (now text) to call ending line ⌝ }
-    ensures { λ r. ⌜ Finishes m (now (text .entry)) to call ending line s (now (output .entry)) (now (memory .entry)) r (now (output .exit)) (now (memory .exit)) ⌝ }
+    requires { ⌜ Placed (now text) (laid call (now nums) (now params)) × ReadyToFinish (now text) to call ending (now line) n ⌝ }
+    ensures { λ r. ⌜ Finishes m (now (text .entry)) to (laid call (now (nums .entry)) (now (params .entry))) ending
+        (now (line .entry)) n s (now (output .entry)) (now (memory .entry)) r
+        (now (nums .exit)) (now (params .exit)) (now (output .exit)) (now (memory .exit)) ⌝ }
 {
     match ending {
-        Ending::Offer => Carried {
-            turn: Turn::Offers,
+        Ending::Offer => offer_built(n, call, s),
+        Ending::Assign(d) => assign(call, nums, params, d, line, n, s),
+        Ending::Iterate(d, list) => begin_passes(
+            m,
+            text,
             call,
+            nums,
+            params,
+            d,
+            list,
+            to,
             line,
-            state: s,
-        },
-        Ending::Assign(d) => assign(call, d, line, s),
-        Ending::Iterate(d, list) => begin_passes(m, text, call, d, list, to, line, s),
-        Ending::Stop => come_to(Turn::Halts(0), call, s),
-        Ending::Write(ch) => write_to(ch, call, line, output, s),
-        Ending::Layout(ch) => lay_out(m, text, ch, call, output, s),
-        Ending::Save => save(call, memory, s),
-        Ending::Skip => skip_by(m, call, 1, memory, s),
-        Ending::SkipText(equal) => skip_text(m, equal, call, memory, s),
-        Ending::SkipValue(how) => skip_value(m, how, call, memory, s),
-        Ending::Repeat => repeat(m, text, call, line, memory, s),
-        Ending::Again => pass_again(m, text, call, s),
-        Ending::Leave => come_to(Turn::Leaves, call, s),
-        Ending::Malformed => come_to(Turn::Continues, call, s),
+            n,
+            s,
+        ),
+        Ending::Stop => end_with(0, s),
+        Ending::Write(ch) => write_to(ch, call, line, n, output, s),
+        Ending::Layout(ch) => write_layout_line(m, text, ch, call, nums, params, output, s),
+        Ending::Save => save(call, nums, params, memory, s),
+        Ending::Skip => skip_by(m, text, call, nums, params, 1, memory, s),
+        Ending::SkipText(equal) => skip_text(m, text, equal, call, nums, params, memory, s),
+        Ending::SkipValue(how) => skip_value(m, text, how, call, nums, params, memory, s),
+        Ending::Repeat => repeat(m, text, call, nums, line, n, memory, s),
+        Ending::Again => pass_again(m, text, call, nums, params, s),
+        Ending::Leave => go_back(0, s),
+        Ending::Malformed => go_on(call, s),
     }
 }
 
-// The code line from `at` up to `to`. The call's next code line is the one after it. An iteration is opened only where it
-// may be.
-pub fn carry(
+// The code line from `at` up to `to`, which builds its line to the front of 200 bytes. The call's next code line is the one after
+// it. An iteration is opened only where it may be.
+fn carry(
     m: Marks,
     text: &[u8],
     at: usize,
     to: usize,
-    call: Call,
+    call: Head,
+    nums: &mut [usize],
+    params: &mut [u8],
+    line: &mut [u8],
     output: &mut [u8],
     memory: &mut [u8],
     s: State,
-) -> Carried
-    requires { ⌜ (at ≤ to) × (to ≤ length (now text)) × Sound s (now output) (now memory) × Placed (now text) call ⌝ }
-    requires { ⌜ (effect m (part (now text) at to) ≡ Opens → call .depth < 4) ⌝ }
-    ensures { λ r. ⌜ Carries m (now (text .entry)) at to call s (now (output .entry)) (now (memory .entry)) r (now (output .exit)) (now (memory .exit)) ⌝ }
+) -> Answer
+    requires { ⌜ (at ≤ to) × (to ≤ length (now text)) × (length (now line) ≡ lineMost) ⌝ }
+    requires { ⌜ Sound s (now output) (now memory) × Placed (now text) (laid call (now nums) (now params)) ⌝ }
+    requires { ⌜ (effect m (part (now text) at to) ≡ Opens → call .depth < nestingMost) ⌝ }
+    ensures { λ r. ⌜ Carries m (now (text .entry)) at to (laid call (now (nums .entry)) (now (params .entry))) s
+        (now (output .entry)) (now (memory .entry)) (now (line .exit)) r
+        (now (nums .exit)) (now (params .exit)) (now (output .exit)) (now (memory .exit)) ⌝ }
 {
-    let b = build_line(m, text, at, to, call, memory, s);
+    let b = build_line(m, text, at, to, call, nums, params, line, memory, s);
     let state = b.state;
     if b.number != 0 {
-        return come_to(Turn::Halts(b.number), call, state);
+        return end_with(b.number, state);
     }
     let ending = b.ending;
-    let line = b.line;
-    finish_code(m, text, to, call, ending, line, output, memory, state)
+    let n = b.len;
+    finish_code(
+        m,
+        text,
+        to,
+        call,
+        nums,
+        params,
+        ending,
+        line,
+        n,
+        output,
+        memory,
+        state,
+    )
+}
+
+// The call's next code line: an event is counted, the call moves past the line, and it is carried out. With no code line left
+// the call is left; with no fuel left the run ends.
+pub fn step(
+    m: Marks,
+    text: &[u8],
+    call: Head,
+    nums: &mut [usize],
+    params: &mut [u8],
+    built: &mut [u8],
+    output: &mut [u8],
+    memory: &mut [u8],
+    s: State,
+) -> Answer
+    requires { ⌜ Sound s (now output) (now memory) × Open m (now text) (laid call (now nums) (now params)) × (length (now built) ≡ lineMost) ⌝ }
+    ensures { λ r. ⌜ Steps m (now (text .entry)) (laid call (now (nums .entry)) (now (params .entry))) s
+        (now (output .entry)) (now (memory .entry)) (now (built .exit)) r
+        (now (nums .exit)) (now (params .exit)) (now (output .exit)) (now (memory .exit)) ⌝ }
+{
+    let at = call.next;
+    let line = read_code(text, m, at);
+    if !line.there {
+        return go_back(0, s);
+    }
+    if s.fuel == 0 {
+        return end_with(20, s);
+    }
+    let moved = move_to(call, line.next);
+    let counted = count_event(s);
+    carry(
+        m,
+        text,
+        at,
+        line.end,
+        moved,
+        nums,
+        params,
+        built,
+        output,
+        memory,
+        counted,
+    )
 }

@@ -1,6 +1,7 @@
 -- Laws of code lines: what the model says of a line's first bytes, by their tests.
-use mathlib.Core.Path.{_≡_, refl, ap, _∙_}
+use mathlib.Core.Path.{_≡_, refl, sym, ap, _∙_}
 use mathlib.Core.Bool.{Bool, true, false, not, _&&_, _||_, cond}
+use mathlib.Core.Option.{none, some}
 use mathlib.Core.List.{[], _∷_}
 use Prim.Native.Nat.{ℕ, _+_, _-_, _≤_, _<_}
 use borrow.Author.Tests.{le-leb, lt-leb, eq-eqb, ne-eqb}
@@ -10,11 +11,16 @@ use Rattle.model.specs.Text.{Bytes, part, isDigit}
 use Rattle.model.specs.Code as Code
 use Rattle.model.specs.declared.Marks.{Marks}
 use Rattle.model.specs.declared.Comparison.the-variants.{Equal, Unequal, Less, Greater}
+use Rattle.model.specs.declared.Conversion.{Conversion}
+use Rattle.model.specs.declared.Conversion.the-variants.{Itself, StoredText, Symbol, LatestDelimiter, ExpressionValue, Length, ByteValue}
 use Rattle.model.proofs.Text.{part-empty, part-first}
+use Rattle.model.proofs.Theorems.{names-conversion}
+use Rattle.code.specs.declared.Named.{Named}
+use Rattle.code.specs.declared.Named.the-variants.{Is, Nothing}
 use Rattle.code.specs.declared.Ending.{Ending}
 use Rattle.code.specs.declared.Token.{Token}
 use Rattle.code.specs.declared.Token.the-variants.{Ends}
-use Rattle.code.specs.Tokens.{endingOf, Ranged, Says, Forms}
+use Rattle.code.specs.Tokens.{endingOf, namedOf, Ranged, NamesConversion, Says, Forms}
 
 -- what `search` is handed where a function goes by the tests of its definition
 pub ruleset chain = (le-leb, lt-leb, eq-eqb, ne-eqb)
@@ -85,11 +91,9 @@ unfolding Code.function
 function-by m first b s = choice (eqb b 49) refl (choice (eqb b 55) refl (choice first refl refl))
 
 pub conversion-by : (d b : ℕ) (s : Bytes)
-    → Code.conversion d b s
-    ≡ cond (eqb b 54) (Code.ends (Code.assign d)) (cond (eqb b 55) (Code.ends (Code.iterate d s))
-    (cond (leb 48 b && leb b 56) (Code.part (Code.convert d (b - 48))) (Code.ends Code.malformed)))
+    → Code.conversion d b s ≡ cond (eqb b 54) (Code.ends (Code.assign d)) (cond (eqb b 55) (Code.ends (Code.iterate d s)) (Code.converting d (Code.conversionOf b)))
 unfolding Code.conversion
-conversion-by d b s = choice (eqb b 54) refl (choice (eqb b 55) refl (choice (leb 48 b && leb b 56) refl refl))
+conversion-by d b s = choice (eqb b 54) refl (choice (eqb b 55) refl refl)
 
 pub form-by : (m : Marks) (first : Bool) (a b : ℕ) (s : Bytes)
     → Code.form m first a b s
@@ -98,3 +102,29 @@ pub form-by : (m : Marks) (first : Bool) (a b : ℕ) (s : Bytes)
     (cond (leb 48 a && leb a 57) (Code.conversion (a - 48) b s) (Code.ends Code.malformed)))
 unfolding Code.form isDigit
 form-by m first a b s = choice (eqb a 70) refl (choice (eqb a 48) (choice (leb 48 b && leb b 57) refl refl) (choice (leb 48 a && leb a 57) refl refl))
+
+-- ---- the conversion that a byte names
+
+-- a conversion's digit
+pub names-digit : (v : Conversion) {b : ℕ} → b ≡ 48 + Code.digitOf v → NamesConversion b (Is v)
+names-digit v {b} e = record { is = sym (names-conversion b v .1 e) }
+
+-- the tests that name one
+pub named-by : (b : ℕ)
+    → Code.conversionOf b
+    ≡ cond (eqb b 48) (some Itself) (cond (eqb b 49) (some StoredText) (cond (eqb b 50) (some Symbol) (cond (eqb b 51) (some LatestDelimiter)
+    (cond (eqb b 52) (some ExpressionValue) (cond (eqb b 53) (some Length) (cond (eqb b 56) (some ByteValue) none))))))
+unfolding Code.conversionOf Code.firstNamed Code.conversions Code.digitOf
+named-by b =
+    choice (eqb b 48) refl (choice (eqb b 49) refl (choice (eqb b 50) refl (choice (eqb b 51) refl
+    (choice (eqb b 52) refl (choice (eqb b 53) refl (choice (eqb b 56) refl refl))))))
+
+-- what is read for it, where it is neither 6 nor 7
+module _ {b : ℕ} {n : Named} (d : ℕ) (s : Bytes) (e : NamesConversion b n) (six : b ≡ 54 → ⊥) (seven : b ≡ 55 → ⊥) where
+  pub conversion-is : {v : Conversion} → n ≡ Is v → Code.conversion d b s ≡ Code.part (Code.convert d v)
+  unfolding Code.converting
+  conversion-is q = conversion-by d b s ∙ search chain ∙ ap (Code.converting d) (sym (e .is) ∙ ap namedOf q)
+
+  pub conversion-none : n ≡ Nothing → Code.conversion d b s ≡ Code.ends Code.malformed
+  unfolding Code.converting
+  conversion-none q = conversion-by d b s ∙ search chain ∙ ap (Code.converting d) (sym (e .is) ∙ ap namedOf q)

@@ -19,7 +19,7 @@ use Rattle.code.specs.declared.Ending.{Ending}
 use Rattle.code.specs.declared.Ending.the-variants.{Offer, Assign, Iterate, Stop, Write, Layout, Save, Skip, SkipText, SkipValue, Repeat, Again, Leave, Malformed}
 use Rattle.code.specs.declared.Token.{Token}
 use Rattle.code.specs.declared.Token.the-variants.{Ends, Has}
-use Rattle.code.specs.Tokens.{endingOf, partOf, tokenCode, Ranged, RangedPart, RangedToken, Forms, Reads, Finishes, Affects}
+use Rattle.code.specs.Tokens.{endingOf, partOf, tokenCode, Ranged, RangedPart, RangedToken, Forms, ReadsToken, ReadsEnding, Affects}
 
 -- ---- one token
 
@@ -70,18 +70,18 @@ three text at to h k =
     part-first text at to (omega arith) k ∙ ap (λ s. getD text at 0 ∷ s) (e ∙ ap (λ s. getD text (at + 1) 0 ∷ s) f)
 
 module _ {m : Marks} {text : Bytes} {at to : ℕ} {first : Bool} where
-  pub token-end : to ≤ at → Reads m text at to first (Ends Offer)
+  pub token-end : to ≤ at → ReadsToken m text at to first (Ends Offer)
   unfolding Code.parse
   token-end h = record { is = ap (λ s. Code.parse m first s) (part-empty text at to h); ranged = tt }
 
-  pub token-byte : at < to → to ≤ length text → (getD text at 0 ≡ m .escape → ⊥) → Reads m text at to first (Has (Byte (getD text at 0)) (at + 1))
+  pub token-byte : at < to → to ≤ length text → (getD text at 0 ≡ m .escape → ⊥) → ReadsToken m text at to first (Has (Byte (getD text at 0)) (at + 1))
   token-byte h k n =
       record {
         is = ap (λ s. Code.parse m first s) (part-first text at to h k) ∙ parse-byte m first _ _ (ne-eqb _ _ n);
         ranged = (tt, (omega arith, omega arith));
       }
 
-  pub token-short : at < to → to ≤ length text → getD text at 0 ≡ m .escape → to - at < 3 → Reads m text at to first (Ends Malformed)
+  pub token-short : at < to → to ≤ length text → getD text at 0 ≡ m .escape → to - at < 3 → ReadsToken m text at to first (Ends Malformed)
   token-short h k e l =
       record {
         is = ap (λ s. Code.parse m first s) (part-first text at to h k) ∙ parse-short m first _ _ (eq-eqb _ _ e) (omega (arith, part-most text (at + 1) to));
@@ -89,7 +89,7 @@ module _ {m : Marks} {text : Bytes} {at to : ℕ} {first : Bool} where
       }
 
   pub token-form : {r : Token} → 3 ≤ to - at → to ≤ length text → getD text at 0 ≡ m .escape
-      → Forms text (at + 3) to (Code.form m first (getD text (at + 1) 0) (getD text (at + 2) 0) (part text (at + 3) to)) r → Reads m text at to first r
+      → Forms text (at + 3) to (Code.form m first (getD text (at + 1) 0) (getD text (at + 2) 0) (part text (at + 3) to)) r → ReadsToken m text at to first r
   token-form {r = Ends k} h l e f =
       record {
         is = ap (λ s. Code.parse m first s) (three text at to h l) ∙ parse-form m first _ _ _ _ (eq-eqb _ _ e) ∙ ap (λ g. formed m first g (part text (at + 3) to)) (f .is);
@@ -105,7 +105,7 @@ module _ {m : Marks} {text : Bytes} {at to : ℕ} {first : Bool} where
 
 -- ---- what callers take from a token
 
-module _ {m : Marks} {text : Bytes} {at to : ℕ} {first : Bool} {r : Token} (s : Reads m text at to first r) where
+module _ {m : Marks} {text : Bytes} {at to : ℕ} {first : Bool} {r : Token} (s : ReadsToken m text at to first r) where
   has-ranged : {p : Part} {e : ℕ} → r ≡ Has p e → RangedPart p × ((at < e) × (e ≤ to))
   has-ranged q = subst (λ (x : Token). RangedToken at to x) q (s .ranged)
 
@@ -143,7 +143,7 @@ pub record Ahead (m : Marks) (text : Bytes) (at to i : ℕ) (first : Bool) : Typ
 pub ahead-starts : {m : Marks} {text : Bytes} {at to : ℕ} → at ≤ to → Ahead m text at to at true
 ahead-starts h = record { is = refl; from = omega arith; upto = h }
 
-module _ {m : Marks} {text : Bytes} {at to i : ℕ} {first : Bool} {r : Token} (a : Ahead m text at to i first) (s : Reads m text i to first r) where
+module _ {m : Marks} {text : Bytes} {at to i : ℕ} {first : Bool} {r : Token} (a : Ahead m text at to i first) (s : ReadsToken m text i to first r) where
   pub ahead-more : {p : Part} {e : ℕ} → r ≡ Has p e → Ahead m text at to e false
   unfolding Code.onto
   ahead-more q =
@@ -151,12 +151,12 @@ module _ {m : Marks} {text : Bytes} {at to i : ℕ} {first : Bool} {r : Token} (
       let k = has-within s q in
       record { is = a .is ∙ ap (λ c. c .ending) (says-has s q); from = omega arith; upto = k }
 
-  pub ahead-ends : {k : Ending} → r ≡ Ends k → Finishes m text at to k
+  pub ahead-ends : {k : Ending} → r ≡ Ends k → ReadsEnding m text at to k
   unfolding Code.only
   ahead-ends {k} q = record { is = a .is ∙ ap (λ c. c .ending) (says-ends s q); ranged = ranged-from to k (a .from) (ends-ranged s q) }
 
 -- its effect is that of its ending
-pub effect-as : {m : Marks} {text : Bytes} {at to : ℕ} {k : Ending} {r : Effect} → Finishes m text at to k
+pub effect-as : {m : Marks} {text : Bytes} {at to : ℕ} {k : Ending} {r : Effect} → ReadsEnding m text at to k
     → ((s : Bytes) (i : ℕ) → r ≡ Code.effectOf (endingOf s i k)) → Affects m text at to r
 unfolding Code.effect
 effect-as {text = text} {to = to} s e = record { is = e text to ∙ ap Code.effectOf (sym (s .is)) }

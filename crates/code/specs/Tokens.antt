@@ -2,11 +2,15 @@
 use mathlib.Core.Path.{_≡_}
 use mathlib.Core.Bool.{Bool, true, false}
 use mathlib.Core.Logic.{_⊎_}
+use mathlib.Core.Option.{Option, none, some}
 use Prim.Native.Nat.{ℕ, _≤_, _<_}
 use Rattle.model.specs.Text.{Bytes, part}
 use Rattle.model.specs.Code as Code
 use Rattle.model.specs.declared.Marks.{Marks}
 use Rattle.model.specs.declared.Effect.{Effect}
+use Rattle.model.specs.declared.Conversion.{Conversion}
+use Rattle.code.specs.declared.Named.{Named}
+use Rattle.code.specs.declared.Named.the-variants.{Is, Nothing}
 use Rattle.code.specs.declared.Part.{Part}
 use Rattle.code.specs.declared.Part.the-variants.{Byte, Serial, Convert}
 use Rattle.code.specs.declared.Ending.{Ending}
@@ -34,7 +38,12 @@ endingOf text to Malformed = Code.malformed
 abbrev pub partOf : Part → Code.Part
 partOf (Byte b) = Code.byte b
 partOf (Serial k) = Code.serial k
-partOf (Convert d k) = Code.convert d k
+partOf (Convert d c) = Code.convert d c
+
+-- what a byte names
+abbrev pub namedOf : Named → Option Conversion
+namedOf (Is c) = some c
+namedOf Nothing = none
 
 -- what stands after an escape
 abbrev pub formOf : Bytes → ℕ → Token → Code.Form
@@ -46,15 +55,10 @@ abbrev pub tokenCode : Marks → Bytes → ℕ → Token → Code.Code
 tokenCode m text to (Ends k) = Code.only (endingOf text to k)
 tokenCode m text to (Has p e) = Code.onto (partOf p) (Code.parse m false (part text e to))
 
--- the numbers of a parameter, of a conversion and of a channel
+-- the numbers of a parameter and of a channel
 pub record Parameter (d : ℕ) : Type 0 where
   pub least : 1 ≤ d
   pub most : d ≤ 9
-
-pub record Conversion (k : ℕ) : Type 0 where
-  pub most : k ≤ 8
-  pub not-assign : k ≡ 6 → ⊥
-  pub not-iterate : k ≡ 7 → ⊥
 
 pub record Channel (ch : ℕ) : Type 0 where
   pub either : (ch ≡ 0) ⊎ (ch ≡ 3)
@@ -79,7 +83,7 @@ Ranged at to Malformed = Unit {0}
 abbrev pub RangedPart : Part → Type 0
 RangedPart (Byte b) = Unit {0}
 RangedPart (Serial k) = k ≤ 9
-RangedPart (Convert d k) = Parameter d × Conversion k
+RangedPart (Convert d c) = Parameter d
 
 -- a form's rest starts at `at`
 abbrev pub RangedForm : ℕ → ℕ → Token → Type 0
@@ -90,6 +94,10 @@ RangedForm at to (Has p e) = RangedPart p × (e ≡ at)
 abbrev pub RangedToken : ℕ → ℕ → Token → Type 0
 RangedToken at to (Ends k) = Ranged at to k
 RangedToken at to (Has p e) = RangedPart p × ((at < e) × (e ≤ to))
+
+-- r is the conversion that the byte b names
+pub record NamesConversion (b : ℕ) (r : Named) : Type 0 where
+  pub is : namedOf r ≡ Code.conversionOf b
 
 -- r is the ending k of a line, read from `at` on
 pub record Says (text : Bytes) (at to : ℕ) (k : Code.Ending) (r : Ending) : Type 0 where
@@ -102,12 +110,12 @@ pub record Forms (text : Bytes) (at to : ℕ) (f : Code.Form) (r : Token) : Type
   pub ranged : RangedForm at to r
 
 -- r is what a code line says first between `at` and `to`
-pub record Reads (m : Marks) (text : Bytes) (at to : ℕ) (first : Bool) (r : Token) : Type 0 where
+pub record ReadsToken (m : Marks) (text : Bytes) (at to : ℕ) (first : Bool) (r : Token) : Type 0 where
   pub is : Code.parse m first (part text at to) ≡ tokenCode m text to r
   pub ranged : RangedToken at to r
 
 -- r is how the code line from `at` up to `to` ends
-pub record Finishes (m : Marks) (text : Bytes) (at to : ℕ) (r : Ending) : Type 0 where
+pub record ReadsEnding (m : Marks) (text : Bytes) (at to : ℕ) (r : Ending) : Type 0 where
   pub is : Code.parse m true (part text at to) .ending ≡ endingOf text to r
   pub ranged : Ranged at to r
 

@@ -5,16 +5,17 @@ ghost use Prim.Native.Nat.{ℕ, _≤_};
 ghost use lib.ListN.{length};
 ghost use Rattle.model.specs.Text.{part};
 ghost use Rattle.model.specs.Code.{effectOf, writing, channel, textTest, valueTest, lineFunction, function, conversion, form};
-ghost use Rattle.code.specs.Tokens.{endingOf, Parameter, Channel, Says, Forms, Reads, Finishes, Affects};
+ghost use Rattle.code.specs.Tokens.{endingOf, Parameter, Channel, NamesConversion, Says, Forms, ReadsToken, ReadsEnding, Affects};
 use model::Comparison;
+use model::Conversion;
 use model::Effect;
 use model::Marks;
 
-// What puts bytes into the built line: a byte, e0k, or ed0 to ed5 and ed8.
+// What puts bytes into the built line: a byte, e0k, or a conversion of a parameter.
 pub enum Part {
     Byte(u8),
     Serial(usize),
-    Convert(usize, usize),
+    Convert(usize, Conversion),
 }
 
 // What is done at the end of a code line. Channels are 0 and 3; the delimiters of an iteration start at its second number.
@@ -33,6 +34,12 @@ pub enum Ending {
     Again,
     Leave,
     Malformed,
+}
+
+// What a byte names after an escape and a parameter's digit: a conversion that puts bytes into the built line, or none.
+enum Named {
+    Is(Conversion),
+    Nothing,
 }
 
 // What stands at a place of a code line: its end, or a part and where the rest starts.
@@ -61,16 +68,16 @@ fn read_channel(first: bool, text: &[u8], at: usize, to: usize) -> Ending
         return write_on(first, 3);
     }
     let b = text[at];
-    if b == 48 {
+    if b == b'0' {
         return write_on(first, 0);
     }
-    if b == 51 {
+    if b == b'3' {
         return write_on(first, 3);
     }
-    if b < 48 {
+    if b < b'0' {
         return write_on(first, 3);
     }
-    if 57 < b {
+    if b'9' < b {
         return write_on(first, 3);
     }
     Ending::Malformed
@@ -85,10 +92,10 @@ fn read_text_test(text: &[u8], at: usize, to: usize) -> Ending
         return Ending::Malformed;
     }
     let b = text[at];
-    if b == 48 {
+    if b == b'0' {
         return Ending::SkipText(true);
     }
-    if b == 49 {
+    if b == b'1' {
         return Ending::SkipText(false);
     }
     Ending::Malformed
@@ -103,10 +110,10 @@ fn read_value_test(m: Marks, text: &[u8], at: usize, to: usize) -> Ending
         return Ending::Malformed;
     }
     let b = text[at];
-    if b == 48 {
+    if b == b'0' {
         return Ending::SkipValue(Comparison::Equal);
     }
-    if b == 49 {
+    if b == b'1' {
         return Ending::SkipValue(Comparison::Unequal);
     }
     if b == m.minus {
@@ -123,25 +130,25 @@ fn read_line_function(m: Marks, b: u8, text: &[u8], at: usize, to: usize) -> End
     requires { ⌜ (at ≤ to) × (to ≤ length (now text)) ⌝ }
     ensures { λ r. ⌜ Says (now (text .entry)) at to (lineFunction m b (part (now (text .entry)) at to)) r ⌝ }
 {
-    if b == 48 {
+    if b == b'0' {
         return Ending::Stop;
     }
-    if b == 51 {
+    if b == b'3' {
         return Ending::Save;
     }
-    if b == 52 {
+    if b == b'4' {
         return Ending::Skip;
     }
-    if b == 53 {
+    if b == b'5' {
         return read_text_test(text, at, to);
     }
-    if b == 54 {
+    if b == b'6' {
         return read_value_test(m, text, at, to);
     }
-    if b == 56 {
+    if b == b'8' {
         return Ending::Again;
     }
-    if b == 57 {
+    if b == b'9' {
         return Ending::Leave;
     }
     Ending::Malformed
@@ -152,10 +159,10 @@ fn read_function(m: Marks, first: bool, b: u8, text: &[u8], at: usize, to: usize
     requires { ⌜ (at ≤ to) × (to ≤ length (now text)) ⌝ }
     ensures { λ r. ⌜ Forms (now (text .entry)) at to (function m first b (part (now (text .entry)) at to)) (Token.Ends r) ⌝ }
 {
-    if b == 49 {
+    if b == b'1' {
         return read_channel(first, text, at, to);
     }
-    if b == 55 {
+    if b == b'7' {
         return Ending::Repeat;
     }
     if first {
@@ -164,24 +171,37 @@ fn read_function(m: Marks, first: bool, b: u8, text: &[u8], at: usize, to: usize
     Ending::Malformed
 }
 
-// The conversion b of parameter d; what follows it starts at `at`.
+// The conversion that the byte b names.
+fn name_conversion(b: u8) -> Named
+    ensures { λ r. ⌜ NamesConversion b r ⌝ }
+{
+    match b {
+        b'0' => Named::Is(Conversion::Itself),
+        b'1' => Named::Is(Conversion::StoredText),
+        b'2' => Named::Is(Conversion::Symbol),
+        b'3' => Named::Is(Conversion::LatestDelimiter),
+        b'4' => Named::Is(Conversion::ExpressionValue),
+        b'5' => Named::Is(Conversion::Length),
+        b'8' => Named::Is(Conversion::ByteValue),
+        _ => Named::Nothing,
+    }
+}
+
+// ed and the byte b; what follows them starts at `at`.
 fn read_conversion(d: usize, b: u8, at: usize) -> Token
     requires { ⌜ Parameter d ⌝ }
     ensures { λ r. ⌜ ((text : List ℕ) (to : ℕ) → at ≤ to → Forms text at to (conversion d b (part text at to)) r) ⌝ }
 {
-    if b == 54 {
+    if b == b'6' {
         return Token::Ends(Ending::Assign(d));
     }
-    if b == 55 {
+    if b == b'7' {
         return Token::Ends(Ending::Iterate(d, at));
     }
-    if b < 48 {
-        return Token::Ends(Ending::Malformed);
+    match name_conversion(b) {
+        Named::Is(c) => Token::Has(Part::Convert(d, c), at),
+        Named::Nothing => Token::Ends(Ending::Malformed),
     }
-    if 56 < b {
-        return Token::Ends(Ending::Malformed);
-    }
-    Token::Has(Part::Convert(d, b as usize - 48), at)
 }
 
 // The two bytes after an escape; what follows them starts at `at`.
@@ -189,31 +209,31 @@ fn read_form(m: Marks, first: bool, a: u8, b: u8, text: &[u8], at: usize, to: us
     requires { ⌜ (at ≤ to) × (to ≤ length (now text)) ⌝ }
     ensures { λ r. ⌜ Forms (now (text .entry)) at to (form m first a b (part (now (text .entry)) at to)) r ⌝ }
 {
-    if a == 70 {
+    if a == b'F' {
         return Token::Ends(read_function(m, first, b, text, at, to));
     }
-    if a == 48 {
-        if b < 48 {
+    if a == b'0' {
+        if b < b'0' {
             return Token::Ends(Ending::Malformed);
         }
-        if 57 < b {
+        if b'9' < b {
             return Token::Ends(Ending::Malformed);
         }
-        return Token::Has(Part::Serial(b as usize - 48), at);
+        return Token::Has(Part::Serial((b - b'0') as usize), at);
     }
-    if a < 48 {
+    if a < b'0' {
         return Token::Ends(Ending::Malformed);
     }
-    if 57 < a {
+    if b'9' < a {
         return Token::Ends(Ending::Malformed);
     }
-    read_conversion(a as usize - 48, b, at)
+    read_conversion((a - b'0') as usize, b, at)
 }
 
 // What stands at `at` of a code line that ends before `to`; `first`: it is the line's start.
 pub fn read_token(m: Marks, text: &[u8], at: usize, to: usize, first: bool) -> Token
     requires { ⌜ (at ≤ to) × (to ≤ length (now text)) ⌝ }
-    ensures { λ r. ⌜ Reads m (now (text .entry)) at to first r ⌝ }
+    ensures { λ r. ⌜ ReadsToken m (now (text .entry)) at to first r ⌝ }
 {
     if to <= at {
         return Token::Ends(Ending::Offer);
@@ -231,7 +251,7 @@ pub fn read_token(m: Marks, text: &[u8], at: usize, to: usize, first: bool) -> T
 // What is done at the end of the code line from `at` up to `to`.
 pub fn read_ending(m: Marks, text: &[u8], at: usize, to: usize) -> Ending
     requires { ⌜ (at ≤ to) × (to ≤ length (now text)) ⌝ }
-    ensures { λ r. ⌜ Finishes m (now (text .entry)) at to r ⌝ }
+    ensures { λ r. ⌜ ReadsEnding m (now (text .entry)) at to r ⌝ }
 {
     let mut i = at;
     let mut first = true;

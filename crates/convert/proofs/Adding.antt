@@ -13,7 +13,7 @@ use Rattle.model.specs.declared.Marks.{Marks}
 use Rattle.model.specs.Text.{Bytes, part}
 use Rattle.model.specs.Store.{decimal}
 use Rattle.model.specs.Value.{written}
-use Rattle.model.specs.Machine.{Shared, Building, built, failed, add, addValue, addByteValue}
+use Rattle.model.specs.Machine.{Shared, Building, built, failed, add, addValue, addLength, addByteValue}
 use Rattle.model.proofs.Choices.{when-false}
 use Rattle.store.specs.Memory.{Kept}
 use Rattle.number.specs.declared.Valued.{Valued}
@@ -27,7 +27,7 @@ use Rattle.call.specs.declared.Appended.{Appended}
 use Rattle.call.specs.Line.{lineStep, Appends}
 use Rattle.convert.specs.declared.Added.{Added}
 use Rattle.convert.specs.Added.{answered, stopped, addedStep, Keeps, Adds}
-use Rattle.convert.specs.Converted.{AddsValue, AddsByteValue}
+use Rattle.convert.specs.Converted.{AddsValue, AddsLength, AddsByteValue}
 use Rattle.convert.proofs.Appending.{appends-as}
 
 -- ---- the two answers
@@ -75,9 +75,13 @@ module _ {m : Marks} {t : Bytes} {line : Bytes} {n : ℕ} {s : State} {memory : 
         (appends-as (ap (written m) (told-in z (subst InRange e (g .fits)))) p) q;
   }
 
--- ---- ed8
+-- ---- ed5 and ed8
 
 module _ {line : Bytes} {n : ℕ} {s : State} {memory : Bytes} {r : Added} (k : Kept memory (s .index)) (h : s .symbols ≤ s .index .count) where
+  pub length-added : {t line′ : Bytes} {a : Appended} → Appends line n (decimal (length t)) line′ a → r ≡ answered a s → AddsLength t line n memory s line′ r
+  unfolding addLength
+  length-added p q = record { adds = adds-answered k h (λ o. refl) p q }
+
   pub byte-value-other : {t : Bytes} → (length t ≡ 1 → ⊥) → r ≡ stopped 16 s → AddsByteValue t line n memory s line r
   unfolding addByteValue
   byte-value-other {t = []} e q = record { adds = adds-stopped k h refl (λ o. refl) q }

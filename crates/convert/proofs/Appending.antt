@@ -17,13 +17,13 @@ use Rattle.model.specs.Machine.{built, failed, add}
 use Rattle.model.proofs.Choices.{when-true}
 use Rattle.model.proofs.Text.{part-most, part-whole}
 use Rattle.buffer.specs.Decimal.{Decimal}
-use Rattle.number.specs.Number.{width, Writes}
+use Rattle.number.specs.Number.{width, WritesValue}
 use Rattle.pass.specs.Pass.{delimiterOf}
 use Rattle.pass.proofs.Pieces.{delimiter-none, delimiter-byte}
 use Rattle.store.specs.declared.Index.{Index}
 use Rattle.store.specs.declared.Seen.{Seen}
 use Rattle.store.specs.Memory.{held}
-use Rattle.store.specs.Seek.{Sees}
+use Rattle.store.specs.Seek.{SeeksName}
 use Rattle.call.specs.declared.Appended.{Appended}
 use Rattle.call.specs.Line.{Brings, lineStep, Appends}
 use Rattle.convert.specs.declared.Span.{Span}
@@ -32,7 +32,7 @@ use Rattle.convert.specs.Converted.{wordOf, Finds}
 -- ---- where a word lies
 
 module _ {stored : Bool} {s memory : Bytes} {x : Index} where
-  pub finds-stored : {r : Seen} → stored ≡ true → Sees memory x s r → Finds stored s memory x (record { at = r .at; len = r .len })
+  pub finds-stored : {r : Seen} → stored ≡ true → SeeksName memory x s r → Finds stored s memory x (record { at = r .at; len = r .len })
   finds-stored {r} e h = subst (λ (b : Bool). Finds b s memory x (record { at = r .at; len = r .len })) (sym e) (record { is = h .text; within = h .within })
 
   pub finds-own : stored ≡ false → Finds stored s memory x (record { at = 0; len = length s })
@@ -51,7 +51,7 @@ module _ {line : Bytes} {n : ℕ} {line′ : Bytes} {a : Appended} where
   appends-number d p = appends-as (d .is) p
 
   -- a signed number is read back from its bits
-  pub appends-signed : {m : Marks} {z : ℤ} {k : ℕ} {out : Bytes} → SFits width z → Writes m (toZ width (ofZ width z)) k out → Appends line n (part out 0 k) line′ a
+  pub appends-signed : {m : Marks} {z : ℤ} {k : ℕ} {out : Bytes} → SFits width z → WritesValue m (toZ width (ofZ width z)) k out → Appends line n (part out 0 k) line′ a
       → Appends line n (written m z) line′ a
   appends-signed {m} f w p = appends-as (w .is ∙ ap (written m) (toZ-ofZ f)) p
 

@@ -1,15 +1,15 @@
 -- Each conversion of a parameter is what the expansion adds. Assumes nothing.
-use mathlib.Core.Path.{_≡_, ap, _∙_}
+use mathlib.Core.Path.{_≡_, sym, ap, _∙_, subst}
 use mathlib.Core.List.{[]}
 use Prim.Native.Nat.{ℕ, _-_, _≤_}
-use borrow.Author.Tests.{ne-eqb}
-use lib.ListN.{length, getD}
+use lib.ListN.{getD}
 use Rattle.model.specs.declared.Marks.{Marks}
+use Rattle.model.specs.declared.Conversion.{Conversion}
+use Rattle.model.specs.declared.Conversion.the-variants.{Itself, StoredText, Symbol, LatestDelimiter, ExpressionValue, Length, ByteValue}
 use Rattle.model.specs.Text.{Bytes, part}
-use Rattle.model.specs.Store.{find, decimal}
+use Rattle.model.specs.Store.{find}
 use Rattle.model.specs.Value.{valueOf}
-use Rattle.model.specs.Machine.{Frame, Shared, Building, param, orNothing, add, addSymbol, addValue, addByteValue, addConverted}
-use Rattle.model.proofs.Choices.{when-false}
+use Rattle.model.specs.Machine.{Frame, Shared, Building, param, orNothing, add, addSymbol, addValue, addLength, addByteValue, addConverted}
 use Rattle.pass.specs.Pass.{delimiterOf}
 use Rattle.store.specs.Memory.{held, Kept}
 use Rattle.state.specs.declared.State.{State}
@@ -18,7 +18,7 @@ use Rattle.call.specs.declared.Appended.{Appended}
 use Rattle.call.specs.Line.{Appends}
 use Rattle.convert.specs.declared.Added.{Added}
 use Rattle.convert.specs.Added.{answered, Adds}
-use Rattle.convert.specs.Converted.{AddsSymbol, AddsValue, AddsByteValue, Converts}
+use Rattle.convert.specs.Converted.{AddsSymbol, AddsValue, AddsLength, AddsByteValue, Converts}
 use Rattle.convert.proofs.Adding.{adds-answered}
 
 -- one step of the expansion for another
@@ -26,53 +26,47 @@ pub adds-as : {step other : Shared → Building} {s : State} {memory line memory
     → Adds step s memory line memory′ r → Adds other s memory line memory′ r
 adds-as e a = record { is = λ o. e o ∙ a .is o; keeps = a .keeps; short = a .short }
 
-module _ {m : Marks} {k : ℕ} {t : Bytes} {e : ℕ} {line : Bytes} {n : ℕ} {memory : Bytes} {s : State} {line′ : Bytes} {r : Added} where
-  -- the text that is appended is what the model adds for i
-  by-text : (i : ℕ) (x : Bytes) → k ≡ i
-      → ((f : Frame) (d : ℕ) → param f d ≡ t → getD (f .delimiters) (d - 1) [] ≡ delimiterOf e → (o : Bytes)
-      → addConverted m f d i (part line 0 n) (sharedOf s o memory) ≡ add (part line 0 n) x (sharedOf s o memory))
-      → Kept memory (s .index) → s .symbols ≤ s .index .count → {a : Appended} → Appends line n x line′ a → r ≡ answered a s → Converts m k t e line n memory s line′ memory r
-  by-text i x q w h c p z = record { adds = λ f d u v. adds-answered h c (λ o. ap (λ (j : ℕ). addConverted m f d j (part line 0 n) (sharedOf s o memory)) q ∙ w f d u v o) p z }
+module _ {m : Marks} {c : Conversion} {t : Bytes} {e : ℕ} {line : Bytes} {n : ℕ} {memory : Bytes} {s : State} {line′ memory′ : Bytes} {r : Added} where
+  -- it is enough to say what the expansion adds for the case at hand
+  converts-case : {v : Conversion} → c ≡ v
+      → ((f : Frame) (d : ℕ) → param f d ≡ t → getD (f .delimiters) (d - 1) [] ≡ delimiterOf e → Adds (λ w. addConverted m f d v (part line 0 n) w) s memory line′ memory′ r)
+      → Converts m c t e line n memory s line′ memory′ r
+  converts-case q a = subst (λ (x : Conversion). Converts m x t e line n memory s line′ memory′ r) (sym q) (record { adds = a })
 
-  module _ (h : Kept memory (s .index)) (c : s .symbols ≤ s .index .count) {a : Appended} where
-    pub converts-own : k ≡ 0 → Appends line n t line′ a → r ≡ answered a s → Converts m k t e line n memory s line′ memory r
+module _ {m : Marks} {c : Conversion} {t : Bytes} {e : ℕ} {line : Bytes} {n : ℕ} {memory : Bytes} {s : State} {line′ : Bytes} {r : Added} where
+  -- a text that is appended as it stands
+  module _ (k : Kept memory (s .index)) (h : s .symbols ≤ s .index .count) {a : Appended} where
+    pub converts-itself : c ≡ Itself → Appends line n t line′ a → r ≡ answered a s → Converts m c t e line n memory s line′ memory r
     unfolding addConverted
-    converts-own q p z = by-text 0 t q (λ f d u v o. ap (λ (x : Bytes). add (part line 0 n) x (sharedOf s o memory)) u) h c p z
+    converts-itself q p z = converts-case q (λ f d u v. adds-answered k h (λ o. ap (λ (x : Bytes). add (part line 0 n) x (sharedOf s o memory)) u) p z)
 
-    pub converts-stored : k ≡ 1 → Appends line n (orNothing (find t (held (s .index .count) memory))) line′ a → r ≡ answered a s → Converts m k t e line n memory s line′ memory r
+    pub converts-stored : c ≡ StoredText → Appends line n (orNothing (find t (held (s .index .count) memory))) line′ a → r ≡ answered a s → Converts m c t e line n memory s line′ memory r
     unfolding addConverted
     converts-stored q p z =
-        by-text 1 (orNothing (find t (held (s .index .count) memory))) q
-        (λ f d u v o. ap (λ (x : Bytes). add (part line 0 n) (orNothing (find x (held (s .index .count) memory))) (sharedOf s o memory)) u) h c p z
+        converts-case q
+        (λ f d u v. adds-answered k h (λ o. ap (λ (x : Bytes). add (part line 0 n) (orNothing (find x (held (s .index .count) memory))) (sharedOf s o memory)) u) p z)
 
-    pub converts-delimiter : k ≡ 3 → Appends line n (delimiterOf e) line′ a → r ≡ answered a s → Converts m k t e line n memory s line′ memory r
+    pub converts-delimiter : c ≡ LatestDelimiter → Appends line n (delimiterOf e) line′ a → r ≡ answered a s → Converts m c t e line n memory s line′ memory r
     unfolding addConverted
-    converts-delimiter q p z = by-text 3 (delimiterOf e) q (λ f d u v o. ap (λ (x : Bytes). add (part line 0 n) x (sharedOf s o memory)) v) h c p z
+    converts-delimiter q p z = converts-case q (λ f d u v. adds-answered k h (λ o. ap (λ (x : Bytes). add (part line 0 n) x (sharedOf s o memory)) v) p z)
 
-    pub converts-length : k ≡ 5 → Appends line n (decimal (length t)) line′ a → r ≡ answered a s → Converts m k t e line n memory s line′ memory r
-    unfolding addConverted
-    converts-length q p z =
-        by-text 5 (decimal (length t)) q (λ f d u v o. ap (λ (x : Bytes). add (part line 0 n) (decimal (length x)) (sharedOf s o memory)) u) h c p z
-
-  pub converts-symbol : {memory′ : Bytes} → k ≡ 2 → AddsSymbol t line n memory s line′ memory′ r
-      → Converts m k t e line n memory s line′ memory′ r
+  -- a conversion with a step of its own
+  pub converts-symbol : {memory′ : Bytes} → c ≡ Symbol → AddsSymbol t line n memory s line′ memory′ r → Converts m c t e line n memory s line′ memory′ r
   unfolding addConverted
-  converts-symbol q a = record {
-    adds = λ f d u v. adds-as (λ o. ap (λ (j : ℕ). addConverted m f d j (part line 0 n) (sharedOf s o memory)) q
-        ∙ ap (λ (x : Bytes). addSymbol (part line 0 n) x (find x (held (s .index .count) memory)) (sharedOf s o memory)) u) (a .adds);
-  }
+  converts-symbol q a =
+      converts-case q
+      (λ f d u v. adds-as (λ o. ap (λ (x : Bytes). addSymbol (part line 0 n) x (find x (held (s .index .count) memory)) (sharedOf s o memory)) u) (a .adds))
 
-  pub converts-value : k ≡ 4 → AddsValue m t line n memory s line′ r → Converts m k t e line n memory s line′ memory r
+  pub converts-value : c ≡ ExpressionValue → AddsValue m t line n memory s line′ r → Converts m c t e line n memory s line′ memory r
   unfolding addConverted
-  converts-value q a = record {
-    adds = λ f d u v. adds-as (λ o. ap (λ (j : ℕ). addConverted m f d j (part line 0 n) (sharedOf s o memory)) q
-        ∙ ap (λ (x : Bytes). addValue m (part line 0 n) (valueOf m (held (s .index .count) memory) x) (sharedOf s o memory)) u) (a .adds);
-  }
+  converts-value q a =
+      converts-case q
+      (λ f d u v. adds-as (λ o. ap (λ (x : Bytes). addValue m (part line 0 n) (valueOf m (held (s .index .count) memory) x) (sharedOf s o memory)) u) (a .adds))
 
-  pub converts-byte : (k ≡ 0 → ⊥) → (k ≡ 1 → ⊥) → (k ≡ 2 → ⊥) → (k ≡ 3 → ⊥) → (k ≡ 4 → ⊥) → (k ≡ 5 → ⊥)
-      → AddsByteValue t line n memory s line′ r → Converts m k t e line n memory s line′ memory r
+  pub converts-length : c ≡ Length → AddsLength t line n memory s line′ r → Converts m c t e line n memory s line′ memory r
   unfolding addConverted
-  converts-byte q₀ q₁ q₂ q₃ q₄ q₅ a = record {
-    adds = λ f d u v. adds-as (λ o. when-false _ _ (ne-eqb k 0 q₀) ∙ when-false _ _ (ne-eqb k 1 q₁) ∙ when-false _ _ (ne-eqb k 2 q₂) ∙ when-false _ _ (ne-eqb k 3 q₃)
-        ∙ when-false _ _ (ne-eqb k 4 q₄) ∙ when-false _ _ (ne-eqb k 5 q₅) ∙ ap (λ (x : Bytes). addByteValue (part line 0 n) x (sharedOf s o memory)) u) (a .adds);
-  }
+  converts-length q a = converts-case q (λ f d u v. adds-as (λ o. ap (λ (x : Bytes). addLength (part line 0 n) x (sharedOf s o memory)) u) (a .adds))
+
+  pub converts-byte : c ≡ ByteValue → AddsByteValue t line n memory s line′ r → Converts m c t e line n memory s line′ memory r
+  unfolding addConverted
+  converts-byte q a = converts-case q (λ f d u v. adds-as (λ o. ap (λ (x : Bytes). addByteValue (part line 0 n) x (sharedOf s o memory)) u) (a .adds))

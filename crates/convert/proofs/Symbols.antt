@@ -15,17 +15,18 @@ use Rattle.store.specs.declared.Seen.{Seen}
 use Rattle.store.specs.declared.Stored.{Stored}
 use Rattle.store.specs.declared.Stored.the-variants.{Now, Full}
 use Rattle.store.specs.Memory.{held, Kept, Holds}
-use Rattle.store.specs.Seek.{Sees}
+use Rattle.store.specs.Seek.{SeeksName}
 use Rattle.store.specs.Put.{Puts}
 use Rattle.store.proofs.Packed.{filled}
 use Rattle.store.proofs.Callers.{kept-holds, seen-some, seen-none}
 use Rattle.state.specs.declared.State.{State}
 use Rattle.state.specs.State.{sharedOf, withSymbol}
 use Rattle.call.specs.declared.Appended.{Appended}
-use Rattle.call.specs.Line.{Appends}
+use Rattle.call.specs.Line.{Brings, Appends}
 use Rattle.convert.specs.declared.Added.{Added}
 use Rattle.convert.specs.Added.{answered, stopped}
 use Rattle.convert.specs.Converted.{Missing, AddsSymbol}
+use Rattle.convert.proofs.Appending.{appends-as}
 use Rattle.convert.proofs.Adding.{line-answered, adds-answered, adds-stopped}
 
 -- the next number, and the store with it
@@ -46,15 +47,15 @@ pub puts-number : {memory : Bytes} {x : Index} {name memory′ : Bytes} {b : Sto
     → Decimal v i digits → Puts memory x name (part digits 0 i) memory′ b → Puts memory x name (decimal v) memory′ b
 puts-number {memory} {x} {name} {memory′} {b} d p = subst (λ (t : Bytes). Puts memory x name t memory′ b) (d .is) p
 
-pub missing : {memory : Bytes} {x : Index} {name : Bytes} {e : Seen} → Kept memory x → Sees memory x name e → e .there ≡ false → Missing memory x name
+pub missing : {memory : Bytes} {x : Index} {name : Bytes} {e : Seen} → Kept memory x → SeeksName memory x name e → e .there ≡ false → Missing memory x name
 missing k g t = record { is = seen-none (kept-holds k) g t }
 
 module _ {name line : Bytes} {n : ℕ} {s : State} {memory : Bytes} {r : Added} (k : Kept memory (s .index)) (h : s .symbols ≤ s .index .count) where
-  pub symbol-there : {e : Seen} {line′ : Bytes} {a : Appended} → Sees memory (s .index) name e → e .there ≡ true → Appends line n (part memory (e .at) (e .at + e .len)) line′ a → r ≡ answered a s
+  pub symbol-there : {e : Seen} {t line′ : Bytes} {a : Appended} → SeeksName memory (s .index) name e → e .there ≡ true → Brings name memory true (e .at) (e .len) t → Appends line n t line′ a → r ≡ answered a s
       → AddsSymbol name line n memory s line′ memory r
   unfolding addSymbol
-  symbol-there g t p q = record {
-    adds = adds-answered k h (λ o. ap (λ (x : Option Bytes). addSymbol (part line 0 n) name x (sharedOf s o memory)) (seen-some (kept-holds k) g t)) p q;
+  symbol-there g t b p q = record {
+    adds = adds-answered k h (λ o. ap (λ (x : Option Bytes). addSymbol (part line 0 n) name x (sharedOf s o memory)) (seen-some (kept-holds k) g t)) (appends-as (b .is) p) q;
   }
 
   module _ {memory′ : Bytes} {b : Stored} (g : Missing memory (s .index) name) (p : Puts memory (s .index) name (decimal (s .symbols + 1)) memory′ b) where

@@ -3,6 +3,7 @@ use mathlib.Core.Path.{_≡_}
 use mathlib.Core.Bool.{true, false, cond}
 use Prim.Native.Nat.{ℕ, _≤_}
 use lib.Dec.{eqb}
+use Rattle.model.specs.Limits.{lineMost}
 use Rattle.model.specs.Text.{Bytes, part}
 use Rattle.model.specs.Machine.{Shared, Building, built, failed}
 use Rattle.store.specs.Memory.{Kept}
@@ -38,4 +39,4 @@ pub record Keeps (s : State) (memory : Bytes) (t : State) : Type 0 where
 pub record Adds (step : Shared → Building) (s : State) (memory line memory′ : Bytes) (r : Added) : Type 0 where
   pub is : (o : Bytes) → step (sharedOf s o memory) ≡ addedStep line r (sharedOf (r .state) o memory′)
   pub keeps : Keeps s memory′ (r .state)
-  pub short : r .len ≤ 200
+  pub short : r .len ≤ lineMost

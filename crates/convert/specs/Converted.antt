@@ -6,10 +6,11 @@ use mathlib.Core.List.{[]}
 use Prim.Native.Nat.{ℕ, _+_, _-_, _≤_}
 use lib.ListN.{length, getD}
 use Rattle.model.specs.declared.Marks.{Marks}
+use Rattle.model.specs.declared.Conversion.{Conversion}
 use Rattle.model.specs.Text.{Bytes, part}
 use Rattle.model.specs.Store.{Store, find}
 use Rattle.model.specs.Value.{valueOf}
-use Rattle.model.specs.Machine.{Frame, param, orNothing, addSymbol, addValue, addByteValue, addConverted}
+use Rattle.model.specs.Machine.{Frame, param, orNothing, addSymbol, addValue, addLength, addByteValue, addConverted}
 use Rattle.pass.specs.Pass.{delimiterOf}
 use Rattle.store.specs.declared.Index.{Index}
 use Rattle.store.specs.Memory.{held}
@@ -31,6 +32,9 @@ pub record Finds (stored : Bool) (s memory : Bytes) (x : Index) (r : Span) : Typ
 pub record Missing (memory : Bytes) (x : Index) (name : Bytes) : Type 0 where
   pub is : find name (held (x .count) memory) ≡ none
 
+-- In what follows the first n bytes of `line` are built; `memory` and the state s are those before the step, `line′` and `memory′` those after it,
+-- and r is the answer.
+
 -- ed2 of a parameter with this name
 pub record AddsSymbol (name line : Bytes) (n : ℕ) (memory : Bytes) (s : State) (line′ memory′ : Bytes) (r : Added) : Type 0 where
   pub adds : Adds (λ w. addSymbol (part line 0 n) name (find name (w .store)) w) s memory line′ memory′ r
@@ -39,10 +43,16 @@ pub record AddsSymbol (name line : Bytes) (n : ℕ) (memory : Bytes) (s : State)
 pub record AddsValue (m : Marks) (text line : Bytes) (n : ℕ) (memory : Bytes) (s : State) (line′ : Bytes) (r : Added) : Type 0 where
   pub adds : Adds (λ w. addValue m (part line 0 n) (valueOf m (w .store) text) w) s memory line′ memory r
 
+-- ed5
+pub record AddsLength (text line : Bytes) (n : ℕ) (memory : Bytes) (s : State) (line′ : Bytes) (r : Added) : Type 0 where
+  pub adds : Adds (λ w. addLength (part line 0 n) text w) s memory line′ memory r
+
 -- ed8
 pub record AddsByteValue (text line : Bytes) (n : ℕ) (memory : Bytes) (s : State) (line′ : Bytes) (r : Added) : Type 0 where
   pub adds : Adds (λ w. addByteValue (part line 0 n) text w) s memory line′ memory r
 
--- edk of a parameter with this text and latest delimiter, in whatever call
-pub record Converts (m : Marks) (k : ℕ) (text : Bytes) (delimiter : ℕ) (line : Bytes) (n : ℕ) (memory : Bytes) (s : State) (line′ memory′ : Bytes) (r : Added) : Type 0 where
-  pub adds : (f : Frame) (d : ℕ) → param f d ≡ text → getD (f .delimiters) (d - 1) [] ≡ delimiterOf delimiter → Adds (λ w. addConverted m f d k (part line 0 n) w) s memory line′ memory′ r
+-- the conversion c of a parameter with this text and latest delimiter, in whatever call
+pub record Converts (m : Marks) (c : Conversion) (text : Bytes) (delimiter : ℕ) (line : Bytes) (n : ℕ) (memory : Bytes) (s : State) (line′ memory′ : Bytes) (r : Added)
+    : Type 0 where
+  pub adds : (f : Frame) (d : ℕ) → param f d ≡ text → getD (f .delimiters) (d - 1) [] ≡ delimiterOf delimiter
+      → Adds (λ w. addConverted m f d c (part line 0 n) w) s memory line′ memory′ r

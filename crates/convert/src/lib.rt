@@ -1,8 +1,10 @@
 // What ed0 to ed5 and ed8 put at the end of a line that is built (document 01, "A call's code"). The parameter's text is a
 // lent slice.
 use call::Appended;
+use model::Conversion;
 use model::Marks;
 use number::Valued;
+use pass::NO_DELIMITER;
 use state::State;
 use store::Index;
 use store::Stored;
@@ -13,11 +15,11 @@ ghost use lib.ListN.{length};
 ghost use Rattle.model.specs.Store.{decimal};
 ghost use Rattle.model.specs.Value.{written};
 ghost use Rattle.pass.specs.Pass.{delimiterOf};
-ghost use Rattle.call.specs.Line.{Appends};
+ghost use Rattle.call.specs.Line.{Appends, HasBuilt};
 ghost use Rattle.store.specs.Memory.{held, Kept};
 ghost use Rattle.store.specs.Put.{Puts};
 ghost use Rattle.convert.specs.Added.{answered, stopped};
-ghost use Rattle.convert.specs.Converted.{wordOf, Finds, Missing, AddsSymbol, AddsValue, AddsByteValue, Converts};
+ghost use Rattle.convert.specs.Converted.{wordOf, Finds, Missing, AddsSymbol, AddsValue, AddsLength, AddsByteValue, Converts};
 
 // The length of the line with a part added, where the number is 0; otherwise the number that ends the run.
 pub struct Added {
@@ -63,7 +65,7 @@ fn stop(number: usize, s: State) -> Added
 
 // One byte.
 pub fn add_byte(b: u8, line: &mut [u8], n: usize) -> Appended
-    requires { ⌜ (n ≤ 200) × (length (now line) ≡ 200) ⌝ }
+    requires { ⌜ HasBuilt (now line) n ⌝ }
     ensures { λ r. ⌜ Appends (now (line .entry)) n (b ∷ []) (now (line .exit)) r ⌝ }
 {
     let one = [b; 1];
@@ -72,7 +74,7 @@ pub fn add_byte(b: u8, line: &mut [u8], n: usize) -> Appended
 
 // A number in decimal.
 pub fn add_number(v: usize, line: &mut [u8], n: usize) -> Appended
-    requires { ⌜ (n ≤ 200) × (length (now line) ≡ 200) ⌝ }
+    requires { ⌜ HasBuilt (now line) n ⌝ }
     ensures { λ r. ⌜ Appends (now (line .entry)) n (decimal v) (now (line .exit)) r ⌝ }
 {
     let mut digits = [0u8; 20];
@@ -107,7 +109,7 @@ fn add_word<'a>(
     line: &mut [u8],
     n: usize,
 ) -> Appended
-    requires { ⌜ (n ≤ 200) × (length (now line) ≡ 200) ⌝ }
+    requires { ⌜ HasBuilt (now line) n ⌝ }
     requires { ⌜ Kept (now memory) index ⌝ }
     ensures { λ r. ⌜ Appends (now (line .entry)) n (wordOf stored (now (param .entry)) (held (index .count) (now (memory .entry)))) (now (line .exit)) r ⌝ }
 {
@@ -130,7 +132,7 @@ fn put_number(v: usize, name: &[u8], memory: &mut [u8], index: Index) -> Stored
 
 // ed2 of a name that is not stored: the next number is, or 19.
 fn add_new_symbol(param: &[u8], line: &mut [u8], n: usize, memory: &mut [u8], s: State) -> Added
-    requires { ⌜ (n ≤ 200) × (length (now line) ≡ 200) ⌝ }
+    requires { ⌜ HasBuilt (now line) n ⌝ }
     requires { ⌜ Kept (now memory) (s .index) × (s .symbols ≤ s .index .count) ⌝ }
     requires { ⌜ Missing (now memory) (s .index) (now param) × (length (now param) < 256) ⌝ }
     ensures { λ r. ⌜ AddsSymbol (now (param .entry)) (now (line .entry)) n (now (memory .entry)) s (now (line .exit)) (now (memory .exit)) r ⌝ }
@@ -138,13 +140,19 @@ fn add_new_symbol(param: &[u8], line: &mut [u8], n: usize, memory: &mut [u8], s:
     let next = s.symbols + 1;
     match put_number(next, param, memory, s.index) {
         Stored::Full => stop(19, s),
-        Stored::Now(index) => answer(add_number(next, line, n), state::add_symbol(s, index)),
+        Stored::Now(index) => answer(add_number(next, line, n), state::count_symbol(s, index)),
     }
 }
 
 // ed2: the text that is stored under the name, or its new number.
-fn add_symbol(param: &[u8], line: &mut [u8], n: usize, memory: &mut [u8], s: State) -> Added
-    requires { ⌜ (n ≤ 200) × (length (now line) ≡ 200) ⌝ }
+fn add_symbol<'a>(
+    param: &'a [u8],
+    line: &mut [u8],
+    n: usize,
+    memory: &'a mut [u8],
+    s: State,
+) -> Added
+    requires { ⌜ HasBuilt (now line) n ⌝ }
     requires { ⌜ Kept (now memory) (s .index) × (s .symbols ≤ s .index .count) ⌝ }
     requires { ⌜ length (now param) < 256 ⌝ }
     ensures { λ r. ⌜ AddsSymbol (now (param .entry)) (now (line .entry)) n (now (memory .entry)) s (now (line .exit)) (now (memory .exit)) r ⌝ }
@@ -152,18 +160,21 @@ fn add_symbol(param: &[u8], line: &mut [u8], n: usize, memory: &mut [u8], s: Sta
     let seen = store::seek(memory, s.index, param);
     if seen.there {
         let at = seen.at;
-        let end = at + seen.len;
-        return answer(call::append(line, n, &memory[at..end]), s);
+        let len = seen.len;
+        return answer(
+            call::append(line, n, call::bring(param, memory, true, at, len)),
+            s,
+        );
     }
     add_new_symbol(param, line, n, memory, s)
 }
 
 // ed3: the latest delimiter; 256 or more is none.
 fn add_delimiter(delimiter: usize, line: &mut [u8], n: usize) -> Appended
-    requires { ⌜ (n ≤ 200) × (length (now line) ≡ 200) ⌝ }
+    requires { ⌜ HasBuilt (now line) n ⌝ }
     ensures { λ r. ⌜ Appends (now (line .entry)) n (delimiterOf delimiter) (now (line .exit)) r ⌝ }
 {
-    if 256 <= delimiter {
+    if NO_DELIMITER <= delimiter {
         return Appended { ok: true, len: n };
     }
     add_byte(buffer::narrow(delimiter), line, n)
@@ -171,7 +182,7 @@ fn add_delimiter(delimiter: usize, line: &mut [u8], n: usize) -> Appended
 
 // A value in decimal.
 fn add_signed(m: Marks, v: i32, line: &mut [u8], n: usize) -> Appended
-    requires { ⌜ (n ≤ 200) × (length (now line) ≡ 200) ⌝ }
+    requires { ⌜ HasBuilt (now line) n ⌝ }
     ensures { λ r. ⌜ Appends (now (line .entry)) n (written m v) (now (line .exit)) r ⌝ }
 {
     let mut out = [0u8; 21];
@@ -181,7 +192,7 @@ fn add_signed(m: Marks, v: i32, line: &mut [u8], n: usize) -> Appended
 
 // ed4: the value, or 15.
 fn add_value(m: Marks, param: &[u8], line: &mut [u8], n: usize, memory: &[u8], s: State) -> Added
-    requires { ⌜ (n ≤ 200) × (length (now line) ≡ 200) ⌝ }
+    requires { ⌜ HasBuilt (now line) n ⌝ }
     requires { ⌜ Kept (now memory) (s .index) × (s .symbols ≤ s .index .count) ⌝ }
     ensures { λ r. ⌜ AddsValue m (now (param .entry)) (now (line .entry)) n (now (memory .entry)) s (now (line .exit)) r ⌝ }
 {
@@ -191,9 +202,18 @@ fn add_value(m: Marks, param: &[u8], line: &mut [u8], n: usize, memory: &[u8], s
     }
 }
 
+// ed5: the length.
+fn add_length(param: &[u8], line: &mut [u8], n: usize, memory: &[u8], s: State) -> Added
+    requires { ⌜ HasBuilt (now line) n ⌝ }
+    requires { ⌜ Kept (now memory) (s .index) × (s .symbols ≤ s .index .count) ⌝ }
+    ensures { λ r. ⌜ AddsLength (now (param .entry)) (now (line .entry)) n (now (memory .entry)) s (now (line .exit)) r ⌝ }
+{
+    answer(add_number(param.len(), line, n), s)
+}
+
 // ed8: the byte value of exactly one byte, or 16.
 fn add_byte_value(param: &[u8], line: &mut [u8], n: usize, memory: &[u8], s: State) -> Added
-    requires { ⌜ (n ≤ 200) × (length (now line) ≡ 200) ⌝ }
+    requires { ⌜ HasBuilt (now line) n ⌝ }
     requires { ⌜ Kept (now memory) (s .index) × (s .symbols ≤ s .index .count) ⌝ }
     ensures { λ r. ⌜ AddsByteValue (now (param .entry)) (now (line .entry)) n (now (memory .entry)) s (now (line .exit)) r ⌝ }
 {
@@ -203,10 +223,10 @@ fn add_byte_value(param: &[u8], line: &mut [u8], n: usize, memory: &[u8], s: Sta
     answer(add_number(buffer::wide(param[0]), line, n), s)
 }
 
-// edk, for k 0 to 5 and 8, of a parameter with its latest delimiter.
+// A conversion of a parameter with its latest delimiter.
 pub fn add_converted<'a>(
     m: Marks,
-    k: usize,
+    c: Conversion,
     param: &'a [u8],
     delimiter: usize,
     line: &mut [u8],
@@ -214,28 +234,18 @@ pub fn add_converted<'a>(
     memory: &'a mut [u8],
     s: State,
 ) -> Added
-    requires { ⌜ (n ≤ 200) × (length (now line) ≡ 200) ⌝ }
+    requires { ⌜ HasBuilt (now line) n ⌝ }
     requires { ⌜ Kept (now memory) (s .index) × (s .symbols ≤ s .index .count) ⌝ }
     requires { ⌜ length (now param) < 256 ⌝ }
-    ensures { λ r. ⌜ Converts m k (now (param .entry)) delimiter (now (line .entry)) n (now (memory .entry)) s (now (line .exit)) (now (memory .exit)) r ⌝ }
+    ensures { λ r. ⌜ Converts m c (now (param .entry)) delimiter (now (line .entry)) n (now (memory .entry)) s (now (line .exit)) (now (memory .exit)) r ⌝ }
 {
-    if k == 0 {
-        return answer(add_word(false, param, memory, s.index, line, n), s);
+    match c {
+        Conversion::Itself => answer(add_word(false, param, memory, s.index, line, n), s),
+        Conversion::StoredText => answer(add_word(true, param, memory, s.index, line, n), s),
+        Conversion::Symbol => add_symbol(param, line, n, memory, s),
+        Conversion::LatestDelimiter => answer(add_delimiter(delimiter, line, n), s),
+        Conversion::ExpressionValue => add_value(m, param, line, n, memory, s),
+        Conversion::Length => add_length(param, line, n, memory, s),
+        Conversion::ByteValue => add_byte_value(param, line, n, memory, s),
     }
-    if k == 1 {
-        return answer(add_word(true, param, memory, s.index, line, n), s);
-    }
-    if k == 2 {
-        return add_symbol(param, line, n, memory, s);
-    }
-    if k == 3 {
-        return answer(add_delimiter(delimiter, line, n), s);
-    }
-    if k == 4 {
-        return add_value(m, param, line, n, memory, s);
-    }
-    if k == 5 {
-        return answer(add_number(param.len(), line, n), s);
-    }
-    add_byte_value(param, line, n, memory, s)
 }

@@ -1,5 +1,4 @@
 -- The laws of a code line's end.
-pub mod Coming
 pub mod Lines
 pub mod Storing
 pub mod Iterating

@@ -11,7 +11,7 @@ use Rattle.model.specs.declared.Marks.{Marks}
 use Rattle.model.specs.Text.{Bytes}
 use Rattle.model.specs.Reading.{chosen}
 use Rattle.model.specs.Fitting.{Distinct}
-use Rattle.model.specs.Parts.{Elem, lit, hole, stop, Part, byte, piece, elems, text, Good, elements, pieces, PartsRead}
+use Rattle.model.specs.Parts.{Elem, lit, hole, stop, ReadingPart, byte, piece, elems, text, Good, elements, pieces, PartsRead}
 use Rattle.model.specs.Results.{nine}
 use Rattle.model.proofs.Choices.{false-not-true}
 use Rattle.model.proofs.Parts.{no-parts, parts-chosen}
@@ -39,7 +39,7 @@ tree-of m rows ts r d n = record { spelt = map (elems m) ts; represents = r; as-
     getD-map-in f (t ∷ ts) (suc k) lt = getD-map-in f ts k (omega arith)
 
 -- a reading's elements lead to an end node
-at-end : (rows : List Node) (i : ℕ) (r : List Part) (j : ℕ) → walk (kid rows) i (elements r) ≡ suc j → elem rows (suc j) ≡ 0
+at-end : (rows : List Node) (i : ℕ) (r : List ReadingPart) (j : ℕ) → walk (kid rows) i (elements r) ≡ suc j → elem rows (suc j) ≡ 0
 at-end rows i [] j e =
     let (c, x, y) = onward-inv (λ k. k) (kid rows i stop) j e in
     ap (elem rows) (sym y) ∙ kid-child rows i stop c x .1
@@ -56,13 +56,13 @@ module _ (m : Marks) (rows : List Node) (line : Bytes) (ts : List Bytes) (of : T
   root = ne-eqb (elem rows 0) 1 (of .represents .plain-root)
 
   -- a reading leads to a node
-  leads : (i : ℕ) (r : List Part) → PartsRead m ts line i r → (j : ℕ) × (walk (kid rows) 0 (elements r) ≡ suc j)
+  leads : (i : ℕ) (r : List ReadingPart) → PartsRead m ts line i r → (j : ℕ) × (walk (kid rows) 0 (elements r) ≡ suc j)
   leads i r h =
       let (j, w) = of .represents .has i (omega (arith, of .as-many, h .place)) in
       (j, ap (walk (kid rows) 0) (h .template ∙ sym (of .each i (h .place))) ∙ w)
 
   -- what leads to a node is a reading by the node's template
-  reads : (r : List Part) (j k : ℕ) → k ≡ templateOf rows (suc j) → walk (kid rows) 0 (elements r) ≡ suc j → text r ≡ line → Good m r → PartsRead m ts line k r
+  reads : (r : List ReadingPart) (j k : ℕ) → k ≡ templateOf rows (suc j) → walk (kid rows) 0 (elements r) ≡ suc j → text r ≡ line → Good m r → PartsRead m ts line k r
   reads r j k e w x g =
       let h = of .represents .only (elements r) j w (at-end rows 0 r j w) in
       let lt : k < length ts = omega (arith, h .0, of .as-many) in

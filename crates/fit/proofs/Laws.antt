@@ -12,29 +12,29 @@ use Rattle.model.specs.declared.Marks.{Marks}
 use Rattle.model.specs.Text.{Bytes}
 use Rattle.model.specs.Reading.{atom}
 use Rattle.model.specs.Fitting.{Balanced, empty}
-use Rattle.model.specs.Parts.{Elem, lit, hole, stop, Part, byte, piece, text, Good, elements, Earlier, end-piece, byte-piece, less-piece, later}
+use Rattle.model.specs.Parts.{Elem, lit, hole, stop, ReadingPart, byte, piece, text, Good, elements, Earlier, end-piece, byte-piece, less-piece, later}
 use Rattle.model.proofs.Choices.{false-not-true}
 use Rattle.atom.proofs.Rows.{none-some, Atom, atom-sound, Headed, atom-complete}
 use Rattle.nodes.specs.Templates.{walk}
 use Rattle.nodes.proofs.Templates.{onward-inv}
-use Rattle.fit.specs.Search.{Found, endAt, withByte, withPiece, withAtom, orElse, atChild, byByte, byPiece, pastAtom, byAtom, search}
+use Rattle.fit.specs.Search.{Found, endAt, withByte, pieceFound, withAtom, orElse, atChild, byByte, byPiece, pastAtom, byAtom, search}
 
 -- ---- what is found against a reading
 
 -- f comes before the rest q and the parts r, or is them
-abbrev Best : Found → Bytes → List Part → Type 0
+abbrev Best : Found → Bytes → List ReadingPart → Type 0
 Best f q r = (length (f .rest) < length q) ⊎ ((f .rest ≡ q) × ((f .parts ≡ r) ⊎ Earlier (f .parts) r))
 
 -- what is found comes before them, or is them
-abbrev Finds : Option Found → Bytes → List Part → Type 0
+abbrev Finds : Option Found → Bytes → List ReadingPart → Type 0
 Finds o q r = (f : Found) × (o ≡ some f) × Best f q r
 
 -- what the first way finds is found
-or-left : (x y : Option Found) (q : Bytes) (r : List Part) → Finds x q r → Finds (orElse x y) q r
+or-left : (x y : Option Found) (q : Bytes) (r : List ReadingPart) → Finds x q r → Finds (orElse x y) q r
 or-left x y q r h = (h .0, ap (λ (o : Option Found). orElse o y) (h .1), h .2)
 
 -- what the second finds is found, where what the first finds is better
-or-right : (x y : Option Found) (q : Bytes) (r : List Part) → ((f : Found) → x ≡ some f → Best f q r) → Finds y q r → Finds (orElse x y) q r
+or-right : (x y : Option Found) (q : Bytes) (r : List ReadingPart) → ((f : Found) → x ≡ some f → Best f q r) → Finds y q r → Finds (orElse x y) q r
 or-right none y q r g h = h
 or-right (some f) y q r g h = (f, refl, g f refl)
 
@@ -65,7 +65,7 @@ byte-inv : (b : ℕ) (o : Option Found) (f : Found) → withByte b o ≡ some f 
 byte-inv b none f e = none-some e
 byte-inv b (some g) f e = (g, refl, cc)
 
-piece-inv : (o : Option Found) (f : Found) → withPiece o ≡ some f → (g : Found) × (o ≡ some g) × (pieceThen g ≡ f)
+piece-inv : (o : Option Found) (f : Found) → pieceFound o ≡ some f → (g : Found) × (o ≡ some g) × (pieceThen g ≡ f)
 piece-inv none f e = none-some e
 piece-inv (some g) f e = (g, refl, cc)
 
@@ -75,7 +75,7 @@ atom-inv a (some g) f e = (g, refl, cc)
 
 -- f comes before any piece, and none is open: what a byte or the end leads to
 Ahead : Found → Type 0
-Ahead f = (f .rest ≡ []) × ((p : Bytes) (r : List Part) → Earlier (f .parts) (piece p ∷ r))
+Ahead f = (f .rest ≡ []) × ((p : Bytes) (r : List ReadingPart) → Earlier (f .parts) (piece p ∷ r))
 
 -- the end comes before any piece
 ahead-end : (k : ℕ) (f : Found) → endAt k ≡ some f → Ahead f
@@ -94,7 +94,7 @@ ahead-byte b o f e =
     subst Ahead h (refl, λ p r. byte-piece b p (g .parts) r)
 
 -- where a piece starts, none is open
-rest-piece : (o : Option Found) (f : Found) → withPiece o ≡ some f → f .rest ≡ []
+rest-piece : (o : Option Found) (f : Found) → pieceFound o ≡ some f → f .rest ≡ []
 rest-piece o f e =
     let (g, _, h) = piece-inv o f e in
     subst (λ (x : Found). x .rest ≡ []) h refl
@@ -107,25 +107,25 @@ ahead kid F i (b ∷ s) f e = ahead-byte b (atChild (λ j. F j s) (kid i (lit b)
 -- ---- and what that is against a reading
 
 -- the same part in front changes nothing
-same-front : (x : Part) (a r : List Part) → (a ≡ r) ⊎ Earlier a r → (x ∷ a ≡ x ∷ r) ⊎ Earlier (x ∷ a) (x ∷ r)
-same-front x a r (inl e) = inl (ap (λ (l : List Part). x ∷ l) e)
+same-front : (x : ReadingPart) (a r : List ReadingPart) → (a ≡ r) ⊎ Earlier a r → (x ∷ a ≡ x ∷ r) ⊎ Earlier (x ∷ a) (x ∷ r)
+same-front x a r (inl e) = inl (ap (λ (l : List ReadingPart). x ∷ l) e)
 same-front x a r (inr h) = inr (later x a r h)
 
 -- with a byte, a piece or an atom in front, it still comes before the reading with the same in front
-lift-byte : (b : ℕ) (o : Option Found) (r : List Part) → Finds o [] r → Finds (withByte b o) [] (byte b ∷ r)
+lift-byte : (b : ℕ) (o : Option Found) (r : List ReadingPart) → Finds o [] r → Finds (withByte b o) [] (byte b ∷ r)
 lift-byte b o r (f, e, inl lt) = absurd (omega arith)
 lift-byte b o r (f, e, inr h) = (byteThen b f, ap (withByte b) e, inr (refl, same-front (byte b) (f .parts) r (h .1)))
 
-lift-piece : (o : Option Found) (p : Bytes) (r : List Part) → Finds o p r → Finds (withPiece o) [] (piece p ∷ r)
-lift-piece o p r (f, e, inl lt) = (pieceThen f, ap withPiece e, inr (refl, inr (less-piece (f .rest) p (f .parts) r lt)))
-lift-piece o p r (f, e, inr h) = (pieceThen f, ap withPiece e, inr (refl, rw (h .0) (same-front (piece p) (f .parts) r (h .1))))
+lift-piece : (o : Option Found) (p : Bytes) (r : List ReadingPart) → Finds o p r → Finds (pieceFound o) [] (piece p ∷ r)
+lift-piece o p r (f, e, inl lt) = (pieceThen f, ap pieceFound e, inr (refl, inr (less-piece (f .rest) p (f .parts) r lt)))
+lift-piece o p r (f, e, inr h) = (pieceThen f, ap pieceFound e, inr (refl, rw (h .0) (same-front (piece p) (f .parts) r (h .1))))
 
-lift-atom : (a : Bytes) (o : Option Found) (q : Bytes) (r : List Part) → Finds o q r → Finds (withAtom a o) (a ++ q) r
+lift-atom : (a : Bytes) (o : Option Found) (q : Bytes) (r : List ReadingPart) → Finds o q r → Finds (withAtom a o) (a ++ q) r
 lift-atom a o q r (f, e, inl lt) = (atomThen a f, ap (withAtom a) e, inl (omega (arith, length-append a (f .rest), length-append a q)))
 lift-atom a o q r (f, e, inr h) = (atomThen a f, ap (withAtom a) e, inr (ap (λ (l : Bytes). a ++ l) (h .0), h .1))
 
 -- what is found, where no piece is open, is the reading or comes before it
-at-first : (f : Found) (r : List Part) → f .rest ≡ [] → Finds (some f) [] r → (f .parts ≡ r) ⊎ Earlier (f .parts) r
+at-first : (f : Found) (r : List ReadingPart) → f .rest ≡ [] → Finds (some f) [] r → (f .parts ≡ r) ⊎ Earlier (f .parts) r
 at-first f r z (g, e, inl lt) = absurd (omega arith)
 at-first f r z (g, e, inr h) =
     let w : g ≡ f = cc in
@@ -137,7 +137,7 @@ headed m b q (inl e) = absurd (omega (arith, ap length e))
 headed m b q (inr h) = h
 
 -- at the node i: the rest q of the piece that is open there, and the parts r after it, read a template that ends at the node j
-pub record ReadsFrom (m : Marks) (kid : ℕ → Elem → ℕ) (holey : ℕ → Bool) (i : ℕ) (q : Bytes) (r : List Part) (j : ℕ) : Type 0 where
+pub record ReadsFrom (m : Marks) (kid : ℕ → Elem → ℕ) (holey : ℕ → Bool) (i : ℕ) (q : Bytes) (r : List ReadingPart) (j : ℕ) : Type 0 where
   pub rest-balanced : Balanced m q
   pub only-hole : holey i ≡ false → q ≡ []
   pub good : Good m r
@@ -245,7 +245,7 @@ module _ (m : Marks) (differ : ¬ (m .left ≡ m .right)) (kid : ℕ → Elem �
     (falls : (i : ℕ) (e : Elem) (c : ℕ) → kid i e ≡ suc c → rank (suc c) < rank i)
     (at-hole : (i c : ℕ) → kid i hole ≡ suc c → holey (suc c) ≡ true) where
   Complete : ℕ → Type 0
-  Complete n = (i : ℕ) (q : Bytes) (r : List Part) (j : ℕ) → rank i + length (q ++ text r) < n → ReadsFrom m kid holey i q r j → Finds (search m kid holey n i (q ++ text r)) q r
+  Complete n = (i : ℕ) (q : Bytes) (r : List ReadingPart) (j : ℕ) → rank i + length (q ++ text r) < n → ReadsFrom m kid holey i q r j → Finds (search m kid holey n i (q ++ text r)) q r
 
   -- by the end
   end-finds : (F : ℕ → Bytes → Option Found) (i j : ℕ) → ReadsFrom m kid holey i [] [] j → Finds (byByte kid F i []) [] []
@@ -254,7 +254,7 @@ module _ (m : Marks) (differ : ¬ (m .left ≡ m .right)) (kid : ℕ → Elem �
       (record { rest = []; parts = []; node = suc c }, ap endAt k, inr (refl, inl refl))
 
   -- by a byte
-  byte-finds : (n i b : ℕ) (r : List Part) (j : ℕ) → Complete n → rank i + suc (length (text r)) < suc n → ReadsFrom m kid holey i [] (byte b ∷ r) j
+  byte-finds : (n i b : ℕ) (r : List ReadingPart) (j : ℕ) → Complete n → rank i + suc (length (text r)) < suc n → ReadsFrom m kid holey i [] (byte b ∷ r) j
       → Finds (byByte kid (search m kid holey n) i (b ∷ text r)) [] (byte b ∷ r)
   unfolding Complete
   byte-finds n i b r j ih lt h =
@@ -264,7 +264,7 @@ module _ (m : Marks) (differ : ¬ (m .left ≡ m .right)) (kid : ℕ → Elem �
       (ih (suc c) [] r j (omega arith) (record { rest-balanced = empty; only-hole = λ _. refl; good = h .good; leads = w })))
 
   -- by a placeholder
-  piece-finds : (n i : ℕ) (p : Bytes) (r : List Part) (j : ℕ) → Complete n → rank i + length (p ++ text r) < suc n → ReadsFrom m kid holey i [] (piece p ∷ r) j
+  piece-finds : (n i : ℕ) (p : Bytes) (r : List ReadingPart) (j : ℕ) → Complete n → rank i + length (p ++ text r) < suc n → ReadsFrom m kid holey i [] (piece p ∷ r) j
       → Finds (byPiece kid (search m kid holey n) i (p ++ text r)) [] (piece p ∷ r)
   unfolding Complete
   piece-finds n i p r j ih lt h =
@@ -275,7 +275,7 @@ module _ (m : Marks) (differ : ¬ (m .left ≡ m .right)) (kid : ℕ → Elem �
       (ih (suc c) p r j (omega arith) (record { rest-balanced = h .good .0; only-hole = λ e. false-not-true (sym e ∙ t); good = h .good .1; leads = w })))
 
   -- by an atom more
-  atom-finds : (n i : ℕ) (q : Bytes) (r : List Part) (j : ℕ) (t : Bool) → holey i ≡ t → Complete n → rank i + length (q ++ text r) < suc n → ReadsFrom m kid holey i q r j → Headed m q
+  atom-finds : (n i : ℕ) (q : Bytes) (r : List ReadingPart) (j : ℕ) (t : Bool) → holey i ≡ t → Complete n → rank i + length (q ++ text r) < suc n → ReadsFrom m kid holey i q r j → Headed m q
       → Finds (byAtom m (search m kid holey n i) t (q ++ text r)) q r
   unfolding Complete
   atom-finds n i q r j false e ih lt h d =
@@ -306,7 +306,7 @@ module _ (m : Marks) (differ : ¬ (m .left ≡ m .right)) (kid : ℕ → Elem �
       (atom-finds n i (b ∷ q) r j (holey i) refl (complete n) lt h (headed m b q (atom-complete m differ (b ∷ q) (h .rest-balanced)))))
 
   -- parts that lead to a node are found, or some before them
-  finds : (n i : ℕ) (s : Bytes) (r : List Part) (j : ℕ) → rank i + length s < n → text r ≡ s → Good m r → walk kid i (elements r) ≡ suc j → Finds (search m kid holey n i s) [] r
+  finds : (n i : ℕ) (s : Bytes) (r : List ReadingPart) (j : ℕ) → rank i + length s < n → text r ≡ s → Good m r → walk kid i (elements r) ≡ suc j → Finds (search m kid holey n i s) [] r
   unfolding Complete
   finds n i s r j lt e g w =
       subst (λ (l : Bytes). Finds (search m kid holey n i l) [] r) e
@@ -314,11 +314,11 @@ module _ (m : Marks) (differ : ¬ (m .left ≡ m .right)) (kid : ℕ → Elem �
 
   -- what is found, where no piece is open, is every such reading or comes before it
   pub found-first : (n i : ℕ) (s : Bytes) (f : Found) → rank i + length s < n → holey i ≡ false → search m kid holey n i s ≡ some f
-      → (o : List Part) (j : ℕ) → text o ≡ s → Good m o → walk kid i (elements o) ≡ suc j → (f .parts ≡ o) ⊎ Earlier (f .parts) o
+      → (o : List ReadingPart) (j : ℕ) → text o ≡ s → Good m o → walk kid i (elements o) ≡ suc j → (f .parts ≡ o) ⊎ Earlier (f .parts) o
   found-first n i s f lt t e o j x g w =
       at-first f o (rest-none m kid holey n i s f t e) (subst (λ (y : Option Found). Finds y [] o) e (finds n i s o j lt x g w))
 
   -- where nothing is found there is none
   pub found-none : (n i : ℕ) (s : Bytes) → rank i + length s < n → search m kid holey n i s ≡ none
-      → (o : List Part) (j : ℕ) → text o ≡ s → Good m o → ¬ (walk kid i (elements o) ≡ suc j)
+      → (o : List ReadingPart) (j : ℕ) → text o ≡ s → Good m o → ¬ (walk kid i (elements o) ≡ suc j)
   found-none n i s lt e o j x g w = none-some (sym e ∙ finds n i s o j lt x g w .1)

@@ -1,4 +1,5 @@
 -- The laws of the search; callers use tree-of of Choose.
+pub mod Nine
 mod Laws
 mod Steps
 mod Pieces

@@ -13,7 +13,7 @@ use borrow.Author.Tests.{eq-eqb, ne-eqb}
 use Rattle.model.specs.declared.Marks.{Marks}
 use Rattle.model.specs.Text.{Bytes}
 use Rattle.model.specs.Reading.{Pieces}
-use Rattle.model.specs.Parts.{Elem, lit, hole, stop, Part, byte, piece, elems, text, elements, pieces}
+use Rattle.model.specs.Parts.{Elem, lit, hole, stop, ReadingPart, byte, piece, elems, text, elements, pieces}
 use Rattle.model.specs.Results.{startsOf, nine}
 use Rattle.model.proofs.Chosen.{Tested, alike, apart, tested}
 use Rattle.nodes.specs.declared.Node.{Node}
@@ -69,7 +69,7 @@ zero-at (suc n) (suc i) = zero-at n i
 -- ---- where pieces start and end
 
 -- a piece ends where the reading ends, or before
-lie-below : (r : List Part) (k at i : ℕ) → k + length (pieces r) ≤ 9 → getD (stored k (startsIn at r)) i 0 + getD (stored k (lensIn r)) i 0 ≤ at + length (text r)
+lie-below : (r : List ReadingPart) (k at i : ℕ) → k + length (pieces r) ≤ 9 → getD (stored k (startsIn at r)) i 0 + getD (stored k (lensIn r)) i 0 ≤ at + length (text r)
 unfolding stored startsIn
 lie-below [] k at i h = omega (arith, zero-at 9 i)
 lie-below (byte b ∷ r) k at i h = omega (arith, lie-below r k (at + 1) i h)
@@ -82,16 +82,21 @@ lie-below (piece p ∷ r) k at i h = by (eqb i k) (tested i k) (lie-below r (k +
     ls = stored (k + 1) (lensIn r)
 
     by : (t : Bool) → Tested i k t → getD ss i 0 + getD ls i 0 ≤ at + length p + length (text r) → getD (set ss k at) i 0 + getD (set ls k (length p)) i 0 ≤ at + length (p ++ text r)
-    by true (alike e) ih = rw e (omega (arith, getD-set-same ss k at 0 (omega (arith, length-stored (k + 1) (startsIn (at + length p) r))), getD-set-same ls k (length p) 0 (omega (arith, length-stored (k + 1) (lensIn r))), length-append p (text r)))
+    by true (alike e) ih = rw e (omega (
+      arith,
+      getD-set-same ss k at 0 (omega (arith, length-stored (k + 1) (startsIn (at + length p) r))),
+      getD-set-same ls k (length p) 0 (omega (arith, length-stored (k + 1) (lensIn r))),
+      length-append p (text r),
+    ))
     by false (apart e) ih = omega (arith, getD-set-other ss k i at 0 e, getD-set-other ls k i (length p) 0 e, length-append p (text r))
 
 -- and so within the line, of which the rest q of an open piece and the reading are all
-pub lie-within : (line q : Bytes) (r : List Part) (k : ℕ) (ss ls : List ℕ) → ss ≡ stored k (startsIn (0 + length q) r) → ls ≡ stored k (lensIn r) → k + length (pieces r) ≤ 9
+pub lie-within : (line q : Bytes) (r : List ReadingPart) (k : ℕ) (ss ls : List ℕ) → ss ≡ stored k (startsIn (0 + length q) r) → ls ≡ stored k (lensIn r) → k + length (pieces r) ≤ 9
     → q ++ text r ≡ line → (i : ℕ) → getD ss i 0 + getD ls i 0 ≤ length line
 lie-within line q r k ss ls s l few x i = rw (s, l) (omega (arith, lie-below r k (0 + length q) i few, ap length x, length-append q (text r)))
 
 -- the pieces stand in the line at their starts, at their lengths
-piece-at : (line : Bytes) (r : List Part) (at i : ℕ) → text r ≡ drop at line → i < length (pieces r)
+piece-at : (line : Bytes) (r : List ReadingPart) (at i : ℕ) → text r ≡ drop at line → i < length (pieces r)
     → getD (pieces r) i [] ≡ take (getD (lensIn r) i 0) (drop (getD (startsIn at r) i 0) line)
 unfolding startsIn
 piece-at line [] at i e lt = absurd (omega arith)
@@ -101,7 +106,7 @@ piece-at line (piece p ∷ r) at (suc i) e lt =
     piece-at line r (at + length p) i (sym (drop-append-seam p (text r)) ∙ ap (drop (length p)) e ∙ drop-drop (length p) at line) (omega arith)
 
 -- there is a start for each piece
-length-starts : (r : List Part) (at : ℕ) → length (startsIn at r) ≡ length (pieces r)
+length-starts : (r : List ReadingPart) (at : ℕ) → length (startsIn at r) ≡ length (pieces r)
 unfolding startsIn
 length-starts [] at = refl
 length-starts (byte b ∷ r) at = length-starts r (at + 1)
@@ -119,7 +124,7 @@ module _ (m : Marks) where
   past-hole at b t p ps e = rw (eq-eqb b (m .placeholder) e, startsOf) refl
 
   -- the starts of the pieces of a template's reading
-  starts-of : (r : List Part) (t : Bytes) (at : ℕ) → elements r ≡ elems m t → startsIn at r ≡ startsOf m at t (pieces r)
+  starts-of : (r : List ReadingPart) (t : Bytes) (at : ℕ) → elements r ≡ elems m t → startsIn at r ≡ startsOf m at t (pieces r)
   unfolding startsIn startsOf elems
   starts-of [] t at e = refl
   starts-of (byte b ∷ r) [] at e = let z : _≡_ {A = ℕ} 0 1 = cc in absurd (omega arith)
@@ -141,7 +146,7 @@ module _ (m : Marks) where
 
 module _ (rows : List Node) (tree : Tree rows) where
   -- a node has as many placeholders as the reading that leads there has pieces
-  holes-pieces : (r : List Part) (i j : ℕ) → walk (kid rows) i (elements r) ≡ suc j → holes rows (suc j) ≡ holes rows i + length (pieces r)
+  holes-pieces : (r : List ReadingPart) (i j : ℕ) → walk (kid rows) i (elements r) ≡ suc j → holes rows (suc j) ≡ holes rows i + length (pieces r)
   holes-pieces [] i j w =
       let (c, x, y) = onward-inv (λ k. k) (kid rows i stop) j w in
       let h = kid-child rows i stop c x in
@@ -154,7 +159,7 @@ module _ (rows : List Node) (tree : Tree rows) where
       omega (arith, holes-pieces r (suc c) j y, holes-hole rows tree i c x)
 
   -- so there are nine at most
-  pub few-pieces : (r : List Part) (i j : ℕ) → walk (kid rows) i (elements r) ≡ suc j → holes rows i + length (pieces r) ≤ 9
+  pub few-pieces : (r : List ReadingPart) (i j : ℕ) → walk (kid rows) i (elements r) ≡ suc j → holes rows i + length (pieces r) ≤ 9
   few-pieces r i j w = omega (arith, holes-pieces r i j w, tree .nine (suc j))
 
 -- ---- all of it
@@ -165,7 +170,7 @@ Stand m t line ss ls ps = (ss ≡ nine (startsOf m 0 t ps)) × (ls ≡ nine (map
     × ((i : ℕ) → i < length ps → getD ps i [] ≡ take (getD ls i 0) (drop (getD ss i 0) line))
 
 -- an outcome's starts and lengths are those of the reading
-pub stand : (m : Marks) (t line : Bytes) (r : List Part) (ss ls : List ℕ) → elements r ≡ elems m t → text r ≡ line → length (pieces r) ≤ 9
+pub stand : (m : Marks) (t line : Bytes) (r : List ReadingPart) (ss ls : List ℕ) → elements r ≡ elems m t → text r ≡ line → length (pieces r) ≤ 9
     → ss ≡ stored 0 (startsIn 0 r) → ls ≡ stored 0 (lensIn r) → Stand m t line ss ls (pieces r)
 stand m t line r ss ls e x few s l =
     let a : ss ≡ nine (startsIn 0 r) = s ∙ stored-nine (startsIn 0 r) (omega (arith, length-starts r 0)) in

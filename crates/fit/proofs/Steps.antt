@@ -16,8 +16,9 @@ use Rattle.atom.specs.Atoms.{AtomAt}
 use Rattle.nodes.specs.declared.Node.{Node}
 use Rattle.nodes.specs.Rows.{noNode, firstOf, countOf, code, kid, holey, height, holes, Tree, ChildFor, Stands}
 use Rattle.nodes.proofs.Rows.{kid-falls, kid-lit, holes-lit, holes-hole, front-node, front-long, front-within, front-child}
-use Rattle.fit.specs.Search.{Found, endAt, withByte, withPiece, withAtom, orElse, atChild, byByte, search}
-use Rattle.fit.specs.Outcome.{blank, storePiece, passAtom, elementOf, elementAt, stored, startsIn, lensIn, Told, Searched, Stepped, byteStep, pieceStep, atomStep, Asks, SearchedIn, ByteSearched, PieceSearched, AtomSearched}
+use Rattle.fit.specs.Search.{Found, endAt, withByte, pieceFound, withAtom, orElse, atChild, byByte, search}
+use Rattle.fit.specs.Outcome.{blank, storePiece, passAtom, elementOf, elementAt, stored, startsIn, lensIn, Told}
+use Rattle.fit.specs.Outcome.{Searched, Stepped, byteStep, pieceStep, atomStep, Asks, SearchedIn, ByteSearched, PieceSearched, AtomSearched}
 use Rattle.fit.specs.declared.Outcome.{Outcome}
 use Rattle.fit.proofs.Laws.{rest-none}
 
@@ -64,7 +65,7 @@ told-byte k k′ at b (some f) o y z (p, e, r, s, l) =
     (p, e, r ∙ q, s ∙ ap₂ (λ (i j : ℕ). stored i (startsIn j (f .parts))) y x, l ∙ ap (λ (i : ℕ). stored i (lensIn (f .parts))) y)
 
 -- where a piece starts, it is stored
-told-piece : (k k′ at : ℕ) (x : Option Found) (o : Outcome) → k′ ≡ k + 1 → Told k′ at x o → Told k at (withPiece x) (storePiece k at o)
+told-piece : (k k′ at : ℕ) (x : Option Found) (o : Outcome) → k′ ≡ k + 1 → Told k′ at x o → Told k at (pieceFound x) (storePiece k at o)
 unfolding startsIn stored
 told-piece k k′ at none o x h = h
 told-piece k k′ at (some f) o x (p, e, r, s, l) =
@@ -133,7 +134,8 @@ module _ (m : Marks) (rows : List Node) (line : Bytes) (node at : ℕ) where
       -- only the third may
       by-third : p .node ≡ 0 → (a : Outcome) → Stepped rows line node at third a → Searched m rows line node at a
       by-third w a v =
-          searched a (λ n l. told-second k at (first n) (orElse (second n) (third n)) b a z (x .told n l) (told-second k at (second n) (third n) p a w (y .told n l) (v .told n l))) (v .short) (v .there)
+          searched a (λ n l. told-second k at (first n) (orElse (second n) (third n)) b a z (x .told n l) (told-second k at (second n) (third n) p a w (y .told n l) (v .told n l)))
+          (v .short) (v .there)
 
 module _ {m : Marks} {row : List Node} {line : Bytes} {node at : ℕ} {b : Outcome} (h : ByteSearched m row line node at b) where
   -- the byte leads on
@@ -184,11 +186,11 @@ module _ {row : List Node} {line : Bytes} {end node at : ℕ} (a : Asks row line
   module _ {e c : ℕ} (h : ChildFor row node e c) where
     -- the search can go on at a child
     pub asks-piece : Asks row line end c at
-    asks-piece = record { made = a .made; stands = a .stands; there = child-there (a .stands) (a .there) h; low = a .low; high = a .high }
+    asks-piece = record { made = a .made; stands = a .stands; there = child-there (a .stands) (a .there) h; low = a .low; high = a .high; short = a .short }
 
     -- and there past a byte
     pub asks-byte : ¬ (at ≡ end) → Asks row line end c (at + 1)
-    asks-byte n = record { made = a .made; stands = a .stands; there = child-there (a .stands) (a .there) h; low = omega (arith, a .low, n); high = a .high }
+    asks-byte n = record { made = a .made; stands = a .stands; there = child-there (a .stands) (a .there) h; low = omega (arith, a .low, n); high = a .high; short = a .short }
 
     -- the child is less high, so the measure falls
     pub byte-less : e ≡ code (elementAt (take end line) at) → ¬ (c ≡ 0) → ¬ (at ≡ end) → 2 * (height row c + (end - (at + 1))) + 1 < 2 * (height row node + (end - at))
@@ -205,10 +207,16 @@ module _ {row : List Node} {line : Bytes} {end node at : ℕ} (a : Asks row line
         let u = holes-hole rows (a .stands .tree) node j (sym (child-is (a .stands) (a .there) h hole w) ∙ v) in
         omega (arith, u, a .stands .tree .nine (suc j), y, ap (λ (n : Node). n .holes) (x ∙ sym (front-node row (a .made) node (a .there))))
 
+    -- and its start and its length are bytes
+    pub piece-fits : {m : Marks} {n : Node} {k : ℕ} {o : Outcome} → e ≡ 1 → ¬ (c ≡ 0) → n ≡ getD row node noNode → k ≡ n .holes → SearchedIn m row (take end line) c at o
+        → (k < 9) × (at < 256) × (o .rest < 256)
+    piece-fits w z x y g =
+        (below-nine w z x y, omega (arith, a .low, a .short), omega (arith, g .each (a .made) (a .stands) (child-there (a .stands) (a .there) h) .short, line-long, a .short))
+
   module _ {m : Marks} {e : ℕ} (h : AtomAt m (take end line) at e) (z : ¬ (e ≡ 0)) where
     -- the search can go on past an atom
     pub asks-atom : Asks row line end node e
-    asks-atom = record { made = a .made; stands = a .stands; there = a .there; low = omega (arith, h .within, line-long); high = a .high }
+    asks-atom = record { made = a .made; stands = a .stands; there = a .there; low = omega (arith, h .within, line-long); high = a .high; short = a .short }
 
     -- the atom has a byte
     atom-ahead : at < e
@@ -260,7 +268,7 @@ module _ {m : Marks} {row : List Node} {line : Bytes} {node at e c : ℕ} (h : C
   pub piece-none : {o : Outcome} → e ≡ 1 → c ≡ 0 → o ≡ blank 0 → PieceSearched m row line node at o
   piece-none w z q = record {
     each = λ made s lt.
-        none-stepped s lt (λ n. ap (λ (i : ℕ). withPiece (atChild (λ j. search m (kid (take made row)) (holey (take made row)) n j (drop at line)) i)) (sym (child-is s lt h hole w) ∙ z)) q;
+        none-stepped s lt (λ n. ap (λ (i : ℕ). pieceFound (atChild (λ j. search m (kid (take made row)) (holey (take made row)) n j (drop at line)) i)) (sym (child-is s lt h hole w) ∙ z)) q;
   }
 
 module _ (m : Marks) (rows : List Node) (line : Bytes) (node at c : ℕ) (o : Outcome) (tree : Tree rows) (z : ¬ (c ≡ 0)) where
@@ -318,7 +326,8 @@ atom-stepped m rows line node at e o t a z h = record { told = told; short = ome
     long = simp (length-take, length-drop) (omega (arith, up, a .within))
 
     told : (n : ℕ) → height rows node + (length line - at) ≤ n → Told (holes rows node) at (atomStep m rows line node at n) (passAtom (e - at) o)
-    told n l = rw (t, a .found (omega (arith, z))) (told-atom (holes rows node) at e (part line at e) (search m (kid rows) (holey rows) n node (drop e line)) o long (h .told n (omega (arith, up, a .within))))
+    told n l = rw (t, a .found (omega (arith, z))) (told-atom (holes rows node) at e (part line at e) (search m (kid rows) (holey rows) n node (drop e line)) o long
+        (h .told n (omega (arith, up, a .within))))
 
 module _ {m : Marks} {row : List Node} {line : Bytes} {end node at : ℕ} (a : Asks row line end node at) where
   module _ {e c : ℕ} (h : ChildFor row node e c) {o : Outcome} (z : ¬ (c ≡ 0)) where
@@ -326,14 +335,16 @@ module _ {m : Marks} {row : List Node} {line : Bytes} {end node at : ℕ} (a : A
     pub byte-end : e ≡ code (elementAt (take end line) at) → at ≡ end → o ≡ blank c → ByteSearched m row (take end line) node at o
     byte-end w t q = record {
       each = λ made s lt.
-          end-stepped m (take made row) (take end line) node at c o (s .tree) z (omega (arith, line-long a, t)) (child-is s lt h (elementAt (take end line) at) w) (omega (arith, child-there s lt h, front-long s)) q;
+          end-stepped m (take made row) (take end line) node at c o (s .tree) z (omega (arith, line-long a, t)) (child-is s lt h (elementAt (take end line) at) w)
+          (omega (arith, child-there s lt h, front-long s)) q;
     }
 
     -- what is found at the byte's child is found here
     pub byte-below : e ≡ code (elementAt (take end line) at) → ¬ (at ≡ end) → SearchedIn m row (take end line) c (at + 1) o → ByteSearched m row (take end line) node at o
     byte-below w t g = record {
       each = λ made s lt.
-          byte-stepped m (take made row) (take end line) node at c o (s .tree) z (omega (arith, line-long a, a .low, t)) (child-is s lt h (elementAt (take end line) at) w) (g .each made s (child-there s lt h));
+          byte-stepped m (take made row) (take end line) node at c o (s .tree) z (omega (arith, line-long a, a .low, t)) (child-is s lt h (elementAt (take end line) at) w)
+          (g .each made s (child-there s lt h));
     }
 
     -- what is found at the placeholder's child is a piece, and what follows it

@@ -6,7 +6,7 @@ use Prim.Native.Nat.{ℕ, _+_, _-_, _≤_, _<_}
 use lib.ListN.{length, take, drop, set, replicate}
 use Rattle.model.specs.declared.Marks.{Marks}
 use Rattle.model.specs.Text.{Bytes}
-use Rattle.model.specs.Parts.{Elem, lit, stop, Part, byte, piece, pieces}
+use Rattle.model.specs.Parts.{Elem, lit, stop, ReadingPart, byte, piece, pieces}
 use Rattle.nodes.specs.declared.Node.{Node}
 use Rattle.nodes.specs.Rows.{kid, holey, height, holes, Stands}
 use Rattle.fit.specs.Search.{Found, byByte, byPiece, byAtom, search}
@@ -45,13 +45,13 @@ stored k [] = replicate 9 0
 stored k (v ∷ vs) = set (stored (k + 1) vs) k v
 
 -- where the pieces of r start, if r starts at place `at`
-unfoldable pub startsIn : ℕ → List Part → List ℕ
+unfoldable pub startsIn : ℕ → List ReadingPart → List ℕ
 startsIn at [] = []
 startsIn at (byte b ∷ r) = startsIn (at + 1) r
 startsIn at (piece p ∷ r) = at ∷ startsIn (at + length p) r
 
 -- how long they are
-abbrev pub lensIn : List Part → List ℕ
+abbrev pub lensIn : List ReadingPart → List ℕ
 lensIn r = map (λ p. length p) (pieces r)
 
 -- the outcome o says what is found from place `at` on, with k pieces before
@@ -92,6 +92,7 @@ pub record Asks (row : List Node) (line : Bytes) (end node at : ℕ) : Type 0 wh
   pub there : node < made
   pub low : at ≤ end
   pub high : end ≤ length line
+  pub short : end < 256
 
 -- the outcome of the search, whatever tree it is
 pub record SearchedIn (m : Marks) (row : List Node) (line : Bytes) (node at : ℕ) (o : Outcome) : Type 0 where

@@ -6,13 +6,13 @@ use Prim.Native.Nat.{ℕ, zero, suc}
 use Rattle.model.specs.declared.Marks.{Marks}
 use Rattle.model.specs.Text.{Bytes}
 use Rattle.model.specs.Reading.{atom}
-use Rattle.model.specs.Parts.{Elem, lit, hole, stop, Part, byte, piece}
+use Rattle.model.specs.Parts.{Elem, lit, hole, stop, ReadingPart, byte, piece}
 
 -- what is found at a place: the rest of the piece that is open there (empty where none is), the parts that follow it, and the
 -- node of the template's end
 pub record Found : Type 0 where
   pub rest : Bytes
-  pub parts : List Part
+  pub parts : List ReadingPart
   pub node : ℕ
 
 -- the template ends at the node; 0 is none
@@ -26,9 +26,9 @@ withByte b none = none
 withByte b (some f) = some (record { rest = []; parts = byte b ∷ f .parts; node = f .node })
 
 -- a piece that starts here, and then what is found
-abbrev pub withPiece : Option Found → Option Found
-withPiece none = none
-withPiece (some f) = some (record { rest = []; parts = piece (f .rest) ∷ f .parts; node = f .node })
+abbrev pub pieceFound : Option Found → Option Found
+pieceFound none = none
+pieceFound (some f) = some (record { rest = []; parts = piece (f .rest) ∷ f .parts; node = f .node })
 
 -- an atom more in the open piece, and then what is found
 abbrev pub withAtom : Bytes → Option Found → Option Found
@@ -63,7 +63,7 @@ module _ (kid : ℕ → Elem → ℕ) where
 
   -- to the placeholder's child
   abbrev pub byPiece : (ℕ → Bytes → Option Found) → ℕ → Bytes → Option Found
-  byPiece f i s = withPiece (atChild (λ j. f j s) (kid i hole))
+  byPiece f i s = pieceFound (atChild (λ j. f j s) (kid i hole))
 
 -- and `holey` says whether a node is a placeholder's. The first number is fuel
 module _ (m : Marks) (kid : ℕ → Elem → ℕ) (holey : ℕ → Bool) where

@@ -1,4 +1,6 @@
 // The first reading of a line by the templates (document 01, "Fitting a line"): a recursive search over node and position.
+// first_reading asks that a tree stands at the front of the row of nodes, and that the line's first `end` bytes are there and fewer
+// than 256. `&[Node]` is not covered by the checker's own account of a function: the four searches and first_reading are proved by walks.
 ghost use mathlib.Core.Path.{_≡_};
 ghost use Prim.Native.Nat.{_+_, _≤_, _<_, _^_};
 ghost use lib.ListN.{length, take};
@@ -6,6 +8,7 @@ ghost use Rattle.atom.specs.Atoms.{AtomAt};
 ghost use Rattle.nodes.specs.Rows.{code};
 ghost use Rattle.fit.specs.Outcome.{blank, storePiece, passAtom, elementAt, Asks, SearchedIn, ByteSearched, PieceSearched, AtomSearched};
 ghost use Rattle.fit.specs.Chosen.{noChoice, choiceOf, Chooses};
+use buffer::wide;
 use model::Marks;
 use nodes::Node;
 
@@ -14,8 +17,8 @@ use nodes::Node;
 pub struct Outcome {
     pub node: usize,
     pub rest: usize,
-    pub starts: [usize; 9],
-    pub lens: [usize; 9],
+    pub starts: [u8; 9],
+    pub lens: [u8; 9],
 }
 
 // The outcome at a node with no piece.
@@ -32,13 +35,13 @@ fn no_piece(node: usize) -> Outcome
 
 // The outcome where piece k starts: what is left of it is all of it.
 fn store_piece(o: Outcome, k: usize, at: usize) -> Outcome
-    requires { ⌜ k < 9 ⌝ }
+    requires { ⌜ (k < 9) × (at < 256) × (o .rest < 256) ⌝ }
     ensures { λ r. ⌜ r ≡ storePiece k at o ⌝ }
 {
     let mut r = o;
     let n = r.rest;
-    r.starts[k] = at;
-    r.lens[k] = n;
+    r.starts[k] = at as u8;
+    r.lens[k] = n as u8;
     r.rest = 0;
     r
 }
@@ -65,7 +68,7 @@ fn element_at(line: &[u8], end: usize, at: usize) -> u16
 }
 
 // Past the atom at a place of the first `end` bytes of a line, or 0 where there is none.
-fn next_atom(m: Marks, line: &[u8], end: usize, at: usize) -> usize
+fn find_atom(m: Marks, line: &[u8], end: usize, at: usize) -> usize
     requires { ⌜ (at ≤ end) × (end ≤ length (now line)) ⌝ }
     ensures { λ r. ⌜ AtomAt m (take end (now (line .entry))) at r ⌝ }
 {
@@ -133,7 +136,7 @@ fn search_atom(m: Marks, nodes: &[Node], line: &[u8], end: usize, node: usize, a
     if !nodes::has_element(nodes::node_at(nodes, node), 1) {
         return no_piece(0);
     }
-    let e = next_atom(m, line, end, at);
+    let e = find_atom(m, line, end, at);
     if e == 0 {
         return no_piece(0);
     }
@@ -161,6 +164,23 @@ fn no_choice() -> Choice
     }
 }
 
+// Nine bytes as numbers.
+fn wide_nine(a: [u8; 9]) -> [usize; 9]
+    ensures { λ r. ⌜ r ≡ a ⌝ }
+{
+    [
+        wide(a[0]),
+        wide(a[1]),
+        wide(a[2]),
+        wide(a[3]),
+        wide(a[4]),
+        wide(a[5]),
+        wide(a[6]),
+        wide(a[7]),
+        wide(a[8]),
+    ]
+}
+
 // The call of a template.
 fn make_choice(o: Outcome, template: usize) -> Choice
     ensures { λ r. ⌜ r ≡ choiceOf o template ⌝ }
@@ -170,8 +190,8 @@ fn make_choice(o: Outcome, template: usize) -> Choice
     Choice {
         found: true,
         template,
-        starts,
-        lens,
+        starts: wide_nine(starts),
+        lens: wide_nine(lens),
     }
 }
 

@@ -1,136 +1,60 @@
-// Fits each line of a file against the templates of a text: number, template's line, then start and length of nine pieces.
-// Where a file cannot be read it prints one line that says so, and nothing else.
+// Fits each line of a file against the templates of a text: number, template's line, then start and length of nine pieces. Both files are
+// read before anything is printed. Nothing else goes to standard output: a file that cannot be read, one of lines that is too large, other
+// arguments and a failed write have a message on standard error.
+ghost use mathlib.Core.Path.{_≡_};
 ghost use Prim.Native.Nat.{_≤_};
 ghost use lib.ListN.{length};
+ghost use Rattle.model.specs.Printed.{fitPrints};
+use libc::STDERR_FILENO;
 use libc::STDOUT_FILENO;
-use model::Fitted;
+use printed::FILE_MOST;
+use printed::FIT_ROOM;
+use printed::print_fits;
+use source::read_file;
+use source::tell;
 
-fn print_piece(start: u64, length: u64) {
-    io::write_all(STDOUT_FILENO, b" ");
-    io::print_decimal(STDOUT_FILENO, start);
-    io::write_all(STDOUT_FILENO, b" ");
-    io::print_decimal(STDOUT_FILENO, length);
-}
-
-fn print_pieces(start: [u64; 9], length: [u64; 9]) {
-    let mut i = 0;
-    while i < 9 {
-        print_piece(start[i], length[i]);
-        i += 1;
-    }
-}
-
-fn print_row(f: Fitted) {
-    let start = f.start;
-    let length = f.length;
-    io::print_decimal(STDOUT_FILENO, f.number);
-    io::write_all(STDOUT_FILENO, b" ");
-    io::print_decimal(STDOUT_FILENO, f.line);
-    print_pieces(start, length);
-    io::write_all(STDOUT_FILENO, b"\n");
-}
-
-fn print_unreadable(name: &[u8]) {
-    io::write_all(STDOUT_FILENO, b"fit_line: ");
-    io::write_all(STDOUT_FILENO, name);
-    io::write_all(STDOUT_FILENO, b" cannot be read\n");
-}
-
-fn fit_one(text: &[u8], line: &[u8]) {
-    print_row(own_row::fit(text, line));
-}
-
-// The next byte of a line of which n are read: byte 10 ends it. A line that is too long for the buffer keeps its beginning.
-fn see_byte(text: &[u8], line: &mut [u8], n: usize, b: u8) -> usize
-    requires { ⌜ n ≤ length (now line) ⌝ }
-    ensures { λ r. ⌜ r ≤ length (now (line .exit)) ⌝ }
+// Writes what is printed for a text and a file of lines; the caller shows that it is that.
+fn write_printed(text: &[u8], file: &[u8], shown: &[u8]) -> bool
+    requires { ⌜ now shown ≡ fitPrints (now text) (now file) ⌝ }
 {
-    if b == 10 {
-        fit_one(text, &line[0..n]);
-        return 0;
-    }
-    if n < line.len() {
-        line[n] = b;
-        return n + 1;
-    }
-    n
+    io::write_all(STDOUT_FILENO, shown)
 }
 
-fn see_bytes(text: &[u8], line: &mut [u8], n: usize, bytes: &[u8]) -> usize
-    requires { ⌜ n ≤ length (now line) ⌝ }
-    ensures { λ r. ⌜ r ≤ length (now (line .exit)) ⌝ }
+// Fits the lines in room that is lent.
+fn fit_lines(text: &[u8], file: &[u8], out: &mut [u8])
+    requires { ⌜ length (now file) ≤ 65536 ⌝ }
+    requires { ⌜ 2883628 ≤ length (now out) ⌝ }
 {
-    let mut k = n;
-    let mut i = 0;
-    while i < bytes.len() {
-        k = see_byte(text, line, k, bytes[i]);
-        i += 1;
+    let n = print_fits(text, file, out);
+    if !write_printed(text, file, &out[0..n]) {
+        tell(b"fit_line: ", b"standard output", b" cannot be written\n");
     }
-    k
 }
 
-// What a read of the lines comes to: whether it failed, whether it was the last, and how much of a line is left unended.
-struct Turn {
-    ok: bool,
-    more: bool,
-    left: usize,
-}
-
-fn read_lines(text: &[u8], fd: i32, line: &mut [u8], n: usize) -> Turn
-    requires { ⌜ n ≤ length (now line) ⌝ }
-    ensures { λ r. ⌜ r .left ≤ length (now (line .exit)) ⌝ }
+fn lend_room(text: &[u8], file: &[u8])
+    requires { ⌜ length (now file) ≤ 65536 ⌝ }
 {
-    let mut space = [0u8; 65536];
-    let got = source::read_some(fd, &mut space, 0);
-    let k = got.length;
-    Turn {
-        ok: got.ok,
-        more: 0 < k,
-        left: see_bytes(text, line, n, &space[0..k]),
-    }
+    let mut out = [0u8; FIT_ROOM];
+    fit_lines(text, file, &mut out);
 }
 
-// A last line without byte 10 counts if not empty.
-fn fit_last(text: &[u8], line: &[u8]) {
-    if 0 < line.len() {
-        fit_one(text, line);
-    }
-}
-
-// Fits the lines up to the end of the file. Whether no read failed.
-fn fit_lines(text: &[u8], fd: i32, line: &mut [u8]) -> bool {
-    let mut n = 0;
-    let mut turns: u64 = 0;
-    while turns < 18446744073709551615 {
-        let turn = read_lines(text, fd, line, n);
-        if !turn.ok {
-            return false;
-        }
-        n = turn.left;
-        if !turn.more {
-            fit_last(text, &line[0..n]);
-            return true;
-        }
-        turns += 1;
-    }
-    true
-}
-
-// Fits the lines of the file with this name. 201 bytes of a line are enough to see that it is too long.
+// The lines of the file with this name. A byte past the limit is read too, so that a file that is too large is seen to be.
 fn fit_file(text: &[u8], name: &[u8]) {
-    let fd = source::open_file(name);
-    if fd < 0 {
-        print_unreadable(name);
+    let mut file = [0u8; 65537];
+    let got = read_file(name, &mut file);
+    if !got.ok {
+        tell(b"fit_line: ", name, b" cannot be read\n");
         return;
     }
-    let mut line = [0u8; 201];
-    if !fit_lines(text, fd, &mut line) {
-        print_unreadable(name);
+    let n = got.length;
+    if FILE_MOST < n {
+        tell(b"fit_line: ", name, b" has more than 65,536 bytes\n");
+        return;
     }
-    libc::close(fd);
+    lend_room(text, &file[0..n]);
 }
 
-// The file that the second argument names; on Linux no argument is longer than 131,071 bytes.
+// The file of lines is the second argument; on Linux no argument is longer than 131,071 bytes.
 fn fit_second(text: &[u8]) {
     let mut space = [0u8; 131072];
     let n = os::arg(2, &mut space);
@@ -138,11 +62,11 @@ fn fit_second(text: &[u8]) {
 }
 
 // The text of the file with this name. A byte past the limit is read too, so that a text that is too large is seen to be.
-fn read_text(name: &[u8]) {
+fn fit_named(name: &[u8]) {
     let mut text = [0u8; 65537];
-    let got = source::read_file(name, &mut text);
+    let got = read_file(name, &mut text);
     if !got.ok {
-        print_unreadable(name);
+        tell(b"fit_line: ", name, b" cannot be read\n");
         return;
     }
     let n = got.length;
@@ -152,12 +76,12 @@ fn read_text(name: &[u8]) {
 fn main() {
     if os::arg_count() != 3 {
         io::write_all(
-            STDOUT_FILENO,
-            b"fit_line: give the file of the text and the file of the lines\n",
+            STDERR_FILENO,
+            b"fit_line: give the file of a text and the file of the lines\n",
         );
         return;
     }
     let mut space = [0u8; 131072];
     let n = os::arg(1, &mut space);
-    read_text(&space[..n]);
+    fit_named(&space[..n]);
 }

@@ -3,7 +3,7 @@ use mathlib.Core.Path.{_≡_, refl, sym, ap, _∙_, subst}
 use mathlib.Core.List.{List, [], _∷_}
 use Prim.Native.Nat.{ℕ, suc, _+_, _-_, _≤_, min}
 use native.Mathlib.Omega.{arith}
-use lib.ListN.{length, take, drop, replicate, length-drop, length-replicate, drop-of-length-le}
+use lib.ListN.{length, take, drop, length-drop, drop-of-length-le}
 use lib.Seq.{length-take-le, drop-nil}
 use Rattle.model.specs.Text.{Bytes, part, lines}
 use Rattle.scan.specs.Lines.{LineAt}
@@ -11,14 +11,14 @@ use Rattle.buffer.specs.Pasted.{Pasted}
 use Rattle.state.specs.declared.State.{State}
 use Rattle.state.specs.State.{withInput}
 use Rattle.buffer.proofs.Pasted.{front-pasted}
-use Rattle.input.specs.Expands.{Takes, Drops}
+use Rattle.input.specs.Expands.{TakesContent, DropsLines}
 
-pub takes : {text : Bytes} {at end : ℕ} {b : Bytes} → at ≤ end → end ≤ length text → end ≤ at + 200 → Pasted (replicate 200 0) 0 (part text at end) (length (part text at end)) b
-    → Takes text at end (record { len = end - at; bytes = b })
-takes {text} {at} {end} {b} low high short p =
+pub takes : {text : Bytes} {at end : ℕ} {line line′ : Bytes} → at ≤ end → end ≤ length text → end ≤ at + 200 → length line ≡ 200 → Pasted line 0 (part text at end) (length (part text at end)) line′
+    → TakesContent text at end line′
+takes {text} {at} {end} {line} {line′} low high short l p =
     let d = length-drop at text in
     let n : length (part text at end) ≡ end - at = length-take-le (end - at) (drop at text) (omega arith) in
-    record { is = ap (λ (k : ℕ). take k b) (sym n) ∙ front-pasted p (omega (arith, length-replicate {A = ℕ} 200 0)); short = omega arith }
+    record { is = ap (λ (k : ℕ). take k line′) (sym n) ∙ front-pasted p (omega arith) }
 
 -- ---- input lines dropped
 
@@ -35,8 +35,8 @@ dropping-starts h = record { input = refl; lined = refl; from = omega arith; wit
 
 module _ {text : Bytes} {n : ℕ} {s : State} {at line left : ℕ} (d : Dropping text n s at line left) where
   -- where nothing more is to be dropped, or no line is left
-  dropped-at : {s′ : State} → s′ ≡ withInput s at line → drop left (lines (drop at text)) ≡ lines (drop at text) → min left (length (lines (drop at text))) ≡ 0 → Drops text n s s′
-  dropped-at es e z = subst (Drops text n s) (sym es) record {
+  dropped-at : {s′ : State} → s′ ≡ withInput s at line → drop left (lines (drop at text)) ≡ lines (drop at text) → min left (length (lines (drop at text))) ≡ 0 → DropsLines text n s s′
+  dropped-at es e z = subst (DropsLines text n s) (sym es) record {
     is = refl;
     input = sym e ∙ d .input;
     line = omega (arith, d .lined, z);
@@ -45,10 +45,10 @@ module _ {text : Bytes} {n : ℕ} {s : State} {at line left : ℕ} (d : Dropping
     few = d .few;
   }
 
-  pub dropped-all : {s′ : State} → left ≡ 0 → s′ ≡ withInput s at line → Drops text n s s′
+  pub dropped-all : {s′ : State} → left ≡ 0 → s′ ≡ withInput s at line → DropsLines text n s s′
   dropped-all z es = dropped-at es (ap (λ (k : ℕ). drop k (lines (drop at text))) z) (omega arith)
 
-  pub input-ends : {s′ : State} → length text ≤ at → s′ ≡ withInput s at line → Drops text n s s′
+  pub input-ends : {s′ : State} → length text ≤ at → s′ ≡ withInput s at line → DropsLines text n s s′
   unfolding lines
   input-ends h es =
       let none-left : lines (drop at text) ≡ [] = ap lines (drop-of-length-le text h) in

@@ -15,11 +15,11 @@ use Rattle.model.specs.Machine.{running, ended, stateWith, offered, outcome}
 use Rattle.model.proofs.Steps as Steps
 use Rattle.state.specs.declared.State.{State}
 use Rattle.state.specs.State.{sharedOf, stateOf, withInput}
-use Rattle.resume.specs.Results.{endsWith, comesTo, resultOf}
+use Rattle.answer.specs.Answers.{endsWith, comesTo, resultAfter}
 
 module _ (room : ℕ) (m : Marks) (text : Bytes) (t : Loaded) (s : State) (o w : Bytes) where
   -- no line is left
-  pub input-over : lines (drop (s .at) text) ≡ [] → comesTo (s .fuel) room t (running (stateOf text none [] s o w)) ≡ resultOf (endsWith 0 s) o w
+  pub input-over : lines (drop (s .at) text) ≡ [] → comesTo (s .fuel) room t (running (stateOf text none [] s o w)) ≡ resultAfter (endsWith 0 s) o w
   unfolding outcome Machine.resultOf stateWith
   input-over e = ap outcome (Steps.input-done (s .fuel) room t (stateOf text none [] s o w) refl refl e)
 
@@ -42,7 +42,7 @@ module _ (room : ℕ) (m : Marks) (text : Bytes) (t : Loaded) (s : State) (o w :
         ∙ ap (λ (x : Machine.State). comesTo (s .fuel) room t (running x)) reading-is
 
     -- it is too long
-    pub input-long : leb (length c) 200 ≡ false → comesTo (s .fuel) room t (running (stateOf text none [] s o w)) ≡ resultOf (endsWith 11 (withInput s at (s .line + 1))) o w
+    pub input-long : leb (length c) 200 ≡ false → comesTo (s .fuel) room t (running (stateOf text none [] s o w)) ≡ resultAfter (endsWith 11 (withInput s at (s .line + 1))) o w
     unfolding outcome Machine.resultOf
     input-long b =
         ap outcome (Steps.input-long (s .fuel) room t (stateOf text none [] s o w) l (lines (drop at text)) refl refl e (measure-is ∙ b))

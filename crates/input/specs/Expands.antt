@@ -2,28 +2,26 @@
 use mathlib.Core.Path.{_≡_}
 use mathlib.Core.Option.{none}
 use mathlib.Core.List.{List, []}
-use Prim.Native.Nat.{ℕ, _+_, _≤_, min}
-use lib.ListN.{length, drop}
+use Prim.Native.Nat.{ℕ, _+_, _-_, _≤_, min}
+use lib.ListN.{length, take, drop}
 use Rattle.model.specs.declared.Marks.{Marks}
 use Rattle.model.specs.Text.{Bytes, part, lines}
 use Rattle.model.specs.Load.{Loaded}
 use Rattle.model.specs.Machine.{running}
 use Rattle.nodes.specs.declared.Node.{Node}
 use Rattle.state.specs.declared.State.{State}
-use Rattle.state.specs.declared.Line.{Line}
-use Rattle.state.specs.State.{Sound, stateOf, bytesOf, withInput}
-use Rattle.write.specs.Output.{Extends}
+use Rattle.state.specs.State.{Sound, stateOf, withInput}
+use Rattle.answer.specs.declared.Answer.{Answer}
+use Rattle.answer.specs.Answers.{comesTo, resultAfter}
+use Rattle.answer.specs.Kept.{Extends}
 use Rattle.matching.specs.Book.{Book}
-use Rattle.resume.specs.declared.Res.{Res}
-use Rattle.resume.specs.Results.{comesTo, resultOf}
 
--- l is the content text[at..end]
-pub record Takes (text : Bytes) (at end : ℕ) (l : Line) : Type 0 where
-  pub is : bytesOf l ≡ part text at end
-  pub short : l .len ≤ 200
+-- the content text[at..end] is at the front of the line
+pub record TakesContent (text : Bytes) (at end : ℕ) (line : Bytes) : Type 0 where
+  pub is : take (end - at) line ≡ part text at end
 
 -- n input lines are dropped, or all that are left
-pub record Drops (text : Bytes) (n : ℕ) (s s′ : State) : Type 0 where
+pub record DropsLines (text : Bytes) (n : ℕ) (s s′ : State) : Type 0 where
   pub is : s′ ≡ withInput s (s′ .at) (s′ .line)
   pub input : lines (drop (s′ .at) text) ≡ drop n (lines (drop (s .at) text))
   pub line : s′ .line ≡ s .line + min n (length (lines (drop (s .at) text)))
@@ -31,9 +29,10 @@ pub record Drops (text : Bytes) (n : ℕ) (s s′ : State) : Type 0 where
   pub within : s′ .at ≤ length text
   pub few : s′ .line + s .at ≤ s .line + s′ .at
 
--- r is the expansion's result
-pub record Expands (m : Marks) (text : Bytes) (row : List Node) (bodies : List ℕ) (s : State) (output memory : Bytes) (r : Res) (output′ memory′ : Bytes) : Type 0 where
+-- r ends the run with the expansion's result. `row` and `bodies` are the nodes and where the bodies start, s output memory are the state, output
+-- and memory before, and output′ memory′ those after
+pub record Expands (m : Marks) (text : Bytes) (row : List Node) (bodies : List ℕ) (s : State) (output memory : Bytes) (r : Answer) (output′ memory′ : Bytes) : Type 0 where
   pub sound : Sound (r .state) output′ memory′
   pub extends : Extends output (s .written) output′ (r .state .written)
   pub same : (t : Loaded) → Book m text row bodies t
-      → comesTo (s .fuel) (length output) t (running (stateOf text none [] s output memory)) ≡ resultOf r output′ memory′
+      → comesTo (s .fuel) (length output) t (running (stateOf text none [] s output memory)) ≡ resultAfter r output′ memory′

@@ -1,35 +1,37 @@
 // The run over the input, line by line (document 01, "Events, store and result").
 ghost use mathlib.Core.Path.{_≡_};
+ghost use mathlib.Core.Option.{some};
+ghost use mathlib.Core.List.{[]};
 ghost use Prim.Native.Nat.{_+_, _≤_};
 ghost use lib.ListN.{length};
+ghost use Rattle.model.specs.Text.{part};
 ghost use Rattle.state.specs.State.{Sound};
 ghost use Rattle.matching.specs.Book.{Prepared};
-ghost use Rattle.input.specs.Expands.{Takes, Drops, Expands};
+ghost use Rattle.cycle.specs.Meets.{Meets};
+ghost use Rattle.input.specs.Expands.{TakesContent, DropsLines, Expands};
+ghost use Rattle.model.specs.Limits.{textMost, lineMost, fuelMost};
+use answer::Answer;
+use answer::end_with;
+use answer::is_end;
+use answer::lines_back;
 use cycle::offer;
+use model::LINE_MOST;
 use model::Marks;
 use nodes::Node;
-use resume::Res;
-use resume::end_with;
-use state::Line;
 use state::State;
 
-// The content text[at..end] as a line.
-fn take_line(text: &[u8], at: usize, end: usize) -> Line
-    requires { ⌜ (at ≤ end) × (end ≤ length (now text)) × (end ≤ at + 200) ⌝ }
-    ensures { λ r. ⌜ Takes (now (text .entry)) at end r ⌝ }
+// The content text[at..end] goes to the front of 200 bytes.
+fn take_line(text: &[u8], at: usize, end: usize, line: &mut [u8])
+    requires { ⌜ (at ≤ end) × (end ≤ length (now text)) × (end ≤ at + lineMost) × (length (now line) ≡ lineMost) ⌝ }
+    ensures { λ _. ⌜ TakesContent (now (text .entry)) at end (now (line .exit)) ⌝ }
 {
-    let mut bytes = [0u8; 200];
-    buffer::copy(&mut bytes, 0, &text[at..end]);
-    Line {
-        len: end - at,
-        bytes,
-    }
+    buffer::copy(line, 0, &text[at..end]);
 }
 
 // Drops n input lines, or all that are left: they are read and not measured.
 fn drop_lines(text: &[u8], n: usize, s: State) -> State
-    requires { ⌜ (s .at ≤ length (now text)) × (s .line + length (now text) ≤ 1000000) ⌝ }
-    ensures { λ r. ⌜ Drops (now (text .entry)) n s r ⌝ }
+    requires { ⌜ (s .at ≤ length (now text)) × (s .line + length (now text) ≤ fuelMost) ⌝ }
+    ensures { λ r. ⌜ DropsLines (now (text .entry)) n s r ⌝ }
 {
     let mut at = s.at;
     let mut line = s.line;
@@ -46,8 +48,31 @@ fn drop_lines(text: &[u8], n: usize, s: State) -> State
     state::set_input(s, at, line)
 }
 
+// Offers the content text[at..end], with no call open.
+fn offer_content(
+    m: Marks,
+    text: &[u8],
+    nodes: &[Node],
+    bodies: &[usize],
+    output: &mut [u8],
+    memory: &mut [u8],
+    at: usize,
+    end: usize,
+    s: State,
+) -> Answer
+    requires { ⌜ Prepared m (now text) (now nodes) (now bodies) × Sound s (now output) (now memory)
+        × (at ≤ end) × (end ≤ length (now text)) × (end ≤ at + lineMost) ⌝ }
+    ensures { λ r. ⌜ Meets m (now (text .entry)) (now (nodes .entry)) (now (bodies .entry)) (some (part (now (text .entry)) at end)) []
+        0 s (now (output .entry)) (now (memory .entry)) r (now (output .exit)) (now (memory .exit)) ⌝ }
+{
+    let mut line = [0u8; LINE_MOST];
+    take_line(text, at, end, &mut line);
+    let n = end - at;
+    offer(m, text, nodes, bodies, output, memory, &line, n, 0, s)
+}
+
 // Expands the input that is left, from the names in memory on.
-pub fn expand(
+pub fn expand_input(
     m: Marks,
     text: &[u8],
     nodes: &[Node],
@@ -55,9 +80,11 @@ pub fn expand(
     output: &mut [u8],
     memory: &mut [u8],
     s: State,
-) -> Res
-    requires { ⌜ Prepared m (now text) (now nodes) (now bodies) × Sound s (now output) (now memory) × (s .at ≤ length (now text)) × (s .line ≤ 65536) ⌝ }
-    ensures { λ r. ⌜ Expands m (now (text .entry)) (now (nodes .entry)) (now (bodies .entry)) s (now (output .entry)) (now (memory .entry)) r (now (output .exit)) (now (memory .exit)) ⌝ }
+) -> Answer
+    requires { ⌜ Prepared m (now text) (now nodes) (now bodies) × Sound s (now output) (now memory)
+        × (s .at ≤ length (now text)) × (s .line ≤ textMost) ⌝ }
+    ensures { λ r. ⌜ Expands m (now (text .entry)) (now (nodes .entry)) (now (bodies .entry)) s
+        (now (output .entry)) (now (memory .entry)) r (now (output .exit)) (now (memory .exit)) ⌝ }
 {
     let mut st = s;
     while st.at < text.len() {
@@ -65,16 +92,16 @@ pub fn expand(
         let content = scan::read_content(text, m.source, at);
         let end = content.end;
         let t = state::set_input(st, content.next, st.line + 1);
-        if 200 < end - at {
+        if LINE_MOST < end - at {
             return end_with(11, t);
         }
-        let line = take_line(text, at, end);
-        let r = offer(m, text, nodes, bodies, output, memory, line, 0, t);
-        if r.ended {
+        let r = offer_content(m, text, nodes, bodies, output, memory, at, end, t);
+        if is_end(r) {
             return r;
         }
+        let n = lines_back(r);
         let z = r.state;
-        st = drop_lines(text, r.skip, z);
+        st = drop_lines(text, n, z);
     }
     end_with(0, st)
 }

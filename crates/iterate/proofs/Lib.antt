@@ -1,4 +1,5 @@
 -- The laws of iterations.
 pub mod Iterations
+pub mod Texts
 pub mod Passes
 pub mod Repeats

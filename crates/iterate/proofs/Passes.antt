@@ -1,184 +1,252 @@
--- Passes of iterations, by the calls that they make. Assumes nothing.
-use mathlib.Core.Path.{_≡_, refl, sym, ap, _∙_}
-use mathlib.Core.Bool.{true, false}
+-- Passes of iterations, by the calls that they make.
+use mathlib.Core.Path.{_≡_, refl, sym, ap, ap₂, subst, _∙_}
+use mathlib.Core.Bool.{Bool, true, false}
 use mathlib.Core.Option.{Option}
 use mathlib.Core.List.{List, [], _∷_}
 use Prim.Native.Nat.{ℕ, suc, _+_, _-_, _*_, _≤_, _<_}
 use native.Mathlib.Omega.{arith}
-use lib.ListN.{length, drop, length-take, length-drop}
+use lib.ListN.{length, set, drop}
 use Rattle.model.specs.declared.Marks.{Marks}
 use Rattle.model.specs.Text.{Bytes, part}
 use Rattle.model.specs.Load.{bodyAt}
 use Rattle.model.specs.Machine.{Loop, byPieces, byCount, Frame, Shared, continues, param, withParam, resumeAt, Piece, passOf, takePass, nextPass, endPass}
-use Rattle.model.proofs.Text.{part-length, part-most, part-rest, part-empty}
+use Rattle.model.proofs.Text.{part-length, part-long, part-empty}
 use Rattle.pass.specs.declared.Taken.{Taken}
 use Rattle.pass.specs.Pass.{delimiterOf, Takes}
 use Rattle.pass.proofs.Pieces.{piece-taken, piece-lacking}
-use Rattle.call.specs.declared.Held.{Held}
-use Rattle.call.specs.declared.Iteration.{Iteration}
-use Rattle.call.specs.declared.Call.{Call}
-use Rattle.call.specs.Call.{textOf, Holds, Measures, iteration, loopOf, loopsOf, frameOf, PlacedLoop, Placed}
-use Rattle.call.specs.Params.{Lies, Sets}
+use Rattle.call.specs.declared.Head.{Head}
+use Rattle.call.specs.Call.{Iteration, iteration, textsAt, restOf, oldOf, loopOf, loopsOf, Laid, laid, frameOf, PlacedLoop, Placed}
+use Rattle.call.specs.Params.{Sets, withDelimiter, Delimits}
 use Rattle.call.proofs.Loops.{loop-count, loop-pieces, loops-top}
-use Rattle.iterate.specs.declared.Passing.{Passing}
-use Rattle.iterate.specs.Iterate.{passStep, Enters, Exits, withDelimiter, Delimits, passed, SetsPass, Passes, StartsPass, EndsCount, EndsPiece, EndsPass}
+use Rattle.iterate.specs.Iterate.{passStep, iterationOf, withRest, Numbers, PassesAt, passed, SetsPass, Passes, OpensPass, StartsPass, EndsCount, EndsPiece, EndsPass}
+use Rattle.iterate.proofs.Iterations.{before-set, iteration-left, bytes-same, loops-before, frame-before, placed-before, frame-enters, placed-enters}
+use Rattle.iterate.proofs.Texts.{line-from, old-at, texts-long, piece-at}
+
+-- ---- set_pass
+
+pub sets-pass : {c : Head} {nums : List ℕ} {bytes : Bytes} {i : ℕ} {piece : Bytes} {delimiter rest : ℕ} {nums₁ nums₂ : List ℕ} {bytes₂ : Bytes} {nums₃ : List ℕ}
+    → i < 4 → 1 ≤ iteration nums i .param → length nums ≡ 50 → length bytes ≡ 3400 → Numbers nums i (withRest (iteration nums i) rest) nums₁
+    → Sets nums₁ bytes (iteration nums i .param) piece nums₂ bytes₂
+    → Delimits nums₂ (iteration nums i .param) delimiter nums₃
+    → SetsPass (laid c nums bytes) i piece delimiter rest (laid (record { number = c .number; next = iteration nums i .after; depth = i + 1 }) nums₃ bytes₂)
+unfolding resumeAt withParam withDelimiter
+sets-pass {c} {nums} {bytes} {i} {piece} {delimiter} {rest} {nums₁} {nums₂} {bytes₂} {nums₃} small some l b mv st dl =
+    let x : Iteration = iteration nums i in
+    let r : Head = record { number = c .number; next = x .after; depth = i + 1 } in
+    record {
+      frame = λ m text.
+          let ls : List Loop = loopsOf m text nums bytes i in
+          let after : List Bytes = bodyAt m text (x .after) in
+          let loop : loopOf m text (textsAt bytes i) (iteration nums₁ i) ≡ byPieces (x .param) (part (textsAt bytes i) rest (x .to)) (part text (x .list) (x .end)) (oldOf (textsAt bytes i) x) after =
+          ap (λ (z : Iteration). loopOf m text (textsAt bytes i) z) (mv .is) ∙ loop-pieces m text (textsAt bytes i) (withRest x rest) (λ z. omega arith) in
+          dl .frame m text r bytes₂
+          ∙ ap (λ (f : Frame). withDelimiter f (x .param) (delimiterOf delimiter))
+          (st .frame m text r
+          ∙ ap (λ (f : Frame). withParam f (x .param) piece)
+          (frame-enters (mv .before) (bytes-same bytes i) l b (omega arith) m text c (x .after) ∙ ap (λ (l : Loop). resumeAt (frameOf m text (laid c nums bytes)) (l ∷ ls) after) loop));
+      placed = λ text p h u.
+          let q = h .placed in
+          dl .placed text r bytes₂ (st .placed text r (placed-enters (mv .before) (bytes-same bytes i) l b (omega arith) text c (x .after) p small (h .within)
+          (subst (λ (z : Iteration). PlacedLoop text z) (sym (mv .is)) (record { param = q .param; after = q .after; list = q .list; end = q .end; from = u; to = q .to; old = q .old })) (q .after)));
+    }
 
 -- ---- take_pass
 
--- the ed7 x with another rest
-abbrev pub withRest : Iteration → Held → Iteration
-withRest x h = record { param = x .param; after = x .after; left = x .left; list = x .list; end = x .end; rest = h; old = x .old }
+module _ {m : Marks} {text : Bytes} {c : Head} {nums : List ℕ} {bytes : Bytes} {i : ℕ} {t : Taken} (p : Placed text (laid c nums bytes)) (h : PassesAt text c nums i)
+    (k : Takes m (part bytes (1800 + 400 * i) (1800 + 400 * i + iteration nums i .to)) (iteration nums i .from) (part text (iteration nums i .list) (iteration nums i .end)) t) where
+  line-long : length (part bytes (1800 + 400 * i) (1800 + 400 * i + iteration nums i .to)) ≡ iteration nums i .to
+  line-long = let a = h .place in let b = h .placed .to in let l = p .bytes in part-long bytes (1800 + 400 * i) (iteration nums i .to) (omega arith)
 
-pub sets-pass : {c : Call} {i : ℕ} {x : Iteration} {piece : Bytes} {delimiter : ℕ} {rest : Bytes} {h : Held} {a b r : Call} → 1 ≤ x .param
-    → Holds rest h → Enters c i (withRest x h) a → Sets a (x .param) piece b → Delimits b (x .param) delimiter r → SetsPass c i x piece delimiter rest r
-unfolding resumeAt withParam withDelimiter
-sets-pass {c} {i} {x} {piece} {delimiter} {rest} {h} {a} {b} {r} l held en st dl = record {
-  frame = λ m text.
-      let ls : List Loop = loopsOf m text (c .iterations) i in
-      let after : List Bytes = bodyAt m text (x .after) in
-      let loop : loopOf m text (withRest x h) ≡ byPieces (x .param) rest (part text (x .list) (x .end)) (textOf (x .old)) after =
-      loop-pieces m text (withRest x h) (λ z. omega arith) ∙ ap (λ (s : Bytes). byPieces (x .param) s (part text (x .list) (x .end)) (textOf (x .old)) after) (held .is) in
-      dl .frame m text
-      ∙ ap (λ (f : Frame). withDelimiter f (x .param) (delimiterOf delimiter))
-      (st .frame m text ∙ ap (λ (f : Frame). withParam f (x .param) piece) (en .frame m text ∙ ap (λ (l : Loop). resumeAt (frameOf m text c) (l ∷ ls) after) loop));
-  placed = λ text p q. dl .placed text (st .placed text (en .placed text p (record { param = q .param; after = q .after; list = q .list; end = q .end })));
-}
+  -- what the pass takes from
+  taken-from : (x : Option Piece) → passOf m (part text (iteration nums i .list) (iteration nums i .end))
+      (drop (iteration nums i .from) (part bytes (1800 + 400 * i) (1800 + 400 * i + iteration nums i .to))) ≡ x
+      → passOf m (part text (iteration nums i .list) (iteration nums i .end)) (restOf (textsAt bytes i) (iteration nums i)) ≡ x
+  taken-from x e = ap (λ (s : Bytes). passOf m (part text (iteration nums i .list) (iteration nums i .end)) s)
+      (sym (line-from bytes i (iteration nums i .to) (iteration nums i .from) (h .placed .to))) ∙ e
 
-module _ {m : Marks} {text : Bytes} {c : Call} {i : ℕ} {x : Iteration} {line : Bytes} {t : Taken} (k : Takes m line 0 (part text (x .list) (x .end)) t) where
-  pub pass-fails : t .ok ≡ false → Placed text c → Passes m text c i x line (record { ok = false; call = c })
+  pub pass-fails : t .ok ≡ false → Passes m text (laid c nums bytes) i false (laid c nums bytes)
   unfolding takePass passStep
-  pass-fails e p = record {
-    step = λ w.
-        ap (λ (o : Option Piece). takePass (x .param) o (part text (x .list) (x .end)) (textOf (x .old)) (bodyAt m text (x .after)) (loopsOf m text (c .iterations) i) (frameOf m text c) w)
-        (k .is ∙ piece-lacking line 0 t e);
-    placed = p;
-  }
-
-  pub pass-goes-on : {r : Call} → t .ok ≡ true → Placed text c → PlacedLoop text x
-      → SetsPass c i x (part line 0 (t .end)) (t .delimiter) (part line (t .rest) (length line)) r → Passes m text c i x line (record { ok = true; call = r })
-  unfolding takePass passStep
-  pass-goes-on {r} e p q s =
-      let frame : frameOf m text r ≡ passed m text c i x (part line 0 (t .end)) (delimiterOf (t .delimiter)) (drop (t .rest) line) =
-      s .frame m text ∙ ap (λ (l : Bytes). passed m text c i x (part line 0 (t .end)) (delimiterOf (t .delimiter)) l) (part-rest line (t .rest)) in
+  pass-fails e =
+      let x : Iteration = iteration nums i in
       record {
         step = λ w.
-            ap (λ (o : Option Piece). takePass (x .param) o (part text (x .list) (x .end)) (textOf (x .old)) (bodyAt m text (x .after)) (loopsOf m text (c .iterations) i) (frameOf m text c) w)
-            (k .is ∙ piece-taken line 0 t e)
-            ∙ ap (λ (f : Frame). continues f w) (sym frame);
-        placed = s .placed text p q;
+            ap (λ (o : Option Piece). takePass (x .param) o (part text (x .list) (x .end)) (oldOf (textsAt bytes i) x) (bodyAt m text (x .after)) (loopsOf m text nums bytes i)
+            (frameOf m text (laid c nums bytes)) w)
+            (taken-from _ (k .is ∙ piece-lacking _ _ t e));
+        placed = p;
       }
 
--- what set_pass asks
-pub piece-short : {m : Marks} {line list : Bytes} {t : Taken} → Takes m line 0 list t → length line ≤ 200 → (length (part line 0 (t .end)) ≤ 200) × (length (part line (t .rest) (length line)) ≤ 200)
-piece-short {m} {line} {list} {t} k h =
-    let a = part-rest line (t .rest) in
-    (omega (arith, length-take (t .end - 0) line), omega (arith, ap (λ (s : Bytes). length s) a, length-drop (t .rest) line))
+  pub pass-goes-on : {r : Laid} → t .ok ≡ true
+      → SetsPass (laid c nums bytes) i (part bytes (1800 + 400 * i + iteration nums i .from) (1800 + 400 * i + iteration nums i .from + (t .end - iteration nums i .from))) (t .delimiter) (t .rest) r
+      → Passes m text (laid c nums bytes) i true r
+  unfolding takePass passStep
+  pass-goes-on {r} e s =
+      let x : Iteration = iteration nums i in
+      let line : Bytes = part bytes (1800 + 400 * i) (1800 + 400 * i + x .to) in
+      let l = line-long in
+      let high = k .high in
+      let within = k .within in
+      let frame : frameOf m text r ≡ passed m text (laid c nums bytes) i (part line (x .from) (t .end)) (delimiterOf (t .delimiter)) (drop (t .rest) line) =
+      s .frame m text
+      ∙ ap₂ (λ (a b : Bytes). passed m text (laid c nums bytes) i a (delimiterOf (t .delimiter)) b) (piece-at bytes (1800 + 400 * i) (x .to) (x .from) (t .end) (k .low) (omega arith))
+      (sym (line-from bytes i (x .to) (t .rest) (h .placed .to))) in
+      record {
+        step = λ w.
+            ap (λ (o : Option Piece). takePass (x .param) o (part text (x .list) (x .end)) (oldOf (textsAt bytes i) x) (bodyAt m text (x .after)) (loopsOf m text nums bytes i)
+            (frameOf m text (laid c nums bytes)) w)
+            (taken-from _ (k .is ∙ piece-taken line (x .from) t e))
+            ∙ ap (λ (f : Frame). continues f w) (sym frame);
+        placed = s .placed text p h (omega arith);
+      }
 
 -- ---- start_pass
 
-pub starts-pass : {m : Marks} {text : Bytes} {c : Call} {d : ℕ} {line : Bytes} {list end n : ℕ} {h : Held} {r : Passing} → Lies c d n
-    → Holds (part (c .bytes) (200 * (d - 1)) (200 * (d - 1) + n)) h
-    → Passes m text c (c .depth) (record { param = d; after = c .next; left = 0; list = list; end = end; rest = h; old = h }) line r
-    → StartsPass m text c d line list end r
-starts-pass {m} {text} {c} {d} {line} {list} {end} {n} {h} {r} l e p = record {
-  step = λ w.
-      ap (λ (old : Bytes). takePass d (passOf m (part text list end) line) (part text list end) old (frameOf m text c .next) (frameOf m text c .loops) (frameOf m text c) w)
-      (l .is m text ∙ sym (e .is)) ∙ p .step w;
-  placed = p .placed;
-}
+module _ {text : Bytes} {c : Head} {nums : List ℕ} {bytes : Bytes} {d : ℕ} {line : Bytes} {list end : ℕ} {nums′ : List ℕ} {bytes′ : Bytes}
+    (o : OpensPass c nums bytes d line list end nums′ bytes′) (p : Placed text (laid c nums bytes)) (u : c .depth < 4) where
+  -- what take_pass asks
+  pub starts-placed : Placed text (laid c nums′ bytes′)
+  starts-placed = placed-before (o .numbers .before) (o .texts .before) (p .nums) (p .bytes) (omega arith) text c (omega arith) p
+
+  pub starts-pieces : 1 ≤ d → d ≤ 9 → list ≤ end → end ≤ length text → length line ≤ 200 → PassesAt text c nums′ (c .depth)
+  starts-pieces a b e f g =
+      let q = p .next in
+      record {
+        place = u;
+        within = omega arith;
+        param = subst (λ (z : Iteration). 1 ≤ z .param) (sym (o .numbers .is)) a;
+        placed = subst (λ (z : Iteration). PlacedLoop text z) (sym (o .numbers .is)) (record { param = b; after = q; list = e; end = f; from = omega arith; to = g; old = o .old .short });
+      }
+
+  pub starts-pass : {m : Marks} {ok : Bool} {r : Laid} → Passes m text (laid c nums′ bytes′) (c .depth) ok r → StartsPass m text (laid c nums bytes) d line list end ok r
+  starts-pass {m} {ok} {r} s =
+      let i : ℕ = c .depth in
+      let x = o .numbers in
+      let v = o .texts in
+      let y : Iteration = iterationOf d (c .next) 0 list end (length line) (o .n) in
+      let frame : frameOf m text (laid c nums′ bytes′) ≡ frameOf m text (laid c nums bytes) = frame-before (x .before) (v .before) (p .nums) (p .bytes) (omega arith) m text c (omega arith) in
+      let loops : loopsOf m text nums′ bytes′ i ≡ loopsOf m text nums bytes i = loops-before (x .before) (v .before) (p .nums) (p .bytes) (omega arith) m text i (omega arith) in
+      let old : param (frameOf m text (laid c nums bytes)) d ≡ oldOf (textsAt bytes′ i) y = o .old .is m text c bytes ∙ sym (v .old) in
+      record {
+        step = λ w.
+            ap₂ (λ (rest old : Bytes). takePass d (passOf m (part text list end) rest) (part text list end) old (bodyAt m text (c .next)) (loopsOf m text nums bytes i)
+            (frameOf m text (laid c nums bytes)) w) (sym (v .rest)) old
+            ∙ ap₂ (λ (ls : List Loop) (f : Frame). takePass d (passOf m (part text list end) (restOf (textsAt bytes′ i) y)) (part text list end) (oldOf (textsAt bytes′ i) y)
+            (bodyAt m text (c .next)) ls f w) (sym loops) (sym frame)
+            ∙ ap (λ (z : Iteration). takePass (z .param) (passOf m (part text (z .list) (z .end)) (restOf (textsAt bytes′ i) z)) (part text (z .list) (z .end)) (oldOf (textsAt bytes′ i) z)
+            (bodyAt m text (z .after)) (loopsOf m text nums′ bytes′ i) (frameOf m text (laid c nums′ bytes′)) w) (sym (x .is))
+            ∙ s .step w;
+        placed = s .placed;
+      }
 
 -- ---- end_count
 
-module _ {c : Call} {i : ℕ} {x : Iteration} {r : Call} where
-  pub count-ends : x .left ≡ 0 → Exits c i r → EndsCount c i x r
-  unfolding endPass
-  count-ends e o = record {
-    step = λ m text w.
-        ap (λ (n : ℕ). endPass m (byCount n (bodyAt m text (x .after)) ∷ loopsOf m text (c .iterations) i) (frameOf m text c) w) e ∙ ap (λ (f : Frame). continues f w) (sym (o .frame m text));
-    placed = λ text p q. o .placed text p;
+module _ {c : Head} {nums : List ℕ} {i : ℕ} (h : i < 4) (l : length nums ≡ 50) where
+  pub count-ends : iteration nums i .left ≡ 0 → EndsCount c nums i (record { number = c .number; next = c .next; depth = i }) nums
+  unfolding endPass resumeAt
+  count-ends e = record {
+    step = λ m text bytes w b. ap (λ (n : ℕ). endPass m (byCount n (bodyAt m text (iteration nums i .after)) ∷ loopsOf m text nums bytes i) (frameOf m text (laid c nums bytes)) w) e;
+    placed = λ text bytes p u. record { number = p .number; next = p .next; depth = omega arith; nums = l; bytes = p .bytes; iterations = λ j v. p .iterations j (omega arith) };
   }
 
-  pub count-goes-on : ¬ (x .left ≡ 0) → x .param ≡ 0
-      → Enters c i (record { param = x .param; after = x .after; left = x .left - 1; list = x .list; end = x .end; rest = x .rest; old = x .old }) r → EndsCount c i x r
+  pub count-goes-on : (iteration nums i .left ≡ 0 → ⊥) → iteration nums i .param ≡ 0
+      → EndsCount c nums i (record { number = c .number; next = iteration nums i .after; depth = i + 1 }) (set nums (18 + 8 * i + 2) (iteration nums i .left - 1))
   unfolding endPass
-  count-goes-on h e o =
-      let z : x .left ≡ suc (x .left - 1) = omega arith in
+  count-goes-on ne e =
+      let x : Iteration = iteration nums i in
+      let v : ℕ = x .left - 1 in
+      let z : x .left ≡ suc v = omega arith in
+      let y : Iteration = record { param = x .param; after = x .after; left = v; list = x .list; end = x .end; from = x .from; to = x .to; old = x .old } in
+      let now : iteration (set nums (18 + 8 * i + 2) v) i ≡ y = iteration-left nums i v h l in
+      let before = before-set nums i (18 + 8 * i + 2) v (omega arith) in
       record {
-        step = λ m text w.
-            ap (λ (n : ℕ). endPass m (byCount n (bodyAt m text (x .after)) ∷ loopsOf m text (c .iterations) i) (frameOf m text c) w) z
-            ∙ ap (λ (f : Frame). continues f w) (sym (o .frame m text ∙ ap (λ (l : Loop). resumeAt (frameOf m text c) (l ∷ loopsOf m text (c .iterations) i) (bodyAt m text (x .after))) (loop-count m text _ e)));
-        placed = λ text p q. o .placed text p (record { param = q .param; after = q .after; list = q .list; end = q .end });
+        step = λ m text bytes w b.
+            let ls : List Loop = loopsOf m text nums bytes i in
+            let after : List Bytes = bodyAt m text (x .after) in
+            let loop : loopOf m text (textsAt bytes i) (iteration (set nums (18 + 8 * i + 2) v) i) ≡ byCount v after =
+            ap (λ (k : Iteration). loopOf m text (textsAt bytes i) k) now ∙ loop-count m text (textsAt bytes i) y e in
+            ap (λ (n : ℕ). endPass m (byCount n after ∷ ls) (frameOf m text (laid c nums bytes)) w) z
+            ∙ ap (λ (f : Frame). continues f w)
+            (sym (frame-enters before (bytes-same bytes i) l b (omega arith) m text c (x .after) ∙ ap (λ (k : Loop). resumeAt (frameOf m text (laid c nums bytes)) (k ∷ ls) after) loop));
+        placed = λ text bytes p u.
+            let q = p .iterations i u in
+            placed-enters before (bytes-same bytes i) l (p .bytes) (omega arith) text c (x .after) p h (omega arith)
+            (subst (λ (k : Iteration). PlacedLoop text k) (sym now) (record { param = q .param; after = q .after; list = q .list; end = q .end; from = q .from; to = q .to; old = q .old })) (q .after);
       }
 
 -- ---- end_piece
 
-pub measured-short : {h : Held} {n : ℕ} → Measures h n → length (part (h .bytes) 0 n) ≤ 200
-measured-short {h} {n} k = omega (arith, k .short, part-most (h .bytes) 0 n)
-
-next-some : (m : Marks) (d : ℕ) (s ds old : Bytes) (after : List Bytes) (ls : List Loop) (f : Frame) (w : Shared) → 0 < length s → nextPass m d s ds old after ls f w ≡ takePass d (passOf m ds s) ds old after ls f w
+next-some : (m : Marks) (d : ℕ) (s ds old : Bytes) (after : List Bytes) (ls : List Loop) (f : Frame) (w : Shared) → 0 < length s
+    → nextPass m d s ds old after ls f w ≡ takePass d (passOf m ds s) ds old after ls f w
 unfolding nextPass
 next-some m d [] ds old after ls f w h = absurd (omega arith)
 next-some m d (b ∷ s) ds old after ls f w h = refl
 
-module _ {m : Marks} {text : Bytes} {c : Call} {i : ℕ} {x : Iteration} where
-  pub piece-goes-on : {n : ℕ} {r : Passing} → Measures (x .rest) n → 0 < n → Passes m text c i x (part (x .rest .bytes) 0 n) r → EndsPiece m text c i x r
-  piece-goes-on {n} {r} k h p =
-      let z : length (textOf (x .rest)) ≡ n - 0 = ap (λ (s : Bytes). length s) (sym (k .is)) ∙ part-length (x .rest .bytes) 0 n (k .within) in
+module _ {m : Marks} {text : Bytes} {c : Head} {nums : List ℕ} {bytes : Bytes} {i : ℕ} (p : Placed text (laid c nums bytes)) (h : PassesAt text c nums i) where
+  pub piece-goes-on : {ok : Bool} {r : Laid} → iteration nums i .from < iteration nums i .to → Passes m text (laid c nums bytes) i ok r → EndsPiece m text (laid c nums bytes) i ok r
+  piece-goes-on u s =
+      let x : Iteration = iteration nums i in
+      let long = texts-long bytes i (h .place) (p .bytes) in
+      let b = h .placed .to in
+      let z = part-length (textsAt bytes i) (x .from) (x .to) (omega arith) in
       record {
-        step = λ w.
-            next-some m (x .param) (textOf (x .rest)) (part text (x .list) (x .end)) (textOf (x .old)) (bodyAt m text (x .after)) (loopsOf m text (c .iterations) i) (frameOf m text c) w (omega arith)
-            ∙ ap (λ (s : Bytes). takePass (x .param) (passOf m (part text (x .list) (x .end)) s) (part text (x .list) (x .end)) (textOf (x .old)) (bodyAt m text (x .after)) (loopsOf m text (c .iterations) i) (frameOf m text c) w) (sym (k .is))
-            ∙ p .step w;
-        placed = p .placed;
+        step = λ w. next-some m (x .param) (restOf (textsAt bytes i) x) (part text (x .list) (x .end)) (oldOf (textsAt bytes i) x) (bodyAt m text (x .after)) (loopsOf m text nums bytes i)
+            (frameOf m text (laid c nums bytes)) w (omega arith)
+            ∙ s .step w;
+        placed = s .placed;
       }
 
-  pub piece-ends : {n k : ℕ} {a r : Call} → Measures (x .rest) n → n ≤ 0 → Placed text c → Exits c i a → Measures (x .old) k → Sets a (x .param) (part (x .old .bytes) 0 k) r
-      → EndsPiece m text c i x (record { ok = true; call = r })
+  pub piece-ends : {nums′ : List ℕ} {bytes′ : Bytes} → iteration nums i .to ≤ iteration nums i .from
+      → Sets nums bytes (iteration nums i .param) (part bytes (2000 + 400 * i) (2000 + 400 * i + iteration nums i .old)) nums′ bytes′
+      → EndsPiece m text (laid c nums bytes) i true (laid (record { number = c .number; next = c .next; depth = i }) nums′ bytes′)
   unfolding nextPass passStep resumeAt withParam
-  piece-ends {n} {k} {a} {r} s h p o v t =
-      let empty : textOf (x .rest) ≡ [] = sym (s .is) ∙ part-empty (x .rest .bytes) 0 n h in
-      let frame : frameOf m text r ≡ resumeAt (withParam (frameOf m text c) (x .param) (textOf (x .old))) (loopsOf m text (c .iterations) i) (frameOf m text c .next) =
-      t .frame m text ∙ ap (λ (f : Frame). withParam f (x .param) (part (x .old .bytes) 0 k)) (o .frame m text)
-      ∙ ap (λ (s : Bytes). withParam (resumeAt (frameOf m text c) (loopsOf m text (c .iterations) i) (frameOf m text c .next)) (x .param) s) (v .is) in
+  piece-ends {nums′} {bytes′} u st =
+      let x : Iteration = iteration nums i in
+      let r : Head = record { number = c .number; next = c .next; depth = i } in
+      let a = h .place in
+      let b = h .within in
       record {
         step = λ w.
-            ap (λ (s : Bytes). nextPass m (x .param) s (part text (x .list) (x .end)) (textOf (x .old)) (bodyAt m text (x .after)) (loopsOf m text (c .iterations) i) (frameOf m text c) w) empty
-            ∙ ap (λ (f : Frame). continues f w) (sym frame);
-        placed = t .placed text (o .placed text p);
+            ap (λ (s : Bytes). nextPass m (x .param) s (part text (x .list) (x .end)) (oldOf (textsAt bytes i) x) (bodyAt m text (x .after)) (loopsOf m text nums bytes i)
+            (frameOf m text (laid c nums bytes)) w) (part-empty (textsAt bytes i) (x .from) (x .to) u)
+            ∙ ap (λ (f : Frame). continues f w)
+            (sym (st .frame m text r ∙ ap (λ (s : Bytes). withParam (frameOf m text (laid r nums bytes)) (x .param) s) (old-at bytes i (x .old) (h .placed .old))));
+        placed = st .placed text r (record { number = p .number; next = p .next; depth = omega arith; nums = p .nums; bytes = p .bytes; iterations = λ j v. p .iterations j (omega arith) });
       }
 
 -- ---- end_pass
 
-pub placed-at : {text : Bytes} {c : Call} (i : ℕ) → Placed text c → PlacedLoop text (iteration (c .iterations) i)
-placed-at i p = p .iterations i
+-- what end_piece asks
+pub pieces-inside : {text : Bytes} {c : Head} {nums : List ℕ} {bytes : Bytes} → Placed text (laid c nums bytes) → (c .depth ≡ 0 → ⊥) → (iteration nums (c .depth - 1) .param ≡ 0 → ⊥)
+    → PassesAt text c nums (c .depth - 1)
+pieces-inside {c = c} p h e = let d = p .depth in record { place = omega arith; within = omega arith; param = omega arith; placed = p .iterations (c .depth - 1) (omega arith) }
 
-module _ {m : Marks} {text : Bytes} {c : Call} (p : Placed text c) where
-  pub pass-outside : c .depth ≡ 0 → EndsPass m text c (record { ok = true; call = c })
+module _ {m : Marks} {text : Bytes} {c : Head} {nums : List ℕ} {bytes : Bytes} (p : Placed text (laid c nums bytes)) where
+  pub pass-outside : c .depth ≡ 0 → EndsPass m text (laid c nums bytes) true (laid c nums bytes)
   unfolding endPass passStep loopsOf
-  pass-outside e = record { step = λ w. ap (λ (k : ℕ). endPass m (loopsOf m text (c .iterations) k) (frameOf m text c) w) e; placed = p }
+  pass-outside e = record { step = λ w. ap (λ (k : ℕ). endPass m (loopsOf m text nums bytes k) (frameOf m text (laid c nums bytes)) w) e; placed = p }
 
-  pub pass-of-count : {r : Call} → ¬ (c .depth ≡ 0) → iteration (c .iterations) (c .depth - 1) .param ≡ 0 → EndsCount c (c .depth - 1) (iteration (c .iterations) (c .depth - 1)) r
-      → EndsPass m text c (record { ok = true; call = r })
+  pub pass-of-count : {r : Head} {nums′ : List ℕ} → (c .depth ≡ 0 → ⊥) → iteration nums (c .depth - 1) .param ≡ 0 → EndsCount c nums (c .depth - 1) r nums′
+      → EndsPass m text (laid c nums bytes) true (laid r nums′ bytes)
   unfolding passStep
   pass-of-count h e q =
-      let x : Iteration = iteration (c .iterations) (c .depth - 1) in
+      let i : ℕ = c .depth - 1 in
       record {
         step = λ w.
-            ap (λ (ls : List Loop). endPass m ls (frameOf m text c) w)
-            (loops-top m text (c .iterations) (c .depth) (omega arith) ∙ ap (λ (l : Loop). l ∷ loopsOf m text (c .iterations) (c .depth - 1)) (loop-count m text x e))
-            ∙ q .step m text w;
-        placed = q .placed text p (p .iterations (c .depth - 1));
+            ap (λ (ls : List Loop). endPass m ls (frameOf m text (laid c nums bytes)) w)
+            (loops-top m text nums bytes (c .depth) (omega arith) ∙ ap (λ (l : Loop). l ∷ loopsOf m text nums bytes i) (loop-count m text (textsAt bytes i) (iteration nums i) e))
+            ∙ q .step m text bytes w (p .bytes);
+        placed = q .placed text bytes p (omega arith);
       }
 
-  pub pass-of-pieces : {r : Passing} → ¬ (c .depth ≡ 0) → ¬ (iteration (c .iterations) (c .depth - 1) .param ≡ 0) → EndsPiece m text c (c .depth - 1) (iteration (c .iterations) (c .depth - 1)) r
-      → EndsPass m text c r
+  pub pass-of-pieces : {ok : Bool} {r : Laid} → (c .depth ≡ 0 → ⊥) → (iteration nums (c .depth - 1) .param ≡ 0 → ⊥) → EndsPiece m text (laid c nums bytes) (c .depth - 1) ok r
+      → EndsPass m text (laid c nums bytes) ok r
   unfolding endPass
   pass-of-pieces h e q =
-      let x : Iteration = iteration (c .iterations) (c .depth - 1) in
+      let i : ℕ = c .depth - 1 in
       record {
         step = λ w.
-            ap (λ (ls : List Loop). endPass m ls (frameOf m text c) w)
-            (loops-top m text (c .iterations) (c .depth) (omega arith) ∙ ap (λ (l : Loop). l ∷ loopsOf m text (c .iterations) (c .depth - 1)) (loop-pieces m text x e))
+            ap (λ (ls : List Loop). endPass m ls (frameOf m text (laid c nums bytes)) w)
+            (loops-top m text nums bytes (c .depth) (omega arith) ∙ ap (λ (l : Loop). l ∷ loopsOf m text nums bytes i) (loop-pieces m text (textsAt bytes i) (iteration nums i) e))
             ∙ q .step w;
         placed = q .placed;
       }

@@ -1,183 +1,283 @@
-// The iterations of a call: begun, gone on with and ended (document 01, "A call's code").
+// The iterations of a call: begun, gone on with and ended (document 01, "A call's code"). Each has eight of a call's numbers and 400 of
+// its bytes. Asked is that what the call says lies in the text (`Placed`; start_repeat asks it of the next code line alone, and that
+// there are 50 numbers), and where an iteration is begun, that fewer than four are open; start_pass asks too that its parameter's number
+// is 1 to 9, that its line has at most 200 bytes and that its list of delimiters lies in the text.
 use body::past_loop;
-use call::Call;
-use call::Held;
-use call::Iteration;
-use call::held_len;
-use call::hold;
+use buffer::copy;
+use buffer::shift;
+use call::Head;
+use call::LOOP_BYTES;
+use call::LOOP_NUMBERS;
+use call::LOOPS;
+use call::PARAM_BYTES;
 use call::move_to;
 use call::param_len;
-use call::set_param;
+use call::regain;
+use call::set_delimiter;
+use model::LINE_MOST;
 use model::Marks;
 use pass::take_piece;
 ghost use mathlib.Core.Path.{_≡_};
-ghost use Prim.Native.Nat.{_≤_, _<_};
+ghost use Prim.Native.Nat.{_+_, _≤_, _<_};
 ghost use lib.ListN.{length};
-ghost use Rattle.call.specs.Call.{PlacedLoop, Placed};
-ghost use Rattle.iterate.specs.Iterate.{Enters, Exits, Delimits, SetsPass, Passes, StartsPass, EndsCount, EndsPiece, EndsPass, Counts, StartsRepeat};
+ghost use Rattle.model.specs.Text.{part};
+ghost use Rattle.call.specs.Call.{iteration, laid, Placed, Sized, callNumbers, callBytes};
+ghost use Rattle.iterate.specs.Iterate.{iterationOf, withRest, Numbers, KeepsTexts};
+ghost use Rattle.iterate.specs.Iterate.{PassesAt, SetsPass, Passes, OpensPass, StartsPass, EndsCount, EndsPiece, EndsPass, CountsPasses, StartsRepeat};
+ghost use Rattle.model.specs.Limits.{lineMost, nestingMost};
+
+// The numbers of an iteration, from its first on: the parameter of an ed7, or 0 for an eF7; then where the code line after the opening
+// line starts; an eF7's passes left; start and end of an ed7's list of delimiters in the text; from where to where the rest of its line
+// lies among its bytes; and the length of the parameter's old value.
+const AFTER: usize = 1;
+
+const LEFT: usize = 2;
+
+const LIST: usize = 3;
+
+const END: usize = 4;
+
+const FROM: usize = 5;
+
+const TO: usize = 6;
+
+const OLD: usize = 7;
+
+// Where the first iteration keeps its parameter's old value among the bytes.
+const OLD_VALUES: usize = PARAM_BYTES + LINE_MOST;
 
 // The call after a pass was begun or its iteration ended. Not ok: a bracket begins no atom.
 pub struct Passing {
     pub ok: bool,
-    pub call: Call,
+    pub call: Head,
 }
 
-// x is the innermost iteration, at place i, and the call goes on after its opening line.
-fn enter(c: Call, i: usize, x: Iteration) -> Call
-    requires { ⌜ (i < 4) × (length (c .iterations) ≡ 4) ⌝ }
-    ensures { λ r. ⌜ Enters c i x r ⌝ }
+// The rest of the line of the ed7 at place i starts elsewhere.
+fn move_rest(nums: &mut [usize], i: usize, from: usize)
+    requires { ⌜ (i < nestingMost) × (length (now nums) ≡ callNumbers) ⌝ }
+    ensures { λ _. ⌜ Numbers (now (nums .entry)) i (withRest (iteration (now (nums .entry)) i) from) (now (nums .exit)) ⌝ }
 {
-    let mut iterations = c.iterations;
-    iterations[i] = x;
-    let mut r = c;
-    r.next = x.after;
-    r.depth = i + 1;
-    r.iterations = iterations;
-    r
+    let x = LOOPS + LOOP_NUMBERS * i;
+    nums[x + FROM] = from;
 }
 
-// Only the first i iterations stay open.
-fn exit(c: Call, i: usize) -> Call
-    requires { ⌜ i ≤ 4 ⌝ }
-    ensures { λ r. ⌜ Exits c i r ⌝ }
+// The ed7 at place i has taken the n bytes from offset `at` on, and goes on after its opening line.
+fn set_pass(
+    c: Head,
+    nums: &mut [usize],
+    params: &mut [u8],
+    i: usize,
+    at: usize,
+    n: usize,
+    delimiter: usize,
+    rest: usize,
+) -> Head
+    requires { ⌜ (i < nestingMost) × ((1 ≤ iteration (now nums) i .param) × (iteration (now nums) i .param ≤ 9)) ⌝ }
+    requires { ⌜ Sized (now nums) (now params) ⌝ }
+    requires { ⌜ (n ≤ lineMost) × (at + n ≤ callBytes) ⌝ }
+    ensures { λ r. ⌜ SetsPass (laid c (now (nums .entry)) (now (params .entry))) i (part (now (params .entry)) at (at + n)) delimiter rest
+        (laid r (now (nums .exit)) (now (params .exit))) ⌝ }
 {
-    let mut r = c;
-    r.depth = i;
-    r
+    let x = LOOPS + LOOP_NUMBERS * i;
+    let d = nums[x];
+    let after = nums[x + AFTER];
+    move_rest(nums, i, rest);
+    regain(nums, params, d, at, n);
+    set_delimiter(nums, d, delimiter);
+    Head {
+        number: c.number,
+        next: after,
+        depth: i + 1,
+    }
 }
 
-// The latest delimiter of parameter d.
-fn set_delimiter(c: Call, d: usize, delimiter: usize) -> Call
-    requires { ⌜ (1 ≤ d) × (d ≤ 9) ⌝ }
-    ensures { λ r. ⌜ Delimits c d delimiter r ⌝ }
+// The ed7 at place i makes a pass over the rest of its line.
+fn take_pass(
+    m: Marks,
+    text: &[u8],
+    c: Head,
+    nums: &mut [usize],
+    params: &mut [u8],
+    i: usize,
+) -> Passing
+    requires { ⌜ Placed (now text) (laid c (now nums) (now params)) ⌝ }
+    requires { ⌜ PassesAt (now text) c (now nums) i ⌝ }
+    ensures { λ r. ⌜ Passes m (now (text .entry)) (laid c (now (nums .entry)) (now (params .entry))) i (r .ok) (laid (r .call) (now (nums .exit)) (now (params .exit))) ⌝ }
 {
-    let mut delimiters = c.delimiters;
-    let i = d - 1;
-    delimiters[i] = delimiter;
-    let mut r = c;
-    r.delimiters = delimiters;
-    r
-}
-
-// The ed7 x at place i has taken a piece, and has a rest.
-fn set_pass(c: Call, i: usize, x: Iteration, piece: &[u8], delimiter: usize, rest: &[u8]) -> Call
-    requires { ⌜ (i < 4) × (length (c .iterations) ≡ 4) ⌝ }
-    requires { ⌜ (1 ≤ x .param) × (x .param ≤ 9) ⌝ }
-    requires { ⌜ (length (now piece) ≤ 200) × (length (now rest) ≤ 200) ⌝ }
-    ensures { λ r. ⌜ SetsPass c i x (now (piece .entry)) delimiter (now (rest .entry)) r ⌝ }
-{
-    let d = x.param;
-    let mut y = x;
-    y.rest = hold(rest);
-    let entered = enter(c, i, y);
-    let set = set_param(entered, d, piece);
-    set_delimiter(set, d, delimiter)
-}
-
-// The ed7 x at place i makes a pass over the line.
-fn take_pass(m: Marks, text: &[u8], c: Call, i: usize, x: Iteration, line: &[u8]) -> Passing
-    requires { ⌜ Placed (now text) c ⌝ }
-    requires { ⌜ (i < 4) × PlacedLoop (now text) x ⌝ }
-    requires { ⌜ (1 ≤ x .param) × (length (now line) ≤ 200) ⌝ }
-    ensures { λ r. ⌜ Passes m (now (text .entry)) c i x (now (line .entry)) r ⌝ }
-{
-    let list = x.list;
-    let end = x.end;
-    let taken = take_piece(m, line, 0, &text[list..end]);
+    let x = LOOPS + LOOP_NUMBERS * i;
+    let list = nums[x + LIST];
+    let end = nums[x + END];
+    let from = nums[x + FROM];
+    let base = PARAM_BYTES + LOOP_BYTES * i;
+    let to = base + nums[x + TO];
+    let taken = take_piece(m, &params[base..to], from, &text[list..end]);
     if taken.ok {
-        let to = taken.end;
-        let from = taken.rest;
-        let call = set_pass(c, i, x, &line[0..to], taken.delimiter, &line[from..]);
+        let n = taken.end - from;
+        let call = set_pass(
+            c,
+            nums,
+            params,
+            i,
+            base + from,
+            n,
+            taken.delimiter,
+            taken.rest,
+        );
         return Passing { ok: true, call };
     }
     Passing { ok: false, call: c }
 }
 
-// ed7: an iteration over the line begins, with the delimiters text[list..end].
+// The numbers of the iteration at place i.
+fn set_iteration(
+    nums: &mut [usize],
+    i: usize,
+    param: usize,
+    after: usize,
+    left: usize,
+    list: usize,
+    end: usize,
+    to: usize,
+    old: usize,
+)
+    requires { ⌜ (i < nestingMost) × (length (now nums) ≡ callNumbers) ⌝ }
+    ensures { λ _. ⌜ Numbers (now (nums .entry)) i (iterationOf param after left list end to old) (now (nums .exit)) ⌝ }
+{
+    let x = LOOPS + LOOP_NUMBERS * i;
+    nums[x] = param;
+    nums[x + AFTER] = after;
+    nums[x + LEFT] = left;
+    nums[x + LIST] = list;
+    nums[x + END] = end;
+    nums[x + FROM] = 0;
+    nums[x + TO] = to;
+    nums[x + OLD] = old;
+}
+
+// The texts of the iteration at place i: a line, and the n bytes from offset `at` on.
+fn keep_texts(params: &mut [u8], i: usize, line: &[u8], at: usize, n: usize)
+    requires { ⌜ (i < nestingMost) × (length (now params) ≡ callBytes) ⌝ }
+    requires { ⌜ (length (now line) ≤ lineMost) × ((n ≤ lineMost) × (at + n ≤ callBytes)) ⌝ }
+    ensures { λ _. ⌜ KeepsTexts (now (params .entry)) i (now (line .entry)) at n (now (params .exit)) ⌝ }
+{
+    let base = PARAM_BYTES + LOOP_BYTES * i;
+    shift(params, base + LINE_MOST, at, n);
+    copy(params, base, line);
+}
+
+// ed7: an iteration over the line, with the delimiters text[list..end], is laid out.
+fn open_pass(
+    c: Head,
+    nums: &mut [usize],
+    params: &mut [u8],
+    d: usize,
+    line: &[u8],
+    list: usize,
+    end: usize,
+)
+    requires { ⌜ (c .depth < nestingMost) × ((1 ≤ d) × (d ≤ 9)) ⌝ }
+    requires { ⌜ Sized (now nums) (now params) ⌝ }
+    requires { ⌜ length (now line) ≤ lineMost ⌝ }
+    ensures { λ _. ⌜ OpensPass c (now (nums .entry)) (now (params .entry)) d (now (line .entry)) list end (now (nums .exit)) (now (params .exit)) ⌝ }
+{
+    let n = param_len(nums, d);
+    keep_texts(params, c.depth, line, LINE_MOST * (d - 1), n);
+    set_iteration(nums, c.depth, d, c.next, 0, list, end, line.len(), n);
+}
+
+// ed7: the first pass over the line, with the delimiters text[list..end].
 pub fn start_pass(
     m: Marks,
     text: &[u8],
-    c: Call,
+    c: Head,
+    nums: &mut [usize],
+    params: &mut [u8],
     d: usize,
     line: &[u8],
     list: usize,
     end: usize,
 ) -> Passing
-    requires { ⌜ Placed (now text) c ⌝ }
-    requires { ⌜ (c .depth < 4) × ((1 ≤ d) × (d ≤ 9)) ⌝ }
-    requires { ⌜ (length (now line) ≤ 200) × ((list ≤ end) × (end ≤ length (now text))) ⌝ }
-    ensures { λ r. ⌜ StartsPass m (now (text .entry)) c d (now (line .entry)) list end r ⌝ }
+    requires { ⌜ Placed (now text) (laid c (now nums) (now params)) ⌝ }
+    requires { ⌜ (c .depth < nestingMost) × ((1 ≤ d) × (d ≤ 9)) ⌝ }
+    requires { ⌜ (length (now line) ≤ lineMost) × ((list ≤ end) × (end ≤ length (now text))) ⌝ }
+    ensures { λ r. ⌜ StartsPass m (now (text .entry)) (laid c (now (nums .entry)) (now (params .entry))) d (now (line .entry)) list end
+        (r .ok) (laid (r .call) (now (nums .exit)) (now (params .exit))) ⌝ }
 {
-    let bytes = c.bytes;
-    let at = 200 * (d - 1);
-    let to = at + param_len(c, d);
-    let old = hold(&bytes[at..to]);
-    let x = Iteration {
-        param: d,
-        after: c.next,
-        left: 0,
-        list,
-        end,
-        rest: old,
-        old,
-    };
-    take_pass(m, text, c, c.depth, x, line)
+    open_pass(c, nums, params, d, line, list, end);
+    take_pass(m, text, c, nums, params, c.depth)
 }
 
 // eF8 of an eF7, at place i: one pass fewer is left, or the iteration ends.
-fn end_count(c: Call, i: usize, x: Iteration) -> Call
-    requires { ⌜ (i < 4) × (length (c .iterations) ≡ 4) ⌝ }
-    requires { ⌜ x .param ≡ 0 ⌝ }
-    ensures { λ r. ⌜ EndsCount c i x r ⌝ }
+fn end_count(c: Head, nums: &mut [usize], i: usize) -> Head
+    requires { ⌜ (i < nestingMost) × (length (now nums) ≡ callNumbers) ⌝ }
+    requires { ⌜ iteration (now nums) i .param ≡ 0 ⌝ }
+    ensures { λ r. ⌜ EndsCount c (now (nums .entry)) i r (now (nums .exit)) ⌝ }
 {
-    if x.left == 0 {
-        return exit(c, i);
+    let x = LOOPS + LOOP_NUMBERS * i;
+    let left = nums[x + LEFT];
+    if left == 0 {
+        return Head {
+            number: c.number,
+            next: c.next,
+            depth: i,
+        };
     }
-    let mut y = x;
-    y.left = x.left - 1;
-    enter(c, i, y)
+    let after = nums[x + AFTER];
+    nums[x + LEFT] = left - 1;
+    Head {
+        number: c.number,
+        next: after,
+        depth: i + 1,
+    }
 }
 
 // eF8 of an ed7, at place i: the next pass, or the end, where the parameter regains its old value.
-fn end_piece(m: Marks, text: &[u8], c: Call, i: usize, x: Iteration) -> Passing
-    requires { ⌜ Placed (now text) c ⌝ }
-    requires { ⌜ (i < 4) × ((1 ≤ x .param) × PlacedLoop (now text) x) ⌝ }
-    ensures { λ r. ⌜ EndsPiece m (now (text .entry)) c i x r ⌝ }
+fn end_piece(
+    m: Marks,
+    text: &[u8],
+    c: Head,
+    nums: &mut [usize],
+    params: &mut [u8],
+    i: usize,
+) -> Passing
+    requires { ⌜ Placed (now text) (laid c (now nums) (now params)) ⌝ }
+    requires { ⌜ PassesAt (now text) c (now nums) i ⌝ }
+    ensures { λ r. ⌜ EndsPiece m (now (text .entry)) (laid c (now (nums .entry)) (now (params .entry))) i (r .ok) (laid (r .call) (now (nums .exit)) (now (params .exit))) ⌝ }
 {
-    let rest = x.rest;
-    let n = held_len(rest);
-    let bytes = rest.bytes;
-    if 0 < n {
-        return take_pass(m, text, c, i, x, &bytes[0..n]);
+    let x = LOOPS + LOOP_NUMBERS * i;
+    if nums[x + FROM] < nums[x + TO] {
+        return take_pass(m, text, c, nums, params, i);
     }
-    let old = x.old;
-    let k = held_len(old);
-    let values = old.bytes;
-    let call = set_param(exit(c, i), x.param, &values[0..k]);
+    let d = nums[x];
+    let old = nums[x + OLD];
+    regain(nums, params, d, OLD_VALUES + LOOP_BYTES * i, old);
+    let call = Head {
+        number: c.number,
+        next: c.next,
+        depth: i,
+    };
     Passing { ok: true, call }
 }
 
 // eF8: the innermost iteration's next pass, or its end.
-pub fn end_pass(m: Marks, text: &[u8], c: Call) -> Passing
-    requires { ⌜ Placed (now text) c ⌝ }
-    ensures { λ r. ⌜ EndsPass m (now (text .entry)) c r ⌝ }
+pub fn end_pass(m: Marks, text: &[u8], c: Head, nums: &mut [usize], params: &mut [u8]) -> Passing
+    requires { ⌜ Placed (now text) (laid c (now nums) (now params)) ⌝ }
+    ensures { λ r. ⌜ EndsPass m (now (text .entry)) (laid c (now (nums .entry)) (now (params .entry))) (r .ok) (laid (r .call) (now (nums .exit)) (now (params .exit))) ⌝ }
 {
     if c.depth == 0 {
         return Passing { ok: true, call: c };
     }
     let i = c.depth - 1;
-    let iterations = c.iterations;
-    let x = iterations[i];
-    if x.param == 0 {
-        let call = end_count(c, i, x);
+    if nums[LOOPS + LOOP_NUMBERS * i] == 0 {
+        let call = end_count(c, nums, i);
         return Passing { ok: true, call };
     }
-    end_piece(m, text, c, i, x)
+    end_piece(m, text, c, nums, params, i)
 }
 
 // The number of passes that a value asks for.
 fn count_passes(v: i32) -> usize
-    ensures { λ r. ⌜ Counts v r ⌝ }
+    ensures { λ r. ⌜ CountsPasses v r ⌝ }
 {
     if v <= 0 {
         return 0;
@@ -186,30 +286,19 @@ fn count_passes(v: i32) -> usize
 }
 
 // eF7: so many passes; 0 or less skips past the matching eF8.
-pub fn start_repeat(m: Marks, text: &[u8], c: Call, v: i32) -> Call
-    requires { ⌜ Placed (now text) c ⌝ }
-    requires { ⌜ c .depth < 4 ⌝ }
-    ensures { λ r. ⌜ StartsRepeat m (now (text .entry)) c v r ⌝ }
+pub fn start_repeat(m: Marks, text: &[u8], c: Head, nums: &mut [usize], v: i32) -> Head
+    requires { ⌜ (c .next ≤ length (now text)) × (length (now nums) ≡ callNumbers) ⌝ }
+    requires { ⌜ c .depth < nestingMost ⌝ }
+    ensures { λ r. ⌜ StartsRepeat m (now (text .entry)) c (now (nums .entry)) v r (now (nums .exit)) ⌝ }
 {
     let n = count_passes(v);
     if n == 0 {
         return move_to(c, past_loop(m, text, c.next));
     }
-    let none = Held {
-        len: 0,
-        bytes: [0; 200],
-    };
-    enter(
-        c,
-        c.depth,
-        Iteration {
-            param: 0,
-            after: c.next,
-            left: n - 1,
-            list: 0,
-            end: 0,
-            rest: none,
-            old: none,
-        },
-    )
+    set_iteration(nums, c.depth, 0, c.next, n - 1, 0, 0, 0, 0);
+    Head {
+        number: c.number,
+        next: c.next,
+        depth: c.depth + 1,
+    }
 }

@@ -1,5 +1,2 @@
--- What the functions' proofs cite. Tables has the laws for callers.
-pub mod Tables
-mod Body
-mod Template
-mod Section
+-- What an answer says. The laws of each module of src stand with the proofs of its functions.
+pub mod Answer

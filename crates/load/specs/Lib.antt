@@ -1,3 +1,7 @@
--- What `load` ensures, and what the functions for a line do.
-pub mod Table
+-- What the functions of loading ensure: the answer, what the head comes to, what a line comes to, and the section line by line.
+pub mod Answer
+pub mod Head
 pub mod Lines
+pub mod Template
+pub mod Body
+pub mod Section

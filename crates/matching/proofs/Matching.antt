@@ -1,95 +1,78 @@
 -- A line's first reading as an open call.
-use mathlib.Core.Path.{_≡_, refl, sym, ap, _∙_, subst}
-use mathlib.Core.Bool.{true, false}
-use mathlib.Core.List.{List, [], _∷_}
-use Prim.Native.Nat.{ℕ, suc, _-_, _≤_, _<_}
+use mathlib.Core.Path.{_≡_, sym, ap, _∙_, subst}
+use mathlib.Core.Bool.{true}
+use mathlib.Core.List.{List, []}
+use Prim.Native.Nat.{ℕ, _-_, _≤_, _<_}
 use native.Mathlib.Omega.{arith}
 use lib.ListN.{length, getD, take, replicate, length-take}
 use Rattle.model.specs.declared.Marks.{Marks}
 use Rattle.model.specs.Text.{Bytes}
-use Rattle.model.specs.Load.{templates, Macro, noMacro, Loaded, bodyAt}
+use Rattle.model.specs.Load.{templates, noMacro, Loaded, bodyAt}
 use Rattle.model.specs.Machine.{padded}
 use Rattle.model.specs.Sizes.{Nested}
 use Rattle.model.proofs.Nesting.{all-at}
-use Rattle.model.proofs.Choices.{false-not-true}
 use Rattle.model.proofs.Loading.{templates-length}
 use Rattle.nodes.specs.declared.Node.{Node}
 use Rattle.call.specs.declared.Call.{Call}
-use Rattle.call.specs.Call.{frameOf}
-use Rattle.call.specs.Params.{Within, Opens}
+use Rattle.call.specs.Call.{openedOf}
+use Rattle.call.specs.Params.{PiecesInside, Opens}
 use Rattle.call.proofs.Reading.{opens-reading}
 use Rattle.fit.specs.declared.Choice.{Choice}
 use Rattle.fit.specs.Chosen.{Chosen, Chooses}
 use Rattle.fit.specs.Outcome.{Asks}
-use Rattle.state.specs.declared.Line.{Line}
-use Rattle.state.specs.State.{bytesOf}
 use Rattle.matching.specs.Book.{Book, Prepared}
-use Rattle.matching.specs.Matches.{opened, Opening, Opened, Calls, Matches}
-use Rattle.matching.specs.declared.Match.{Match}
+use Rattle.matching.specs.Matches.{opened, Opening, Opened, Calls}
 
--- ---- what open_reading asks and answers
+-- ---- open_reading
 
--- the bytes of a line, as the code takes them
-front : (l : Line) → bytesOf l ≡ take (l .len - 0) (l .bytes)
-front l = let z : l .len ≡ l .len - 0 = omega arith in ap (λ (n : ℕ). take n (l .bytes)) z
+-- the first n bytes of a line, as the code takes them
+front : (line : Bytes) (n : ℕ) → take n line ≡ take (n - 0) line
+front line n = let z : n ≡ n - 0 = omega arith in ap (λ (k : ℕ). take k line) z
 
--- the pieces lie in them
-pub front-within : {bodies : List ℕ} {c : Choice} (l : Line) → Opening bodies (bytesOf l) c → Within (take (l .len - 0) (l .bytes)) (c .starts) (c .lens)
-front-within {bodies} {c} l o = subst (λ (s : Bytes). Within s (c .starts) (c .lens)) (front l) (o .pieces)
+pub front-within : {bodies : List ℕ} {c : Choice} {line : Bytes} {n : ℕ} → Opening bodies line n c → PiecesInside (take (n - 0) line) (c .starts) (c .lens)
+front-within {c = c} {line = line} {n = n} o = subst (λ (s : Bytes). PiecesInside s (c .starts) (c .lens)) (front line n) (o .pieces)
 
--- no call is chosen
-pub opened-none : {bodies : List ℕ} {line : Bytes} {number : ℕ} {c : Choice} {x : Call} → length (c .starts) ≡ 9 → c .found ≡ false → Opened bodies line c number (record { found = false; call = x })
-opened-none n f = record { same = sym f; nine = n; opens = λ e. false-not-true (sym f ∙ e) }
+pub opened-call : {bodies : List ℕ} {number : ℕ} {c : Choice} {x : Call} {line : Bytes} (n : ℕ) → length (c .starts) ≡ 9
+    → Opens number (getD bodies (c .template) 0) (take (n - 0) line) (c .starts) (c .lens) x → Opened bodies line n c number x
+opened-call {bodies} {number} {c} {x} {line} n e o = record { nine = e; opens = subst (λ (s : Bytes). Opens number (getD bodies (c .template) 0) s (c .starts) (c .lens) x) (sym (front line n)) o }
 
--- a call is, and it is opened
-pub opened-call : {bodies : List ℕ} {number : ℕ} {c : Choice} {x : Call} (l : Line) → length (c .starts) ≡ 9 → c .found ≡ true
-    → Opens number (getD bodies (c .template) 0) (take (l .len - 0) (l .bytes)) (c .starts) (c .lens) x → Opened bodies (bytesOf l) c number (record { found = true; call = x })
-opened-call {bodies} {number} {c} {x} l n f o = record {
-  same = sym f;
-  nine = n;
-  opens = λ _. subst (λ (s : Bytes). Opens number (getD bodies (c .template) 0) s (c .starts) (c .lens) x) (sym (front l)) o;
-}
-
--- ---- what match_line asks and answers
+-- ---- what callers take
 
 -- the tree of a text that is loaded can be searched from its root
-pub book-asks : {m : Marks} {text : Bytes} {row : List Node} {bodies : List ℕ} (l : Line) → Prepared m text row bodies → l .len ≤ 200 → length (l .bytes) ≡ 200 → Asks row (l .bytes) (l .len) 0 0
-book-asks l p s n =
+pub book-asks : {m : Marks} {text : Bytes} {row : List Node} {bodies : List ℕ} {line : Bytes} {n : ℕ} → Prepared m text row bodies → n ≤ 200 → n ≤ length line → Asks row line n 0 0
+book-asks p s n =
     let f = p .book .fits in
-    record { made = f .made; stands = f .stands; there = f .root; low = omega arith; high = omega (arith, s, n) }
+    record { made = f .made; stands = f .stands; there = f .root; low = omega arith; high = n; short = omega arith }
 
-module _ {m : Marks} {row : List Node} (l : Line) {c : Choice} (g : Chooses m row (bytesOf l) c) where
+module _ {m : Marks} {row : List Node} (line : Bytes) (n : ℕ) {c : Choice} (g : Chooses m row (take n line) c) (f : c .found ≡ true) where
   -- what is chosen can be opened
-  pub choice-opening : {text : Bytes} {bodies : List ℕ} → Prepared m text row bodies → l .len ≤ 200 → Opening bodies (bytesOf l) c
-  choice-opening p s =
+  pub choice-opening : {text : Bytes} {bodies : List ℕ} → Prepared m text row bodies → n ≤ 200 → n ≤ length line → Opening bodies line n c
+  choice-opening p s k =
       let b = p .book in
-      let n = length-take (l .len) (l .bytes) in
+      let l = length-take n line in
       record {
-        pieces = record { each = λ i k. record { inside = g .within i; short = omega (arith, g .within i, n, s) } };
-        body = λ f. omega (arith, g .call f _ (b .fits) .place, templates-length (p .table .macros), b .as-many);
+        pieces = record { each = λ i u. record { inside = g .within i; short = omega (arith, g .within i, l, s) } };
+        body = omega (arith, g .call f _ (b .fits) .place, templates-length (p .table .macros), b .as-many);
+        inside = k;
       }
 
-  module _ {bodies : List ℕ} {number : ℕ} {r : Match} (w : Opened bodies (bytesOf l) c number r) where
-    -- the call is that of the first reading
-    reading-call : c .found ≡ true → (text : Bytes) (t : Loaded) → Book m text row bodies t → Calls m text t (bytesOf l) number (r .call)
-    unfolding opened
-    reading-call f text t b =
-        let o : Opens number (getD bodies (c .template) 0) (bytesOf l) (c .starts) (c .lens) (r .call) = w .opens f in
-        let q : Chosen m (templates (t .macros)) (bytesOf l) c = g .call f (templates (t .macros)) (b .fits) in
-        let below : c .template < length (t .macros) = omega (arith, q .place, templates-length (t .macros)) in
-        let body : bodyAt m text (getD bodies (c .template) 0) ≡ getD (t .macros) (q .reading .which) noMacro .body =
-        sym (b .body (c .template) below) ∙ ap (λ (k : ℕ). getD (t .macros) k noMacro .body) (sym (q .which)) in
-        let frame : frameOf m text (r .call) ≡ opened number (getD (t .macros) (q .reading .which) noMacro) (q .reading .pieces) =
-        opens-reading (bytesOf l) (c .starts) (c .lens) (q .reading .pieces) (w .nine) (q .few) (q .lens) (q .piece) o m text
-        ∙ ap (λ (cs : List Bytes). record { number = number; params = padded (q .reading .pieces); delimiters = replicate 9 []; next = cs; loops = [] }) body in
-        record {
-          reading = q .reading;
-          is = q .is;
-          frame = frame;
-          placed = λ k. o .placed text k (b .within (c .template) below);
-          nested = subst (Nested m) (sym frame) record { lines = all-at m (t .macros) (q .reading .which) (b .nested); around = tt };
-        }
-
-    -- the line's first reading opens a call, if there is one
-    pub reading-matches : Matches m row bodies (bytesOf l) number r
-    reading-matches = record { no-call = λ e text t b. g .no-call (sym (w .same) ∙ e) _ (b .fits); call = λ e. reading-call (sym (w .same) ∙ e) }
+  -- the call is that of the first reading
+  pub reading-calls : {bodies : List ℕ} {number : ℕ} {r : Call} → Opened bodies line n c number r → (text : Bytes) (t : Loaded) → Book m text row bodies t → Calls m text t (take n line) number r
+  unfolding opened
+  reading-calls {bodies} {number} {r} w text t b =
+      let o = w .opens in
+      let q : Chosen m (templates (t .macros)) (take n line) c = g .call f (templates (t .macros)) (b .fits) in
+      let below : c .template < length (t .macros) = omega (arith, q .place, templates-length (t .macros)) in
+      let body : bodyAt m text (getD bodies (c .template) 0) ≡ getD (t .macros) (q .reading .which) noMacro .body =
+      sym (b .body (c .template) below) ∙ ap (λ (k : ℕ). getD (t .macros) k noMacro .body) (sym (q .which)) in
+      let frame : openedOf m text r ≡ opened number (getD (t .macros) (q .reading .which) noMacro) (q .reading .pieces) =
+      opens-reading (take n line) (c .starts) (c .lens) (q .reading .pieces) (w .nine) (q .few) (q .lens) (q .piece) o m text
+      ∙ ap (λ (cs : List Bytes). record { number = number; params = padded (q .reading .pieces); delimiters = replicate 9 []; next = cs; loops = [] }) body in
+      record {
+        reading = q .reading;
+        is = q .is;
+        frame = frame;
+        same = o .same .0;
+        within = subst (λ (k : ℕ). k ≤ length text) (sym (o .same .1)) (b .within (c .template) below);
+        nested = subst (Nested m) (sym frame) record { lines = all-at m (t .macros) (q .reading .which) (b .nested); around = tt };
+      }

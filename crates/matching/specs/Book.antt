@@ -3,6 +3,7 @@ use mathlib.Core.Path.{_≡_}
 use mathlib.Core.List.{List}
 use Prim.Native.Nat.{ℕ, _≤_, _<_}
 use lib.ListN.{length, getD}
+use Rattle.model.specs.Limits.{textMost}
 use Rattle.model.specs.declared.Marks.{Marks}
 use Rattle.model.specs.Text.{Bytes}
 use Rattle.model.specs.Load.{templates, noMacro, Loaded, bodyAt}
@@ -13,7 +14,7 @@ use Rattle.fit.specs.Chosen.{TreeAt}
 -- t is loaded from the text: m are its marks, the tree of its templates stands in the row of nodes, and `bodies` says where each macro's body starts
 pub record Book (m : Marks) (text : Bytes) (row : List Node) (bodies : List ℕ) (t : Loaded) : Type 0 where
   pub marks : t .marks ≡ m
-  pub short : length text ≤ 65536
+  pub short : length text ≤ textMost
   pub fits : TreeAt m row (templates (t .macros))
   pub as-many : length (t .macros) ≤ length bodies
   pub within : (k : ℕ) → k < length (t .macros) → getD bodies k 0 ≤ length text

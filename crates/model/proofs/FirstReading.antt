@@ -1,22 +1,27 @@
--- The answer of fit is the first reading of the line. The theorem, at the end: fit-first.
+-- The answer of fit is the first reading of the line, and so is what a line offered in a run comes to. The theorems: fit-first, offered-first.
 use mathlib.Core.Path.{_≡_, refl, ap, sym, _∙_, subst}
 use mathlib.Core.Option.{Option, none, some}
 use mathlib.Core.List.{List, [], _∷_}
-use Prim.Native.Nat.{ℕ, zero, suc, _≤_, _<_}
+use Prim.Native.Nat.{ℕ, zero, suc, _+_, _≤_, _<_}
 use native.Mathlib.Omega.{arith}
+use lib.Dec.{leb}
 use lib.ListN.{length, getD}
 use borrow.Author.Tests.{le-ltb}
 use Rattle.model.specs.declared.Marks.{Marks}
 use Rattle.model.specs.Text.{Bytes, lines}
-use Rattle.model.specs.Reading.{Reading, chosen}
+use Rattle.model.specs.Reading.{Pieces, Reading, chosen}
 use Rattle.model.specs.Load.{Macro, noMacro, templates, Loaded, loaded, load}
+use Rattle.model.specs.Machine.{State, Next, running, ended, stateWith, call, passThrough, offeredAs, offered, counted, event}
 use Rattle.model.specs.Results.{shortRow, noPieces, fittedAs, fittedIn, fitLine}
 use Rattle.model.specs.Fitting.{First}
-use Rattle.model.specs.FirstReading.{FitsFirst}
+use Rattle.model.specs.FirstReading.{FitsFirst, OffersFirst}
 use Rattle.model.specs.Legal.{MacrosAt}
-use Rattle.model.proofs.Choices.{when-false}
+use Rattle.model.proofs.Choices.{both, when-false}
 use Rattle.model.proofs.Loading.{templates-length, loaded-no-call, loaded-chosen}
 use Rattle.model.proofs.Input.{load-at}
+use Rattle.model.proofs.Steps.{event-pending}
+
+-- ---- fit
 
 -- each macro stands at a line from 1 on
 line-positive : (m : Marks) (all : List Bytes) (ms : List Macro) (i : ℕ) → MacrosAt m all ms → i < length ms → 0 < getD ms i noMacro .line
@@ -49,3 +54,51 @@ module _ (text : Bytes) (t : Loaded) (loads : load text ≡ loaded t) (line : By
   fit-first rows r l =
       subst (FitsFirst t line) (sym (when-false _ _ (le-ltb rows 2048 r) ∙ ap (fittedIn line) loads ∙ when-false _ _ (le-ltb 200 (length line) l)))
       (fitted-first (chosen (t .marks) (templates (t .macros)) line) refl)
+
+-- ---- a line offered in a run
+
+-- a call counts one call more, or ends with 14
+abbrev IsCall : State → Next → Type 0
+IsCall s (running x) = x .calls ≡ suc (s .calls)
+IsCall s (ended k x) = k ≡ 14
+
+-- passing a line through counts none, or ends with 13
+abbrev IsPass : State → Next → Type 0
+IsPass s (running x) = x .calls ≡ s .calls
+IsPass s (ended k x) = k ≡ 13
+
+-- so a call is never what passing through comes to
+call-no-pass : (x : Macro) (ps : Pieces) (s : State) (room : ℕ) (l : Bytes) → ¬ (call x ps s ≡ passThrough room l s)
+unfolding call passThrough stateWith
+call-no-pass x ps s room l e = not-both (passThrough room l s) (subst (IsCall s) e is-call) is-pass
+  where
+    is-call : IsCall s (call x ps s)
+    is-call = both (IsCall s) (leb 12 (length (s .frames))) _ _ refl refl
+
+    is-pass : IsPass s (passThrough room l s)
+    is-pass = both (IsPass s) (leb (length (s .shared .output) + length l + 1) room) _ _ refl refl
+
+    not-both : (y : Next) → IsCall s y → IsPass s y → ⊥
+    not-both (running y) p q = omega arith
+    not-both (ended k y) p q = omega arith
+
+module _ (text : Bytes) (t : Loaded) (loads : load text ≡ loaded t) (room : ℕ) (l : Bytes) (s : State) where
+  -- without a reading the line is passed through, and with one it is a call of the first
+  offeredAs-first : (o : Option Reading) → chosen (t .marks) (templates (t .macros)) l ≡ o → OffersFirst room t l s (offeredAs room t l s o)
+  unfolding offeredAs
+  offeredAs-first none e = record {
+    passed = (λ z. loaded-no-call text t loads l .0 e, λ h. refl);
+    called = λ z. absurd (z refl);
+  }
+  offeredAs-first (some r) e =
+      let f : First (t .marks) (templates (t .macros)) l (r .which) (r .pieces) = loaded-chosen text t loads l r e in
+      record {
+        passed = (λ z. absurd (call-no-pass _ (r .pieces) s room l z), λ h. absurd (h (r .which) (r .pieces) (f .reads)));
+        called = λ z. (r .which, r .pieces, f, refl);
+      }
+
+-- the event of a state with a pending line
+pub offered-first : (text : Bytes) (t : Loaded) → load text ≡ loaded t → (room : ℕ) (s : State) (l : Bytes) → s .pending ≡ some l → OffersFirst room t l (counted s) (event room t s)
+unfolding offered
+offered-first text t loads room s l e =
+    subst (OffersFirst room t l (counted s)) (sym (event-pending room t s l e)) (offeredAs-first text t loads room l (counted s) (chosen (t .marks) (templates (t .macros)) l) refl)

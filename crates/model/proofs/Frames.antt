@@ -222,7 +222,7 @@ module _ (room : ℕ) (t : Loaded) (g : BodiesOk (t .marks) (t .macros)) where
   pub offeredAs-nested : (l : Bytes) (s : State) (o : Option Reading) → FramesOk (t .marks) (s .frames) → NextOk (t .marks) (offeredAs room t l s o)
   unfolding offeredAs passThrough call stateWith
   offeredAs-nested l s none h = both (NextOk (t .marks)) (leb (length (s .shared .output) + length l + 1) room) _ _ h h
-  offeredAs-nested l s (some r) h = both (NextOk (t .marks)) (leb 12 (length (s .frames))) _ _ h (record { lines = all-at (t .marks) (t .macros) (r .which) g; around = tt }, h)
+  offeredAs-nested l s (some r) h = both (NextOk (t .marks)) (leb 12 (length (s .frames))) _ _ h (record { lines = all-at (t .marks) (t .macros) _ g; around = tt }, h)
 
   -- an event, with a line pending or none
   pub eventFor-nested : (s : State) (p : Option Bytes) → FramesOk (t .marks) (s .frames) → NextOk (t .marks) (eventFor room t s p)

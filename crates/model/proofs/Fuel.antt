@@ -14,11 +14,13 @@ use Rattle.model.specs.declared.Marks.{Marks}
 use Rattle.model.specs.Text.{Grows, Bytes, upTo}
 use Rattle.model.specs.Reading.{Reading, chosen}
 use Rattle.model.specs.Code.{Code, Part, Ending, byte, serial, convert, offer, assign, iterate, stop, write, layout, save, skip, skipText, skipValue, repeat, again, leave, malformed}
+use Rattle.model.specs.declared.Conversion.{Conversion}
+use Rattle.model.specs.declared.Conversion.the-variants.{Itself, StoredText, Symbol, LatestDelimiter, ExpressionValue, Length, ByteValue}
 use Rattle.model.specs.declared.Comparison.{Comparison}
 use Rattle.model.specs.Store.{put, within, decimal}
 use Rattle.model.specs.Value.{written}
 use Rattle.model.specs.Load.{templates, Macro, Loaded, Load, refused, loaded}
-use Rattle.model.specs.Machine.{Loop, byPieces, byCount, Frame, Shared, Step, continues, offers, skips, leaves, halts, withStore, Building, built, failed, add, addSymbol, addValue, addByteValue, addConverted, addPart, build, Piece, takePass, nextPass, endPass, startRepeat, output, writeTo, writeLayout, saveText, skipBy, skipIf, skipCompared, finish, finishBuilt, carryOut, State, Next, running, ended, stateWith, Passed, landed, beyond, badLanding, passOver, skipIn, call, passThrough, offered, stepped, unfinished, readInput, ready, beginLine, counted, event, after, initial, resultOf, outcome, run, skipFrom, offeredAs, beginAt, eventFor, measured, readyIn, readyFor, closed, follow}
+use Rattle.model.specs.Machine.{Loop, byPieces, byCount, Frame, Shared, Step, continues, offers, skips, leaves, halts, withStore, Building, built, failed, add, addSymbol, addValue, addLength, addByteValue, addConverted, addPart, build, Piece, takePass, nextPass, endPass, startRepeat, output, writeTo, writeLayout, saveText, skipBy, skipIf, skipCompared, finish, finishBuilt, carryOut, State, Next, running, ended, stateWith, Passed, landed, beyond, badLanding, passOver, skipIn, call, passThrough, offered, stepped, unfinished, readInput, ready, beginLine, counted, event, after, initial, resultOf, outcome, run, skipFrom, offeredAs, beginAt, eventFor, measured, readyIn, readyFor, closed, follow}
 use Rattle.model.specs.Text.{Grows}
 use Rattle.model.proofs.Choices.{both}
 
@@ -60,6 +62,11 @@ unfolding addValue
 addValue-kept m l none w = (refl, omega arith)
 addValue-kept m l (some v) w = add-kept l (written m v) w
 
+-- nor does ed5
+pub addLength-kept : (l s : Bytes) (w : Shared) → Kept (w .output) (addLength l s w)
+unfolding addLength
+addLength-kept l s w = add-kept l _ w
+
 -- nor does ed8
 pub addByteValue-kept : (l s : Bytes) (w : Shared) → Kept (w .output) (addByteValue l s w)
 unfolding addByteValue
@@ -68,24 +75,22 @@ addByteValue-kept l (x ∷ []) w = add-kept l (decimal x) w
 addByteValue-kept l (x ∷ y ∷ s) w = (refl, omega arith)
 
 -- nor does any conversion of a parameter
-pub addConverted-kept : (m : Marks) (f : Frame) (d k : ℕ) (l : Bytes) (w : Shared) → Kept (w .output) (addConverted m f d k l w)
+pub addConverted-kept : (m : Marks) (f : Frame) (d : ℕ) (c : Conversion) (l : Bytes) (w : Shared) → Kept (w .output) (addConverted m f d c l w)
 unfolding addConverted
-addConverted-kept m f d k l w =
-    let P : Building → Type 0 = Kept (w .output) in
-    both P (eqb k 0) _ _ (add-kept l _ w) (
-    both P (eqb k 1) _ _ (add-kept l _ w) (
-    both P (eqb k 2) _ _ (addSymbol-kept l _ _ w) (
-    both P (eqb k 3) _ _ (add-kept l _ w) (
-    both P (eqb k 4) _ _ (addValue-kept m l _ w) (
-    both P (eqb k 5) _ _ (add-kept l _ w) (
-    addByteValue-kept l _ w))))))
+addConverted-kept m f d Itself l w = add-kept l _ w
+addConverted-kept m f d StoredText l w = add-kept l _ w
+addConverted-kept m f d Symbol l w = addSymbol-kept l _ _ w
+addConverted-kept m f d LatestDelimiter l w = add-kept l _ w
+addConverted-kept m f d ExpressionValue l w = addValue-kept m l _ w
+addConverted-kept m f d Length l w = addLength-kept l _ w
+addConverted-kept m f d ByteValue l w = addByteValue-kept l _ w
 
 -- nor does any part of a code line
 pub addPart-kept : (m : Marks) (f : Frame) (p : Part) (l : Bytes) (w : Shared) → Kept (w .output) (addPart m f p l w)
 unfolding addPart
 addPart-kept m f (byte b) l w = add-kept l _ w
 addPart-kept m f (serial k) l w = add-kept l _ w
-addPart-kept m f (convert d k) l w = addConverted-kept m f d k l w
+addPart-kept m f (convert d c) l w = addConverted-kept m f d c l w
 
 -- nor does building a line
 pub build-kept : (m : Marks) (f : Frame) (ps : List Part) (l : Bytes) (w : Shared) → Kept (w .output) (build m f ps l w)

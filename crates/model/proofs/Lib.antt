@@ -9,9 +9,12 @@ pub mod Parts
 pub mod FirstReading
 -- The document's starred examples.
 pub mod Starred
+-- Conversions and their digits.
+pub mod Conversions
 -- Laws of the machine.
 pub mod Fuel
 pub mod Steps
+pub mod Events
 pub mod Nesting
 pub mod Frames
 -- What a text that loads has, where a run stands in it, and how large a state is.
@@ -20,3 +23,8 @@ pub mod Input
 pub mod Sizes
 -- The bounds on depth in Value and Machine are large enough.
 pub mod Depth
+-- The numbers of the table, and what document 01 demands of a run.
+pub mod NumberTable
+pub mod Demands
+-- How long the rows are that the programs print.
+pub mod Printed

@@ -14,7 +14,7 @@ use lib.ListN.{getD}
 use Rattle.model.specs.declared.Marks.{Marks}
 use Rattle.model.specs.Reading.{Pieces, Reading, chosen}
 use Rattle.model.specs.Fitting.{Fits, end, literal, placeholder, Before, end-first, literal-first, shorter, after-literal, after-piece, Reads, Distinct, First}
-use Rattle.model.specs.Parts.{Elem, lit, hole, stop, Part, byte, piece, elems, text, Good, elements, pieces, Earlier, end-piece, byte-piece, less-piece, later, PartsRead}
+use Rattle.model.specs.Parts.{Elem, lit, hole, stop, ReadingPart, byte, piece, elems, text, Good, elements, pieces, Earlier, end-piece, byte-piece, less-piece, later, PartsRead}
 use Rattle.model.proofs.Chosen.{Tested, alike, apart, tested, no-call, first-chosen}
 
 -- ---- the statements
@@ -74,13 +74,13 @@ module _ (m : Marks) where
           absurd (omega arith)
 
   -- good parts fit
-  parts-fit : (r : List Part) (t : List ℕ) → elements r ≡ elems m t → Good m r → Fits m t (pieces r) (text r)
+  parts-fit : (r : List ReadingPart) (t : List ℕ) → elements r ≡ elems m t → Good m r → Fits m t (pieces r) (text r)
   parts-fit [] t e g = rw (at-end [] t e) end
   parts-fit (byte b ∷ r) t e g = let h = at-lit b (elements r) t e in rw (h .1) (literal b (h .0) (pieces r) (text r) (h .2) (parts-fit r (h .0) (h .3) g))
   parts-fit (piece p ∷ r) t e g = let h = at-hole (elements r) t e in rw (h .1) (placeholder (m .placeholder) (h .0) p (pieces r) (text r) refl (g .0) (parts-fit r (h .0) (h .2) (g .1)))
 
   -- what fits has its parts
-  fit-parts : (t : List ℕ) (ps : Pieces) (s : List ℕ) → Fits m t ps s → (r : List Part) × (elements r ≡ elems m t) × (text r ≡ s) × Good m r × (pieces r ≡ ps)
+  fit-parts : (t : List ℕ) (ps : Pieces) (s : List ℕ) → Fits m t ps s → (r : List ReadingPart) × (elements r ≡ elems m t) × (text r ≡ s) × Good m r × (pieces r ≡ ps)
   unfolding elems
   fit-parts t ps s end = ([], refl, refl, tt, refl)
   fit-parts t ps s (literal b u _ k n h) =
@@ -91,7 +91,7 @@ module _ (m : Marks) where
       (piece p ∷ o .0, ap (λ (l : List Elem). hole ∷ l) (o .1) ∙ sym (elems-hole b u e), ap (λ (l : List ℕ). p ++ l) (o .2), (g, o .3), ap (λ (l : Pieces). p ∷ l) (o .4))
 
   -- what is earlier comes before
-  earlier-before : (r o : List Part) → Earlier r o → (t u : List ℕ) → elements r ≡ elems m t → elements o ≡ elems m u → Before m t (pieces r) u (pieces o)
+  earlier-before : (r o : List ReadingPart) → Earlier r o → (t u : List ℕ) → elements r ≡ elems m t → elements o ≡ elems m u → Before m t (pieces r) u (pieces o)
   earlier-before r o (end-piece p s) t u e f =
       let k = at-hole (elements s) u f in
       rw (at-end [] t e, k .1) (end-first (m .placeholder) (k .0) p [] (pieces s) refl)
@@ -130,25 +130,25 @@ module _ (m : Marks) where
 
 module _ (m : Marks) (apart-brackets : ¬ (m .left ≡ m .right)) (ts : List (List ℕ)) (line : List ℕ) where
   -- a reading has its parts
-  reads-parts : (i : ℕ) (ps : Pieces) → Reads m ts line i ps → (r : List Part) × PartsRead m ts line i r × (pieces r ≡ ps)
+  reads-parts : (i : ℕ) (ps : Pieces) → Reads m ts line i ps → (r : List ReadingPart) × PartsRead m ts line i r × (pieces r ≡ ps)
   reads-parts i ps h =
       let o = fit-parts m (getD ts i []) ps line (h .fits) in
       (o .0, record { place = h .place; template = o .1; joined = o .2; good = o .3 }, o .4)
 
   -- parts that read the line are a reading
-  parts-reads : (i : ℕ) (r : List Part) → PartsRead m ts line i r → Reads m ts line i (pieces r)
+  parts-reads : (i : ℕ) (r : List ReadingPart) → PartsRead m ts line i r → Reads m ts line i (pieces r)
   parts-reads i r h = record { place = h .place; fits = subst (Fits m (getD ts i []) (pieces r)) (h .joined) (parts-fit m r (getD ts i []) (h .template) (h .good)) }
 
   -- where no parts read the line, none is chosen
-  pub no-parts : ((i : ℕ) (r : List Part) → ¬ PartsRead m ts line i r) → chosen m ts line ≡ none
+  pub no-parts : ((i : ℕ) (r : List ReadingPart) → ¬ PartsRead m ts line i r) → chosen m ts line ≡ none
   no-parts n = no-call m apart-brackets ts line .1 (λ i ps h. let o = reads-parts i ps h in n i (o .0) (o .1))
 
   -- parts that read the line before all others are the first reading
-  pub parts-first : Distinct ts → (i : ℕ) (r : List Part) → PartsRead m ts line i r
-      → ((j : ℕ) (o : List Part) → PartsRead m ts line j o → (r ≡ o) ⊎ Earlier r o) → First m ts line i (pieces r)
+  pub parts-first : Distinct ts → (i : ℕ) (r : List ReadingPart) → PartsRead m ts line i r
+      → ((j : ℕ) (o : List ReadingPart) → PartsRead m ts line j o → (r ≡ o) ⊎ Earlier r o) → First m ts line i (pieces r)
   parts-first d i r h f = record { reads = parts-reads i r h; before = λ j qs k. by j qs k (reads-parts j qs k) }
     where
-      by : (j : ℕ) (qs : Pieces) → Reads m ts line j qs → (o : List Part) × PartsRead m ts line j o × (pieces o ≡ qs)
+      by : (j : ℕ) (qs : Pieces) → Reads m ts line j qs → (o : List ReadingPart) × PartsRead m ts line j o × (pieces o ≡ qs)
           → ((i ≡ j) × (pieces r ≡ qs)) ⊎ Before m (getD ts i []) (pieces r) (getD ts j []) qs
       by j qs k (o, p, e) = ⊎-elim
           (λ q. inl (d i j (h .place) (k .place) (elems-same m (getD ts i []) (getD ts j []) (sym (h .template) ∙ (ap elements q ∙ p .template))), ap pieces q ∙ e))
@@ -156,7 +156,7 @@ module _ (m : Marks) (apart-brackets : ¬ (m .left ≡ m .right)) (ts : List (Li
           (f j o p)
 
   -- and so the chosen one
-  pub parts-chosen : Distinct ts → (i : ℕ) (r : List Part) → PartsRead m ts line i r
-      → ((j : ℕ) (o : List Part) → PartsRead m ts line j o → (r ≡ o) ⊎ Earlier r o)
+  pub parts-chosen : Distinct ts → (i : ℕ) (r : List ReadingPart) → PartsRead m ts line i r
+      → ((j : ℕ) (o : List ReadingPart) → PartsRead m ts line j o → (r ≡ o) ⊎ Earlier r o)
       → (c : Reading) × (chosen m ts line ≡ some c) × (i ≡ c .which) × (pieces r ≡ c .pieces)
   parts-chosen d i r h f = first-chosen m apart-brackets ts line i (pieces r) (parts-first d i r h f)

@@ -15,11 +15,13 @@ use Rattle.model.specs.declared.Marks.{Marks}
 use Rattle.model.specs.Text.{Bytes, has, upTo, same}
 use Rattle.model.specs.Reading.{group, atom, Reading, Pieces, chosen}
 use Rattle.model.specs.Code.{Code, Part, Ending, byte, serial, convert, parse, offer, assign, iterate, stop, write, layout, save, skip, skipText, skipValue, repeat, again, leave, malformed}
+use Rattle.model.specs.declared.Conversion.{Conversion}
+use Rattle.model.specs.declared.Conversion.the-variants.{Itself, StoredText, Symbol, LatestDelimiter, ExpressionValue, Length, ByteValue}
 use Rattle.model.specs.declared.Comparison.{Comparison}
 use Rattle.model.specs.Store.{Store, find, put, size, within, decimal, digitsOf}
 use Rattle.model.specs.Value.{written}
-use Rattle.model.specs.Load.{templates, Macro, Loaded, loaded, load, noMacro, count}
-use Rattle.model.specs.Machine.{Loop, byPieces, byCount, Frame, Shared, Step, continues, offers, skips, leaves, halts, param, withParam, resumeAt, withStore, Building, built, failed, add, addSymbol, addValue, addByteValue, addConverted, addPart, build, Piece, longer, pieceOf, passOf, takePass, nextPass, endPass, startRepeat, output, writeTo, writeLayout, saveText, skipBy, skipIf, skipCompared, finish, finishBuilt, carryOut, State, Next, running, ended, stateWith, Passed, landed, beyond, badLanding, passOver, skipFrom, skipIn, padded, call, passThrough, offeredAs, offered, stepped, closed, unfinished, measured, readInput, readyIn, readyFor, ready, beginAt, beginLine, counted, eventFor, event, follow, after, initial}
+use Rattle.model.specs.Load.{templates, Macro, Loaded, loaded, load, count}
+use Rattle.model.specs.Machine.{Loop, byPieces, byCount, Frame, Shared, Step, continues, offers, skips, leaves, halts, param, withParam, resumeAt, withStore, Building, built, failed, add, addSymbol, addValue, addLength, addByteValue, addConverted, addPart, build, Piece, longer, pieceOf, passOf, takePass, nextPass, endPass, startRepeat, output, writeTo, writeLayout, saveText, skipBy, skipIf, skipCompared, finish, finishBuilt, carryOut, State, Next, running, ended, stateWith, Passed, landed, beyond, badLanding, passOver, skipFrom, skipIn, padded, call, passThrough, offeredAs, offered, stepped, closed, unfinished, measured, readInput, readyIn, readyFor, ready, beginAt, beginLine, counted, eventFor, event, follow, after, initial}
 use Rattle.model.specs.Fitting.{Fits, end, literal, placeholder}
 use Rattle.model.specs.Sizes.{AllShort, FramesOk, LoopsSmall, FrameSmall, FramesSmall, EntriesShort, SharedSmall, PendingSmall, Small, LoopsFew}
 use Rattle.model.proofs.Chosen.{chosen-reads}
@@ -236,6 +238,11 @@ module _ (room n : ℕ) where
   addValue-small m l none w h = h
   addValue-small m l (some v) w h = add-small l (written m v) w h
 
+  -- ed5
+  pub addLength-small : (l s : Bytes) (w : Shared) → SharedSmall room w → BuildingSmall room (addLength l s w)
+  unfolding addLength
+  addLength-small l s w h = add-small l _ w h
+
   -- ed8
   pub addByteValue-small : (l s : Bytes) (w : Shared) → SharedSmall room w → BuildingSmall room (addByteValue l s w)
   unfolding addByteValue
@@ -249,24 +256,23 @@ module _ (room n : ℕ) where
   param-short f d h = short-at 200 (f .params) (d - 1) (h .params)
 
   -- a conversion of a parameter
-  pub addConverted-small : (m : Marks) (f : Frame) (d k : ℕ) (l : Bytes) (w : Shared) → FrameSmall n f → SharedSmall room w → BuildingSmall room (addConverted m f d k l w)
+  pub addConverted-small : (m : Marks) (f : Frame) (d : ℕ) (c : Conversion) (l : Bytes) (w : Shared) → FrameSmall n f → SharedSmall room w
+      → BuildingSmall room (addConverted m f d c l w)
   unfolding addConverted
-  addConverted-small m f d k l w g h =
-      let P : Building → Type 0 = BuildingSmall room in
-      both P (eqb k 0) _ _ (add-small l _ w h) (
-      both P (eqb k 1) _ _ (add-small l _ w h) (
-      both P (eqb k 2) _ _ (addSymbol-small l (param f d) (find (param f d) (w .store)) w refl (param-short f d g) h) (
-      both P (eqb k 3) _ _ (add-small l _ w h) (
-      both P (eqb k 4) _ _ (addValue-small m l _ w h) (
-      both P (eqb k 5) _ _ (add-small l _ w h) (
-      addByteValue-small l _ w h))))))
+  addConverted-small m f d Itself l w g h = add-small l _ w h
+  addConverted-small m f d StoredText l w g h = add-small l _ w h
+  addConverted-small m f d Symbol l w g h = addSymbol-small l (param f d) (find (param f d) (w .store)) w refl (param-short f d g) h
+  addConverted-small m f d LatestDelimiter l w g h = add-small l _ w h
+  addConverted-small m f d ExpressionValue l w g h = addValue-small m l _ w h
+  addConverted-small m f d Length l w g h = addLength-small l _ w h
+  addConverted-small m f d ByteValue l w g h = addByteValue-small l _ w h
 
   -- a part of a code line
   pub addPart-small : (m : Marks) (f : Frame) (p : Part) (l : Bytes) (w : Shared) → FrameSmall n f → SharedSmall room w → BuildingSmall room (addPart m f p l w)
   unfolding addPart
   addPart-small m f (byte b) l w g h = add-small l _ w h
   addPart-small m f (serial k) l w g h = add-small l _ w h
-  addPart-small m f (convert d k) l w g h = addConverted-small m f d k l w g h
+  addPart-small m f (convert d c) l w g h = addConverted-small m f d c l w g h
 
   -- a built line
   pub build-small : (m : Marks) (f : Frame) (ps : List Part) (l : Bytes) (w : Shared) → FrameSmall n f → length l ≤ 200 → SharedSmall room w → BuildingSmall room (build m f ps l w)
@@ -566,7 +572,7 @@ module _ (room : ℕ) (t : Loaded) (nine : (i : ℕ) → count (t .marks .placeh
   offeredAs-small l s none e k c h = passThrough-small room l s h
   offeredAs-small l s (some r) e k c h =
       let q = chosen-reads (t .marks) (templates (t .macros)) l r e in
-      call-small room (getD (t .macros) (r .which) noMacro) (r .pieces) s (fits-short (t .marks) 200 _ (r .pieces) l (q .fits) k)
+      call-small room _ (r .pieces) s (fits-short (t .marks) 200 _ (r .pieces) l (q .fits) k)
       (omega (arith, nine (r .which), fits-count (t .marks) _ (r .pieces) l (q .fits))) c h
 
   -- an event, with a line pending or none

@@ -1,28 +1,40 @@
--- What is proved of document 01's definitions, in one place: the first reading, the fuels, the events, the sizes of a run's states, and the places
--- of its lines. Every statement is for all texts that load and all rooms; the proofs are in the modules that each line cites.
+-- What is proved of document 01's definitions, in one place: the first reading, the fuels, the events, the numbers, what is demanded of a run, the sizes
+-- of its states, the places of its lines, and the digits of conversions. Every statement is for all texts that load and all rooms; the proofs are in the
+-- modules that each line cites.
 use mathlib.Core.Path.{_≡_}
 use mathlib.Core.Logic.{_↔_}
+use mathlib.Core.Bool.{true, false}
 use mathlib.Core.Option.{none, some}
 use Prim.Native.Nat.{ℕ, _+_, _*_, _≤_}
 use lib.ListN.{length}
 use Rattle.model.specs.declared.Marks.{Marks}
-use Rattle.model.specs.Text.{Bytes, Grows, lines}
+use Rattle.model.specs.declared.Ran.{Ran}
+use Rattle.model.specs.declared.Conversion.{Conversion}
+use Rattle.model.specs.Text.{Bytes, Grows, has, lines}
 use Rattle.model.specs.Reading.{Pieces, Reading, chosen}
+use Rattle.model.specs.Code.{digitOf, conversionOf}
 use Rattle.model.specs.Store.{Store}
 use Rattle.model.specs.Value.{expression, whole, valueOf}
 use Rattle.model.specs.Load.{templates, Loaded, Load, loaded, load}
-use Rattle.model.specs.Machine.{State, running, ended, pieceOf, after, initial, resultOf, run}
-use Rattle.model.specs.Results.{fitLine}
+use Rattle.model.specs.Machine.{State, running, ended, pieceOf, counted, event, after, initial, resultOf, run}
+use Rattle.model.specs.Results.{checkText, fitLine, runText}
 use Rattle.model.specs.Fitting.{Reads, First}
-use Rattle.model.specs.FirstReading.{FitsFirst}
+use Rattle.model.specs.FirstReading.{FitsFirst, OffersFirst}
 use Rattle.model.specs.Legal.{Lawful, Legal, codeLines, At, MacrosAt}
 use Rattle.model.specs.Sizes.{BodiesOk, Small, PendingSmall, LoopsFew}
+use Rattle.model.specs.Runs.{Runs}
+use Rattle.model.specs.NumberTable.{begunNumbers, checkNumbers, fitNumbers, runNumbers}
+use Rattle.model.specs.Demands.{EndsInFuel, GoesBeyond, OffersInRun, FollowsExpansion}
 use Rattle.model.proofs.FirstReading as FirstReading
 use Rattle.model.proofs.Fuel as Fuel
+use Rattle.model.proofs.Events as Events
+use Rattle.model.proofs.NumberTable as NumberTable
+use Rattle.model.proofs.Demands as Demands
 use Rattle.model.proofs.Loading as Loading
 use Rattle.model.proofs.Nesting as Nesting
 use Rattle.model.proofs.Input as Input
 use Rattle.model.proofs.Sizes as Sizes
+use Rattle.model.proofs.Conversions as Conversions
 use Rattle.model.proofs.Depth as Depth
 
 -- ---- the first reading of a line
@@ -45,6 +57,10 @@ module _ (text : Bytes) (t : Loaded) (loads : load text ≡ loaded t) (line : By
 pub fit-is-first : (text : Bytes) (t : Loaded) → load text ≡ loaded t → (line : Bytes) (rows : ℕ) → 2048 ≤ rows → length line ≤ 200 → FitsFirst t line (fitLine rows text line)
 fit-is-first = FirstReading.fit-first
 
+-- and so is what the event of a pending line comes to, in a run or from any other state: passing through, or the call
+pub offer-is-first : (text : Bytes) (t : Loaded) → load text ≡ loaded t → (room : ℕ) (s : State) (l : Bytes) → s .pending ≡ some l → OffersFirst room t l (counted s) (event room t s)
+offer-is-first = FirstReading.offered-first
+
 -- ---- two fuels
 
 -- more fuel changes nothing of a run that ended
@@ -66,13 +82,57 @@ module _ (f room : ℕ) (t : Loaded) where
   pub run-spent : (s : State) → after f room t (running (initial t)) ≡ running s → run f room (loaded t) ≡ resultOf 20 s
   run-spent = Fuel.run-spent f room t
 
-  -- the events counted are at most the fuel, and the numbers those of the table
-  pub events-counted : (run f room (loaded t) .events ≤ f) × (run f room (loaded t) .number ≤ 20)
-  events-counted = Fuel.run-events f room t
+  -- so its number is other than 20 exactly when the expansion ends within as many events as the fuel
+  pub exactly-ended : (¬ (run f room (loaded t) .number ≡ 20)) ↔ EndsInFuel f room t
+  exactly-ended = Events.exactly-ended f room t
+
+  -- and 20 exactly when the expansion has an event beyond it
+  pub exactly-spent : run f room (loaded t) .number ≡ 20 ↔ GoesBeyond f room t
+  exactly-spent = Events.exactly-spent f room t
+
+  -- the events counted are at most the fuel
+  pub events-counted : run f room (loaded t) .events ≤ f
+  events-counted = Fuel.run-events f room t .0
 
   -- a spent run has used all of its fuel
   pub spent-used : run f room (loaded t) .number ≡ 20 → run f room (loaded t) .events ≡ f
   spent-used = Fuel.spent-events f room t
+
+-- ---- n events after the start
+
+module _ (n room : ℕ) (t : Loaded) (s : State) where
+  -- a state before its next event has counted n events
+  pub running-events : after n room t (running (initial t)) ≡ running s → s .events ≡ n
+  running-events = Events.running-events n room t s
+
+  -- an ended one at most n, and the expansion had ended as soon as it had counted them
+  pub ended-events : (k : ℕ) → after n room t (running (initial t)) ≡ ended k s → (s .events ≤ n) × (after (s .events) room t (running (initial t)) ≡ ended k s)
+  ended-events k = Events.ended-events n room t k s
+
+  -- one event more is `event`, and what then comes without one
+  pub next-event : after n room t (running (initial t)) ≡ running s → after (n + 1) room t (running (initial t)) ≡ after 0 room t (event room t s)
+  next-event = Events.next-event n room t (running (initial t)) s
+
+-- ---- the numbers of the table
+
+-- every number that a public call answers is one of the table. The contracts of check and fit say that the answer is `checkText ..` and `fitLine ..`, and
+-- run's that its number is that of `runText ..`; so this holds of each answer
+pub check-number : (rows : ℕ) (text : Bytes) → has (checkText rows text .number) checkNumbers ≡ true
+check-number = NumberTable.check-numbered
+
+pub fit-number : (rows : ℕ) (text line : Bytes) → has (fitLine rows text line .number) fitNumbers ≡ true
+fit-number = NumberTable.fit-numbered
+
+pub run-number : (fuel rows room store : ℕ) (text : Bytes) → has (runText fuel rows room store text .number) runNumbers ≡ true
+run-number = NumberTable.run-numbered
+
+-- the table has no 10
+pub ten-is-none : (has 10 checkNumbers ≡ false) × (has 10 fitNumbers ≡ false) × (has 10 runNumbers ≡ false)
+ten-is-none = NumberTable.ten-is-none
+
+-- that of a run of a text that loads is 0 or one of 11 to 20
+pub begun-number : (fuel room : ℕ) (t : Loaded) → has (run fuel room (loaded t) .number) begunNumbers ≡ true
+begun-number = NumberTable.begun-numbered
 
 -- ---- a text that loads
 
@@ -107,6 +167,23 @@ module _ (text : Bytes) (t : Loaded) (loads : load text ≡ loaded t) where
     -- the input left is the lines after the last one read
     pub input-left : after n room t (running (initial t)) ≡ running s → At (lines text) (s .line) (s .input)
     input-left = Input.running-at text t loads n room s
+
+  -- ---- what is demanded of its runs
+
+  -- every line offered is passed through exactly when no template reads it, and otherwise calls the first reading
+  pub offers-in-run : (fuel room : ℕ) → OffersInRun fuel room t
+  offers-in-run = Demands.run-offers text t loads
+
+  -- an answer that is the expansion stopped at the fuel has all that 01 demands
+  pub run-follows : (fuel : ℕ) (output store : Bytes) {r : Ran} {output′ store′ : Bytes} → Runs (run fuel (length output) (loaded t)) output store r output′ store′
+      → FollowsExpansion t fuel output store r output′ store′
+  run-follows = Demands.follows-expansion text t loads
+
+-- ---- code lines
+
+-- a conversion's digit names it, and no other byte does
+pub names-conversion : (b : ℕ) (c : Conversion) → conversionOf b ≡ some c ↔ b ≡ 48 + digitOf c
+names-conversion = Conversions.names-exactly
 
 -- ---- bounds inside the definitions
 

@@ -1,20 +1,50 @@
 -- What a code line says (document 01, "A call's code").
-use mathlib.Core.Bool.{Bool, true, false, not, _&&_, _||_}
+use mathlib.Core.Bool.{Bool, true, false, not, _||_}
+use mathlib.Core.Option.{Option, none, some}
 use mathlib.Core.List.{List, [], _∷_}
-use Prim.Native.Nat.{ℕ, _-_}
-use lib.Dec.{eqb, leb}
+use Prim.Native.Nat.{ℕ, _+_, _-_}
+use lib.Dec.{eqb}
 use Rattle.model.specs.declared.Marks.{Marks}
 use Rattle.model.specs.declared.Effect.{Effect}
 use Rattle.model.specs.declared.Effect.the-variants.{Malformed, Plain, Opens, Closes, Owns}
 use Rattle.model.specs.declared.Comparison.{Comparison}
 use Rattle.model.specs.declared.Comparison.the-variants.{Equal, Unequal, Less, Greater}
+use Rattle.model.specs.declared.Conversion.{Conversion}
+use Rattle.model.specs.declared.Conversion.the-variants.{Itself, StoredText, Symbol, LatestDelimiter, ExpressionValue, Length, ByteValue}
 use Rattle.model.specs.Text.{isDigit}
 
--- what puts bytes into the built line: a byte, e0k, or ed0 to ed5 and ed8
+-- ---- conversions and their digits
+
+-- document 01's digit for each conversion
+unfoldable pub digitOf : Conversion → ℕ
+digitOf Itself = 0
+digitOf StoredText = 1
+digitOf Symbol = 2
+digitOf LatestDelimiter = 3
+digitOf ExpressionValue = 4
+digitOf Length = 5
+digitOf ByteValue = 8
+
+-- every conversion
+unfoldable pub conversions : List Conversion
+conversions = Itself ∷ StoredText ∷ Symbol ∷ LatestDelimiter ∷ ExpressionValue ∷ Length ∷ ByteValue ∷ []
+
+-- the first of these conversions whose digit is the byte b
+unfoldable pub firstNamed : ℕ → List Conversion → Option Conversion
+firstNamed b [] = none
+firstNamed b (c ∷ cs) = elim (eqb b (48 + digitOf c)) [ true ↦ some c | false ↦ firstNamed b cs ]
+
+-- the conversion that the byte b names; none for 6, 7 and 9, and for what is no digit
+unfoldable pub conversionOf : ℕ → Option Conversion
+conversionOf b = firstNamed b conversions
+
+-- ---- what a code line consists of
+
+-- what puts bytes into the built line: a byte, e0k, or a conversion of a parameter
 pub data Part : Type 0 where
   byte : ℕ → Part
   serial : ℕ → Part
-  convert : ℕ → ℕ → Part
+  convert : ℕ → Conversion → Part
 
 -- what is done at the end of a code line
 pub data Ending : Type 0 where
@@ -129,16 +159,18 @@ function m first b s =
           ]
     ]
 
+-- a conversion of parameter d, where one is named
+unfoldable pub converting : ℕ → Option Conversion → Form
+converting d none = ends malformed
+converting d (some c) = part (convert d c)
+
+-- ed and the byte b; 6 and 7 end the code of their line
 unfoldable pub conversion : ℕ → ℕ → List ℕ → Form
 conversion d b s =
     elim (eqb b 54) [
       | true ↦ ends (assign d)
       | false ↦
-          elim (eqb b 55) [
-            | true ↦ ends (iterate d s)
-            | false ↦
-                elim (leb 48 b && leb b 56) [ true ↦ part (convert d (b - 48)) | false ↦ ends malformed ]
-          ]
+          elim (eqb b 55) [ true ↦ ends (iterate d s) | false ↦ converting d (conversionOf b) ]
     ]
 
 -- the two bytes after an escape, and what follows them

@@ -1,5 +1,5 @@
--- What fitting a line promises, in document 01's words: no call exactly when no template fits under any split into balanced pieces; otherwise
--- the template and the pieces of the reading before every other fitting one.
+-- What fitting a line promises, and offering one in a run, in document 01's words: no call exactly when no template fits under any split into
+-- balanced pieces; otherwise the template and the pieces of the reading before every other fitting one.
 use mathlib.Core.Path.{_≡_}
 use mathlib.Core.Logic.{_↔_}
 use mathlib.Core.List.{map}
@@ -9,6 +9,7 @@ use Rattle.model.specs.declared.Fitted.{Fitted}
 use Rattle.model.specs.Text.{Bytes}
 use Rattle.model.specs.Reading.{Pieces}
 use Rattle.model.specs.Load.{Macro, noMacro, templates, Loaded}
+use Rattle.model.specs.Machine.{State, Next, call, passThrough}
 use Rattle.model.specs.Results.{startsOf, nine}
 use Rattle.model.specs.Fitting.{Reads, First}
 
@@ -23,3 +24,9 @@ pub record FitsFirst (t : Loaded) (line : Bytes) (r : Fitted) : Type 0 where
   pub done : r .number ≡ 0
   pub no-call : r .line ≡ 0 ↔ ((i : ℕ) (ps : Pieces) → ¬ Reads (t .marks) (templates (t .macros)) line i ps)
   pub call : 0 < r .line → (i : ℕ) × (ps : Pieces) × First (t .marks) (templates (t .macros)) line i ps × Names t i ps r
+
+-- the line l is offered in a run: from the state s, in which that event is counted, the machine comes to x. Where twelve calls are open, `call` ends with 14,
+-- whatever the reading
+pub record OffersFirst (room : ℕ) (t : Loaded) (l : Bytes) (s : State) (x : Next) : Type 0 where
+  pub passed : x ≡ passThrough room l s ↔ ((i : ℕ) (ps : Pieces) → ¬ Reads (t .marks) (templates (t .macros)) l i ps)
+  pub called : ¬ (x ≡ passThrough room l s) → (i : ℕ) × (ps : Pieces) × First (t .marks) (templates (t .macros)) l i ps × (x ≡ call (getD (t .macros) i noMacro) ps s)

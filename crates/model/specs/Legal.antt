@@ -4,6 +4,7 @@ use mathlib.Core.Bool.{true}
 use mathlib.Core.List.{List, [], _∷_}
 use Prim.Native.Nat.{ℕ, _+_, _-_, _≤_, _<_}
 use lib.ListN.{length, getD, drop}
+use Rattle.model.specs.Limits.{lineMost, macrosMost, nodesMost}
 use Rattle.model.specs.declared.Marks.{Marks}
 use Rattle.model.specs.Text.{Bytes, allPlain, distinct, upTo}
 use Rattle.model.specs.Load.{Macro, bodyOf, count, nodes, templates}
@@ -22,9 +23,9 @@ pub record Lawful (m : Marks) : Type 0 where
   pub signs : ¬ (m .placeholder ≡ m .code)
 
 pub record Legal (m : Marks) (ms : List Macro) : Type 0 where
-  pub few : length ms ≤ 128
-  pub tree : nodes ms ≤ 2048
-  pub short : (i : ℕ) → length (getD (templates ms) i []) ≤ 200
+  pub few : length ms ≤ macrosMost
+  pub tree : nodes ms ≤ nodesMost
+  pub short : (i : ℕ) → length (getD (templates ms) i []) ≤ lineMost
   pub nine : (i : ℕ) → count (m .placeholder) (getD (templates ms) i []) ≤ 9
   pub different : Distinct (templates ms)
 

@@ -1,4 +1,5 @@
 -- Document 01 as definitions, in reading order.
+pub mod Limits
 pub mod Text
 pub mod Reading
 pub mod Code
@@ -13,3 +14,9 @@ pub mod FirstReading
 pub mod Parts
 pub mod Legal
 pub mod Sizes
+-- What a run's answer says of its output and store, which numbers are answered, and what document 01 demands of a run.
+pub mod Runs
+pub mod NumberTable
+pub mod Demands
+-- What the programs print.
+pub mod Printed

@@ -5,8 +5,9 @@ use mathlib.Core.List.{List, [], _∷_, _++_, map}
 use Prim.Native.Nat.{ℕ, zero, suc, _+_, _-_, min}
 use lib.Dec.{eqb, leb, ltb}
 use lib.ListN.{length, drop}
+use Rattle.model.specs.Limits.{textMost, lineMost, macrosMost, codeLinesMost, nodesMost, placeholdersMost}
 use Rattle.model.specs.declared.Marks.{Marks}
-use Rattle.model.specs.Text.{Bytes, same, has, startsWith, upTo, lines, marksOf}
+use Rattle.model.specs.Text.{Bytes, same, has, startsWith, upTo, lines, marksFault, marksOf}
 use Rattle.model.specs.Code.{effect}
 use Rattle.model.specs.declared.Effect.{Effect}
 use Rattle.model.specs.declared.Effect.the-variants.{Malformed, Plain, Opens, Closes, Owns}
@@ -82,8 +83,8 @@ nodes ms = suc (nodesFrom [] ms)
 
 unfoldable pub templateFault : Marks → List Macro → List ℕ → Option ℕ
 templateFault m ms c =
-    lowest ((ltb 200 (length c), 4) ∷ (ltb 9 (count (m .placeholder) c), 5) ∷ (met c ms, 6)
-    ∷ (leb 128 (length ms) || ltb 2048 (nodes ms + fresh [] c ms), 9) ∷ [])
+    lowest ((ltb lineMost (length c), 4) ∷ (ltb placeholdersMost (count (m .placeholder) c), 5) ∷ (met c ms, 6)
+    ∷ (leb macrosMost (length ms) || ltb nodesMost (nodes ms + fresh [] c ms), 9) ∷ [])
 
 -- a layout is no code
 unfoldable pub effectHere : Marks → Bool → List ℕ → Effect
@@ -125,7 +126,7 @@ templateLine m r n c ls =
 
 unfoldable pub codeLine : Progress → List ℕ → Effect → Seen
 codeLine r c e =
-    unless (lowest ((ltb 200 (length c), 4) ∷ (unmatched e (r .opened), 7) ∷ (leb 1024 (r .codes), 9) ∷ []))
+    unless (lowest ((ltb lineMost (length c), 4) ∷ (unmatched e (r .opened), 7) ∷ (leb codeLinesMost (r .codes), 9) ∷ []))
     (record { macros = r .macros; codes = suc (r .codes); inBody = true; opened = openAfter e (r .opened); due = isOwner e })
 
 -- a line that begins with mark 3 ends the macro, and with two of them the section; `s` is what follows the first
@@ -181,8 +182,8 @@ unfoldable pub noneRead : Progress
 noneRead = record { macros = []; codes = 0; inBody = false; opened = 0; due = false }
 
 unfoldable pub loadLines : List (List ℕ) → Load
-loadLines [] = refused 3 1
-loadLines (f ∷ ls) = elim (marksOf f) [ none ↦ refused 3 1 | some m ↦ loadFrom m noneRead 1 ls ]
+loadLines [] = refused (marksFault none) 1
+loadLines (f ∷ ls) = elim (marksOf f) [ none ↦ refused (marksFault none) 1 | some m ↦ loadFrom m noneRead 1 ls ]
 
 unfoldable pub load : List ℕ → Load
-load text = elim (ltb 65536 (length text) || has 0 text) [ true ↦ refused 2 0 | false ↦ loadLines (lines text) ]
+load text = elim (ltb textMost (length text) || has 0 text) [ true ↦ refused 2 0 | false ↦ loadLines (lines text) ]

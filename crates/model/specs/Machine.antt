@@ -6,16 +6,19 @@ use Prim.Native.Nat.{ℕ, zero, suc, _+_, _-_, _*_, min}
 use lib.Dec.{eqb, leb, ltb}
 use lib.ListN.{length, getD, drop, set, replicate}
 use lib.IntN.{ℤ, pos, negsuc}
+use Rattle.model.specs.Limits.{lineMost, callsMost}
 use Rattle.model.specs.declared.Marks.{Marks}
 use Rattle.model.specs.Text.{Bytes, same, has, upTo}
 use Rattle.model.specs.Reading.{Reading, chosen, atom}
 use Rattle.model.specs.Code.{Code, Part, Ending, byte, serial, convert, parse, offer, assign, iterate, stop, write, layout, save, skip, skipText, skipValue, repeat, again, leave, malformed, effect}
 use Rattle.model.specs.declared.Effect.{Effect}
 use Rattle.model.specs.declared.Effect.the-variants.{Malformed, Plain, Opens, Closes, Owns}
+use Rattle.model.specs.declared.Conversion.{Conversion}
+use Rattle.model.specs.declared.Conversion.the-variants.{Itself, StoredText, Symbol, LatestDelimiter, ExpressionValue, Length, ByteValue}
 use Rattle.model.specs.declared.Comparison.{Comparison}
 use Rattle.model.specs.declared.Comparison.the-variants.{Equal, Unequal, Less, Greater}
-use Rattle.model.specs.Store.{Store, find, put, within, decimal, listing}
-use Rattle.model.specs.Value.{valueOf, written}
+use Rattle.model.specs.Store.{Store, find, put, within, memoryFault, decimal, listing}
+use Rattle.model.specs.Value.{valueFault, valueOf, written}
 use Rattle.model.specs.Load.{templates, Macro, Loaded, Load, refused, loaded, load, noMacro}
 
 -- an open iteration. ed7 has the rest of the built line, the list of delimiters and d's old value; eF7 the passes left. `after` are the
@@ -70,7 +73,7 @@ pub data Building : Type 0 where
 
 -- a line being built has at most 200 bytes
 unfoldable pub add : Bytes → Bytes → Shared → Building
-add l s w = elim (leb (length l + length s) 200) [ true ↦ built (l ++ s) w | false ↦ failed 12 w ]
+add l s w = elim (leb (length l + length s) lineMost) [ true ↦ built (l ++ s) w | false ↦ failed 12 w ]
 
 -- ed1: the stored text, or nothing
 unfoldable pub orNothing : Option Bytes → Bytes
@@ -85,13 +88,17 @@ addSymbol l name none w =
     let more : Store = put name text (w .store) in
     elim (within more) [
       | true ↦ add l text (record { symbols = suc (w .symbols); store = more; output = w .output })
-      | false ↦ failed 19 w
+      | false ↦ failed (memoryFault false) w
     ]
 
 -- ed4: the value, or 15
 unfoldable pub addValue : Marks → Bytes → Option ℤ → Shared → Building
-addValue m l none w = failed 15 w
+addValue m l none w = failed (valueFault none) w
 addValue m l (some v) w = add l (written m v) w
+
+-- ed5: the length
+unfoldable pub addLength : Bytes → Bytes → Shared → Building
+addLength l s w = add l (decimal (length s)) w
 
 -- ed8: the byte value of exactly one byte, or 16
 unfoldable pub addByteValue : Bytes → Bytes → Shared → Building
@@ -99,40 +106,21 @@ addByteValue l [] w = failed 16 w
 addByteValue l (x ∷ []) w = add l (decimal x) w
 addByteValue l (x ∷ y ∷ s) w = failed 16 w
 
--- edk, for k 0 to 5 and 8
-unfoldable pub addConverted : Marks → Frame → ℕ → ℕ → Bytes → Shared → Building
-addConverted m f d k l w =
-    elim (eqb k 0) [
-      | true ↦ add l (param f d) w
-      | false ↦
-          elim (eqb k 1) [
-            | true ↦ add l (orNothing (find (param f d) (w .store))) w
-            | false ↦
-                elim (eqb k 2) [
-                  | true ↦ addSymbol l (param f d) (find (param f d) (w .store)) w
-                  | false ↦
-                      elim (eqb k 3) [
-                        | true ↦ add l (getD (f .delimiters) (d - 1) []) w
-                        | false ↦
-                            elim (eqb k 4) [
-                              | true ↦ addValue m l (valueOf m (w .store) (param f d)) w
-                              | false ↦
-                                  elim (eqb k 5) [
-                                    | true ↦ add l (decimal (length (param f d))) w
-                                    | false ↦
-                                        addByteValue l (param f d) w
-                                  ]
-                            ]
-                      ]
-                ]
-          ]
-    ]
+-- a conversion of parameter d
+unfoldable pub addConverted : Marks → Frame → ℕ → Conversion → Bytes → Shared → Building
+addConverted m f d Itself l w = add l (param f d) w
+addConverted m f d StoredText l w = add l (orNothing (find (param f d) (w .store))) w
+addConverted m f d Symbol l w = addSymbol l (param f d) (find (param f d) (w .store)) w
+addConverted m f d LatestDelimiter l w = add l (getD (f .delimiters) (d - 1) []) w
+addConverted m f d ExpressionValue l w = addValue m l (valueOf m (w .store) (param f d)) w
+addConverted m f d Length l w = addLength l (param f d) w
+addConverted m f d ByteValue l w = addByteValue l (param f d) w
 
 -- a byte is copied; e0k is the call's number times 10, plus k
 unfoldable pub addPart : Marks → Frame → Part → Bytes → Shared → Building
 addPart m f (byte b) l w = add l (b ∷ []) w
 addPart m f (serial k) l w = add l (decimal (f .number * 10 + k)) w
-addPart m f (convert d k) l w = addConverted m f d k l w
+addPart m f (convert d c) l w = addConverted m f d c l w
 
 -- the parts of a code line, from left to right
 unfoldable pub build : Marks → Frame → List Part → Bytes → Shared → Building
@@ -207,7 +195,7 @@ pastLoop m d (c ∷ b ∷ cs) =
 
 -- eF7: so many passes; 0 or less skips past the matching eF8
 unfoldable pub startRepeat : Marks → Option ℤ → Frame → Shared → Step
-startRepeat m none f w = halts 15 w
+startRepeat m none f w = halts (valueFault none) w
 startRepeat m (some (pos zero)) f w = continues (resumeAt f (f .loops) (pastLoop m 0 (f .next))) w
 startRepeat m (some (pos (suc n))) f w = continues (resumeAt f (byCount n (f .next) ∷ f .loops) (f .next)) w
 startRepeat m (some (negsuc n)) f w = continues (resumeAt f (f .loops) (pastLoop m 0 (f .next))) w
@@ -256,11 +244,11 @@ writeLayout room m ch (c ∷ cs) f w = writeTo room ch (fields m f 256 0 c) (res
 unfoldable pub saveText : Bytes → Bytes → Frame → Shared → Step
 saveText name text f w =
     let more : Store = put name text (w .store) in
-    elim (within more) [ true ↦ continues f (withStore w more) | false ↦ halts 19 w ]
+    elim (within more) [ true ↦ continues f (withStore w more) | false ↦ halts (memoryFault false) w ]
 
 -- a skip by a value: 15 where it is none, 18 where it is negative
 unfoldable pub skipBy : Option ℤ → Frame → Shared → Step
-skipBy none f w = halts 15 w
+skipBy none f w = halts (valueFault none) w
 skipBy (some (pos n)) f w = skips n f w
 skipBy (some (negsuc n)) f w = halts 18 w
 
@@ -283,8 +271,8 @@ skipIf m b f w = elim b [ true ↦ skipBy (valueOf m (w .store) (param f 3)) f w
 
 -- F6: both values, then the comparison
 unfoldable pub skipCompared : Marks → Comparison → Option ℤ → Option ℤ → Frame → Shared → Step
-skipCompared m o none b f w = halts 15 w
-skipCompared m o (some a) none f w = halts 15 w
+skipCompared m o none b f w = halts (valueFault none) w
+skipCompared m o (some a) none f w = halts (valueFault none) w
 skipCompared m o (some a) (some b) f w = skipIf m (compares o a b) f w
 
 -- F50 wants equal texts, F51 unequal ones
@@ -341,11 +329,17 @@ pub data Next : Type 0 where
 unfoldable pub stateWith : State → Option Bytes → List Frame → Shared → State
 stateWith s p fs w = record { input = s .input; line = s .line; pending = p; frames = fs; calls = s .calls; shared = w; events = s .events }
 
--- lines passed over: landed before these lines, beyond the body's end with some left to pass, or 18
+-- lines passed over: landed before these lines, beyond the body's end with some left to pass, or a bad landing
 pub data Passed : Type 0 where
   landed : List Bytes → Passed
   beyond : ℕ → Passed
   badLanding : Passed
+
+-- document 01's number for lines passed over: 18 for a bad landing
+abbrev pub landingFault : Passed → ℕ
+landingFault (landed cs) = 0
+landingFault (beyond n) = 0
+landingFault badLanding = 18
 
 -- n code lines passed over, a layout with its owner; d iterations were opened on the way. The line landed on must lie in
 -- the same iterations as the line skipped from, and a body's end lies in none
@@ -363,7 +357,7 @@ passOver m (suc n) (suc d) (c ∷ cs) =
 unfoldable pub skipFrom : Frame → List Frame → Shared → State → (ℕ → Next) → Passed → Next
 skipFrom f fs w s out (landed cs) = running (stateWith s none (resumeAt f (f .loops) cs ∷ fs) w)
 skipFrom f fs w s out (beyond k) = out k
-skipFrom f fs w s out badLanding = ended 18 (stateWith s none (f ∷ fs) w)
+skipFrom f fs w s out badLanding = ended (landingFault badLanding) (stateWith s none (f ∷ fs) w)
 
 -- lines passed over in the innermost call, then in its callers, at last in the input
 unfoldable pub skipIn : Marks → ℕ → List Frame → Shared → State → Next
@@ -378,7 +372,7 @@ padded ps = ps ++ replicate (9 - length ps) []
 -- a call of a macro, or 14
 unfoldable pub call : Macro → List Bytes → State → Next
 call x ps s =
-    elim (leb 12 (length (s .frames))) [
+    elim (leb callsMost (length (s .frames))) [
       | true ↦ ended 14 s
       | false ↦ running (record {
         input = s .input;
@@ -435,7 +429,7 @@ unfoldable pub readInput : Marks → List Bytes → State → Next
 readInput m [] s = ended 0 (stateWith s none [] (s .shared))
 readInput m (l ∷ ls) s =
     let c : Bytes = upTo (m .source) l in
-    measured (record { input = ls; line = suc (s .line); pending = some c; frames = []; calls = s .calls; shared = s .shared; events = s .events }) c (leb (length c) 200)
+    measured (record { input = ls; line = suc (s .line); pending = some c; frames = []; calls = s .calls; shared = s .shared; events = s .events }) c (leb (length c) lineMost)
 
 unfoldable pub readyIn : Marks → State → List Frame → Next
 readyIn m s [] = readInput m (s .input) s

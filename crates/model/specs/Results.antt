@@ -5,6 +5,7 @@ use mathlib.Core.List.{List, [], _∷_, _++_, map}
 use Prim.Native.Nat.{ℕ, suc, _+_, _-_}
 use lib.Dec.{eqb, ltb}
 use lib.ListN.{length, getD, replicate}
+use Rattle.model.specs.Limits.{lineMost, nodesMost, storeLeast, fuelMost}
 use Rattle.model.specs.declared.Marks.{Marks}
 use Rattle.model.specs.declared.Checked.{Checked}
 use Rattle.model.specs.declared.Fitted.{Fitted}
@@ -16,7 +17,7 @@ use Rattle.model.specs.Machine.{Result, run}
 
 -- 1 where the node row is below 2,048
 unfoldable pub shortRow : ℕ → Bool
-shortRow rows = ltb rows 2048
+shortRow rows = ltb rows nodesMost
 
 -- ---- check
 
@@ -53,7 +54,7 @@ fittedAs t (some r) =
 -- a line over 200 bytes gives 11
 unfoldable pub fittedIn : Bytes → Load → Fitted
 fittedIn line (refused k n) = noPieces k n
-fittedIn line (loaded t) = elim (ltb 200 (length line)) [ true ↦ noPieces 11 0 | false ↦ fittedAs t (chosen (t .marks) (templates (t .macros)) line) ]
+fittedIn line (loaded t) = elim (ltb lineMost (length line)) [ true ↦ noPieces 11 0 | false ↦ fittedAs t (chosen (t .marks) (templates (t .macros)) line) ]
 
 -- a line, taken whole, fitted against the templates of a text
 unfoldable pub fitLine : ℕ → Bytes → Bytes → Fitted
@@ -63,7 +64,7 @@ fitLine rows text line = elim (shortRow rows) [ true ↦ noPieces 1 0 | false �
 
 -- 1 where the fuel isn't 1 to 1,000,000, the node row is below 2,048 or the store below 8,704
 unfoldable pub illegal : ℕ → ℕ → ℕ → Bool
-illegal fuel rows store = ltb fuel 1 || (ltb 1000000 fuel || (shortRow rows || ltb store 8704))
+illegal fuel rows store = ltb fuel 1 || (ltb fuelMost fuel || (shortRow rows || ltb store storeLeast))
 
 -- a run with this fuel, and with rooms of these sizes
 unfoldable pub runText : (fuel rows room store : ℕ) → Bytes → Result

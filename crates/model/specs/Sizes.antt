@@ -6,6 +6,7 @@ use mathlib.Core.List.{List, [], _∷_}
 use Prim.Native.Nat.{ℕ, zero, suc, _≤_}
 use lib.Dec.{eqb, leb}
 use lib.ListN.{length}
+use Rattle.model.specs.Limits.{lineMost, namesMost, memoryMost}
 use Rattle.model.specs.declared.Marks.{Marks}
 use Rattle.model.specs.declared.Effect.the-variants.{Malformed, Plain, Opens, Closes, Owns}
 use Rattle.model.specs.Text.{Bytes}
@@ -40,7 +41,7 @@ wellNested m n cs = leb n 4 && nested m false n cs
 -- every body is well nested, and its code lines have at most 200 bytes
 abbrev pub BodiesOk : Marks → List Macro → Type 0
 BodiesOk m [] = Unit {0}
-BodiesOk m (x ∷ xs) = (wellNested m 0 (x .body) ≡ true) × AllShort 200 (x .body) × BodiesOk m xs
+BodiesOk m (x ∷ xs) = (wellNested m 0 (x .body) ≡ true) × AllShort lineMost (x .body) × BodiesOk m xs
 
 -- the code lines after an open iteration's opening line
 unfoldable pub afterOf : Loop → List Bytes
@@ -64,14 +65,14 @@ FramesOk m (f ∷ fs) = Nested m f × FramesOk m fs
 -- an iteration's rest and old value have at most 200 bytes
 abbrev pub LoopsSmall : List Loop → Type 0
 LoopsSmall [] = Unit {0}
-LoopsSmall (byPieces d rest ds old after ∷ ls) = (length rest ≤ 200) × (length old ≤ 200) × LoopsSmall ls
+LoopsSmall (byPieces d rest ds old after ∷ ls) = (length rest ≤ lineMost) × (length old ≤ lineMost) × LoopsSmall ls
 LoopsSmall (byCount left after ∷ ls) = LoopsSmall ls
 
 -- an open call, where n calls were made
 pub record FrameSmall (n : ℕ) (f : Frame) : Type 0 where
   pub number : f .number ≤ n
   pub nine-params : length (f .params) ≡ 9
-  pub params : AllShort 200 (f .params)
+  pub params : AllShort lineMost (f .params)
   pub nine-delimiters : length (f .delimiters) ≡ 9
   pub delimiters : AllShort 1 (f .delimiters)
   pub loops : LoopsSmall (f .loops)
@@ -84,12 +85,12 @@ FramesSmall n (f ∷ fs) = FrameSmall n f × FramesSmall n fs
 -- each stored name and text has at most 200 bytes
 abbrev pub EntriesShort : Store → Type 0
 EntriesShort [] = Unit {0}
-EntriesShort (e ∷ more) = (length (e .0) ≤ 200) × (length (e .1) ≤ 200) × EntriesShort more
+EntriesShort (e ∷ more) = (length (e .0) ≤ lineMost) × (length (e .1) ≤ lineMost) × EntriesShort more
 
 -- what calls share: 256 names, 8,192 bytes; each number of ed2 has its name; the output fits the room
 pub record SharedSmall (room : ℕ) (w : Shared) : Type 0 where
-  pub names : length (w .store) ≤ 256
-  pub bytes : size (w .store) ≤ 8192
+  pub names : length (w .store) ≤ namesMost
+  pub bytes : size (w .store) ≤ memoryMost
   pub entries : EntriesShort (w .store)
   pub symbols : w .symbols ≤ length (w .store)
   pub output : length (w .output) ≤ room
@@ -97,7 +98,7 @@ pub record SharedSmall (room : ℕ) (w : Shared) : Type 0 where
 -- a pending line has at most 200 bytes
 abbrev pub PendingSmall : Option Bytes → Type 0
 PendingSmall none = Unit {0}
-PendingSmall (some l) = length l ≤ 200
+PendingSmall (some l) = length l ≤ lineMost
 
 -- a state, whatever its pending line: an input line that is too long ends the run while it is pending
 pub record Small (room : ℕ) (s : State) : Type 0 where

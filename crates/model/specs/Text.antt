@@ -78,7 +78,12 @@ others s = getD s 5 0 ∷ getD s 6 0 ∷ getD s 7 0 ∷ getD s 8 0 ∷ getD s 9 
 unfoldable pub legalFlags : List ℕ → Bool
 legalFlags s = leb 12 (length s) && legalMarks (getD s 0 0) (getD s 1 0) (getD s 2 0) (getD s 3 0) (getD s 4 0) (others s)
 
--- the marks of a flag line, or none where it is fault 3
+-- document 01's number for the marks of a flag line: 3 where there are none
+abbrev pub marksFault : Option Marks → ℕ
+marksFault none = 3
+marksFault (some m) = 0
+
+-- the marks of a flag line, or none where it isn't legal
 unfoldable pub marksOf : List ℕ → Option Marks
 marksOf s = elim (legalFlags s) [
   | true ↦ some (record {

@@ -10,7 +10,12 @@ use Rattle.model.specs.declared.Marks.{Marks}
 use Rattle.model.specs.Text.{isDigit, has}
 use Rattle.model.specs.Store.{Store, find, decimal}
 
--- a value of 32 bits, or none: fault 15
+-- document 01's number for a value: 15 where there is none
+abbrev pub valueFault : Option ℤ → ℕ
+valueFault none = 15
+valueFault (some v) = 0
+
+-- a value of 32 bits, or none
 unfoldable pub checked : ℤ → Option ℤ
 checked (pos n) = elim (leb n 2147483647) [ true ↦ some (pos n) | false ↦ none ]
 checked (negsuc n) = elim (leb n 2147483647) [ true ↦ some (negsuc n) | false ↦ none ]
@@ -30,6 +35,11 @@ divided a (negsuc b) = checked (quotient a (negsuc b))
 -- a value and the bytes after it
 abbrev pub Read : Type 0
 Read = Option (ℤ × List ℕ)
+
+-- and its number
+abbrev pub readFault : Read → ℕ
+readFault none = valueFault none
+readFault (some r) = valueFault (some (r .0))
 
 unfoldable pub andThen : Read → (ℤ → List ℕ → Read) → Read
 andThen none f = none

@@ -1,5 +1,41 @@
 // The types that the code shares with its contracts. What document 01 says of them is in specs/.
 
+// Document 01's limits; the limit itself is legal. The bytes of a text.
+pub const TEXT_MOST: usize = 65536;
+
+// The bytes of a content, of a parameter and of a built line.
+pub const LINE_MOST: usize = 200;
+
+// The macros of a text.
+pub const MACROS_MOST: usize = 128;
+
+// The code lines of a text, layouts included.
+pub const CODE_LINES_MOST: usize = 1024;
+
+// The nodes of a text's tree, and the least length of a lent row of nodes.
+pub const NODES_MOST: usize = 2048;
+
+// The placeholders of a template.
+pub const PLACEHOLDERS_MOST: usize = 9;
+
+// The iterations in one another.
+pub const NESTING_MOST: usize = 4;
+
+// The open calls.
+pub const CALLS_MOST: usize = 12;
+
+// The stored names.
+pub const NAMES_MOST: usize = 256;
+
+// The bytes of stored names and texts together.
+pub const MEMORY_MOST: usize = 8192;
+
+// The events of a run.
+pub const FUEL_MOST: u64 = 1000000;
+
+// The least length of a lent store: every listing fits.
+pub const STORE_LEAST: usize = 8704;
+
 // The marks of a flag line. Mark 5 is always the byte `0` and is left out.
 pub struct Marks {
     // mark 1 ends templates and input lines
@@ -33,6 +69,24 @@ pub enum Comparison {
     Unequal,
     Less,
     Greater,
+}
+
+// The conversions that put bytes into a built line, by what each brings in of its parameter.
+pub enum Conversion {
+    // ed0, the parameter
+    Itself,
+    // ed1, the text stored under it, or nothing
+    StoredText,
+    // ed2, as ed1, but a name that isn't stored is first stored with the run's next number
+    Symbol,
+    // ed3, the delimiter that ended its piece in its latest pass, or nothing
+    LatestDelimiter,
+    // ed4, its value as an expression
+    ExpressionValue,
+    // ed5, its length
+    Length,
+    // ed8, the value of its only byte
+    ByteValue,
 }
 
 // What checking a text answers.

@@ -7,7 +7,7 @@ use lib.ListN.{length, getD}
 use Rattle.model.specs.Parts.{Elem}
 use Rattle.nodes.specs.declared.Node.{Node}
 use Rattle.nodes.specs.Rows.{elem, firstOf, countOf, code, kid, holes, Child, Tree}
-use Rattle.nodes.specs.Templates.{onward, walk, In, Represents, Begins}
+use Rattle.nodes.specs.Templates.{onward, walk, In, Represents, Beginnings}
 use Rattle.nodes.proofs.Rows.{among-some, kid-child, kid-within}
 
 -- a walk goes on only from a child
@@ -15,7 +15,7 @@ pub onward-inv : (g : ℕ → ℕ) (k j : ℕ) → onward g k ≡ suc j → (m :
 onward-inv g zero j e = absurd (omega arith)
 onward-inv g (suc m) j e = (m, refl, e)
 
-module _ (rows : List Node) (tree : Tree rows) (ts : List (List Elem)) (pre : ℕ → List Elem) (b : Begins rows ts pre) where
+module _ (rows : List Node) (tree : Tree rows) (ts : List (List Elem)) (pre : ℕ → List Elem) (b : Beginnings rows ts pre) where
   -- what a walk passes is what the beginning has more
   walk-pre : (es : List Elem) (i j : ℕ) → walk (kid rows) i es ≡ suc j → pre (suc j) ≡ pre i ++ es
   walk-pre [] i j w = ap pre (sym w) ∙ sym (append-nil (pre i))

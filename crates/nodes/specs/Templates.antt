@@ -30,7 +30,7 @@ pub record Represents (rows : List Node) (ts : List (List Elem)) : Type 0 where
       → (templateOf rows (suc j) < length ts) × (getD ts (templateOf rows (suc j)) [] ≡ es)
 
 -- the same node by node: pre i is the beginning of the templates at the node i, and its children are those that the templates ask
-pub record Begins (rows : List Node) (ts : List (List Elem)) (pre : ℕ → List Elem) : Type 0 where
+pub record Beginnings (rows : List Node) (ts : List (List Elem)) (pre : ℕ → List Elem) : Type 0 where
   pub root-empty : pre 0 ≡ []
   pub child-after : (i j : ℕ) → Child rows i j → 0 < j
   pub one-more : (i j : ℕ) (e : Elem) → Child rows i j → elem rows j ≡ code e → pre j ≡ pre i ++ e ∷ []

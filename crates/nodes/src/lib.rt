@@ -1,8 +1,8 @@
 // The row of nodes that holds the tree of the templates, and the two functions that touch its elements. Node 0 is the root, and
-// nobody's child.
+// nobody's child. A node that is read or written has to stand in the row, and child asks that the node's children do; nothing else is asked.
+// `&[Node]` is not covered by the checker's own account of a function: child is proved by a walk, and so are node_at and set_node, by hand.
 ghost use mathlib.Core.Path.{_≡_};
 ghost use Prim.Native.Nat.{_+_, _≤_, _<_};
-ghost use mathlib.Core.Bool.{Bool};
 ghost use lib.Dec.{eqb};
 ghost use lib.ListN.{length, getD, set};
 ghost use Rattle.nodes.specs.Rows.{noNode, firstOf, countOf, ChildFor};

@@ -19,11 +19,11 @@ use Rattle.model.specs.Value.{number, allDigits, isStoredNumber, storedNumber, 
 use Rattle.model.proofs.Choices.{and-left, and-right}
 use Rattle.model.proofs.Depth.{number-leaves}
 use Rattle.number.specs.Number.{end, Gives}
-use Rattle.number.specs.Run.{Runs, Reading, Numerals, capped, withSign, signedNumber}
+use Rattle.number.specs.Run.{DigitRun, DigitsRead, Numerals, capped, withSign, signedNumber}
 use Rattle.number.specs.declared.Run.{Run}
 use Rattle.number.specs.declared.Valued.{Valued}
 use Rattle.number.specs.declared.Valued.the-variants.{Fault}
-use Rattle.number.proofs.Signed.{checked-out}
+use Rattle.number.proofs.Signed.{checked-out, gives-value}
 
 and-false : (t : Bool) → t && false ≡ false
 and-false true = refl
@@ -71,11 +71,11 @@ cap-early a (x ∷ l) = go (isDigit x) refl (λ n. cap-early n l)
 -- ---- the loop that reads digits
 
 module _ {s : List ℕ} {at : ℕ} where
-  pub reading-none : at ≤ length s → Reading s at 0 at
+  pub reading-none : at ≤ length s → DigitsRead s at 0 at
   reading-none h = record { amounts = refl; rest = refl; from = le-refl _; upto = h; small = omega arith }
 
-  module _ {amount i : ℕ} (r : Reading s at amount i) where
-    stops : number amount (drop i s) ≡ (amount, drop i s) → Runs s at (record { amount = amount; end = i })
+  module _ {amount i : ℕ} (r : DigitsRead s at amount i) where
+    stops : number amount (drop i s) ≡ (amount, drop i s) → DigitRun s at (record { amount = amount; end = i })
     stops e =
         let a = rw e at (r .amounts) in
         let b = rw e at (r .rest) in
@@ -84,17 +84,17 @@ module _ {s : List ℕ} {at : ℕ} where
         capped-small : capped amount ≡ amount
         capped-small = omega (arith, r .small)
 
-    pub reading-ended : i ≡ length s → Runs s at (record { amount = amount; end = i })
+    pub reading-ended : i ≡ length s → DigitRun s at (record { amount = amount; end = i })
     reading-ended e = stops (rw (e, drop-length s) (number-none amount))
 
     module _ (inside : i < length s) {q : Bool} (tested : q ≡ isDigit (getD s i 0)) where
-      pub reading-other : not q ≡ true → Runs s at (record { amount = amount; end = i })
+      pub reading-other : not q ≡ true → DigitRun s at (record { amount = amount; end = i })
       reading-other e = stops (rw (drop-cons s i 0 inside) (number-other amount _ _ (sym tested ∙ not-true q e)))
 
       pub reading-digit : not q ≡ false → isDigit (getD s i 0) ≡ true
       reading-digit e = sym tested ∙ not-false q e
 
-      pub reading-more : {a : ℕ} → not q ≡ false → a ≡ capped (amount * 10 + (getD s i 0 - 48)) → Reading s at a (i + 1)
+      pub reading-more : {a : ℕ} → not q ≡ false → a ≡ capped (amount * 10 + (getD s i 0 - 48)) → DigitsRead s at a (i + 1)
       reading-more e w =
           let step : number amount (drop i s) ≡ number (amount * 10 + (getD s i 0 - 48)) (drop (suc i) s) = rw (drop-cons s i 0 inside) (number-digit amount _ _ (reading-digit e)) in
           rw (w, add-one i) (record {
@@ -122,7 +122,7 @@ cap-checked minus n = go (leb n end) refl
         let h = leb-false n end e in
         checked-out _ (far minus (capped n) (omega arith)) ∙ sym (checked-out _ (far minus n h))
 
-pub numeral : {s : List ℕ} {at : ℕ} {r : Run} → Runs s at r → {v : Valued} → Gives v (checked (withSign false (pos (r .amount)))) → Numerals s at (record { value = v; end = r .end })
+pub numeral : {s : List ℕ} {at : ℕ} {r : Run} → DigitRun s at r → {v : Valued} → Gives v (checked (withSign false (pos (r .amount)))) → Numerals s at (record { value = v; end = r .end })
 numeral {s} {at} {r} run g = record {
   gives = rw (run .amount, cap-checked false (number 0 (drop at s) .0)) at g;
   rest = run .rest;
@@ -152,7 +152,7 @@ module _ (minus : Bool) (s : List ℕ) (at : ℕ) where
 
   fault : isStoredNumber (drop at s) ≡ false → Gives Fault (signedNumber minus (drop at s))
   unfolding signedNumber
-  fault e = record { is = rw (e, signedNumber); fits = tt }
+  fault e = gives-value (rw (e, signedNumber)) tt
 
   pub no-digit : length s - at ≡ 0 → Gives Fault (signedNumber minus (drop at s))
   unfolding isStoredNumber
@@ -162,7 +162,7 @@ module _ (minus : Bool) (s : List ℕ) (at : ℕ) where
   unfolding isStoredNumber
   too-many h = fault (rw (long, lt-leb (length s - at) 10 h) (and-false (leb 1 (length s - at))))
 
-  module _ {r : Run} (run : Runs s at r) where
+  module _ {r : Run} (run : DigitRun s at r) where
     left : length (number 0 (drop at s) .1) ≡ length s - r .end
     left = rw (run .rest) (length-drop (r .end) s)
 
@@ -185,7 +185,7 @@ module _ (minus : Bool) (s : List ℕ) (at : ℕ) where
 module _ (m : Marks) where
   pub stored-none : (s : List ℕ) → length s ≡ 0 → Gives Fault (storedNumber m s)
   unfolding storedNumber
-  stored-none [] h = record { is = refl; fits = tt }
+  stored-none [] h = gives-value refl tt
   stored-none (x ∷ s) h = absurd (omega arith)
 
   by-minus : (s : List ℕ) → (length s ≡ 0 → ⊥) → getD s 0 0 ≡ m .minus → storedNumber m s ≡ signedNumber true (drop 1 s)

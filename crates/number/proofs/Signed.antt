@@ -5,7 +5,7 @@
 --     below-range, above-range, in-range     the two tests of `narrow`, as the one test of `checked`
 use mathlib.Core.Path.{_≡_, refl, sym, ap, _∙_}
 use mathlib.Core.Bool.{Bool, true, false, cond}
-use mathlib.Core.Option.{none, some}
+use mathlib.Core.Option.{Option, none, some}
 use Prim.Native.Nat.{ℕ, zero, suc, _+_, _-_, _*_, _/_, _≤_, _<_}
 use native.Mathlib.Nat.{le-refl, le-trans, mul-le-mul, div-le-self, lt-of-le-of-lt}
 use native.Mathlib.Omega.{arith}
@@ -16,9 +16,10 @@ use lib.Signed.{mag, ltZ, nonNeg, quotZ}
 use mir.Syntax.{w64}
 use mir.Val.{SFits, Fits, toZ, ofZ}
 use mir.Facts.{toZ-ofZ, sfits-widen}
-use Rattle.model.specs.Value.{checked, quotient, divided}
+use Rattle.model.specs.Value.{valueFault, checked, quotient, divided}
 use Rattle.model.proofs.Choices.{false-not-true}
-use Rattle.number.specs.Number.{width, end, Gives}
+use Rattle.number.specs.Number.{width, end, numberOf, valuedFault, InRange, Gives}
+use Rattle.number.specs.declared.Valued.{Valued}
 use Rattle.number.specs.declared.Valued.the-variants.{Number, Fault}
 
 module _ {z : ℤ} (f : SFits width z) where
@@ -45,11 +46,19 @@ unfolding checked
 checked-out (pos n) h = rw (lt-leb n (end - 1) (omega arith), checked)
 checked-out (negsuc n) h = rw (lt-leb n (end - 1) (omega arith), checked)
 
+-- an answer's number is that of its value
+pub valued-fault : (r : Valued) → valuedFault r ≡ valueFault (numberOf r)
+valued-fault (Number z) = refl
+valued-fault Fault = refl
+
+pub gives-value : {r : Valued} {o : Option ℤ} → numberOf r ≡ o → InRange r → Gives r o
+gives-value {r} e f = record { is = e; number = valued-fault r ∙ ap valueFault e; fits = f }
+
 pub gives-fault : (z : ℤ) → end ≤ mag z → Gives Fault (checked z)
-gives-fault z h = record { is = sym (checked-out z h); fits = tt }
+gives-fault z h = gives-value (sym (checked-out z h)) tt
 
 pub gives-number : (z : ℤ) → mag z < end → Gives (Number z) (checked z)
-gives-number z h = record { is = sym (checked-in z h); fits = h }
+gives-number z h = gives-value (sym (checked-in z h)) h
 
 pub below-range : (z : ℤ) → ltZ z (negsuc (end - 1)) ≡ true → end ≤ mag z
 below-range (pos n) e = false-not-true e

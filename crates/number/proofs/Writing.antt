@@ -15,7 +15,7 @@ use Rattle.model.specs.Store.{decimal}
 use Rattle.model.specs.Value.{written}
 use Rattle.model.proofs.Choices.{false-not-true}
 use Rattle.model.proofs.Text.{part-front}
-use Rattle.number.specs.Number.{Writes}
+use Rattle.number.specs.Number.{WritesValue}
 
 module _ (m : Marks) (z : ℤ) {n : ℕ} (size : n ≡ natAbs z) where
   plain : ltZ z (pos 0) ≡ false → decimal n ≡ written m z
@@ -34,10 +34,10 @@ module _ (m : Marks) (z : ℤ) {n : ℕ} (size : n ≡ natAbs z) where
       go (pos k) q e = absurd (omega (arith, ltb-true k 0 e))
       go (negsuc k) q e = ap (λ i. m .minus ∷ decimal i) q
 
-  pub writes-plain : ltZ z (pos 0) ≡ false → {r : ℕ} {out : List ℕ} → Decimal n r out → Writes m z r out
+  pub writes-plain : ltZ z (pos 0) ≡ false → {r : ℕ} {out : List ℕ} → Decimal n r out → WritesValue m z r out
   writes-plain e d = record { is = d .is ∙ plain e; few = omega (arith, d .few) }
 
-  pub writes-minus : ltZ z (pos 0) ≡ true → (o : List ℕ) → 0 < length o → {r : ℕ} {s : List ℕ} → Decimal n r s → r ≤ length s → (t : List ℕ) → Writes m z (r + 1) (set (take 1 o ++ (s ++ t)) 0 (m .minus))
+  pub writes-minus : ltZ z (pos 0) ≡ true → (o : List ℕ) → 0 < length o → {r : ℕ} {s : List ℕ} → Decimal n r s → r ≤ length s → (t : List ℕ) → WritesValue m z (r + 1) (set (take 1 o ++ (s ++ t)) 0 (m .minus))
   writes-minus e [] l d h t = absurd (omega arith)
   writes-minus e (x ∷ o) l {r} {s} d h t =
       let longer : r + 1 - 0 ≡ suc r = omega arith in

@@ -8,7 +8,7 @@ use lib.Signed.{mag}
 use mir.Syntax.{Width, w32}
 use Rattle.model.specs.declared.Marks.{Marks}
 use Rattle.model.specs.Text.{part}
-use Rattle.model.specs.Value.{checked, divided, written}
+use Rattle.model.specs.Value.{valueFault, checked, divided, written}
 use Rattle.number.specs.declared.Valued.{Valued}
 use Rattle.number.specs.declared.Valued.the-variants.{Number, Fault}
 use Rattle.number.specs.declared.Step.{Step}
@@ -21,10 +21,15 @@ width = w32
 abbrev pub end : ℕ
 end = 2147483648
 
--- the value of an answer; none is 01's number 15
+-- the value of an answer
 abbrev pub numberOf : Valued → Option ℤ
 numberOf (Number z) = some z
 numberOf Fault = none
+
+-- and document 01's number for it: a fault is 15
+abbrev pub valuedFault : Valued → ℕ
+valuedFault (Number z) = 0
+valuedFault Fault = 15
 
 -- `mag z` is n for n and for -(n + 1)
 abbrev pub InRange : Valued → Type 0
@@ -34,18 +39,19 @@ InRange Fault = Unit {0}
 -- r is the answer for the value o
 pub record Gives (r : Valued) (o : Option ℤ) : Type 0 where
   pub is : numberOf r ≡ o
+  pub number : valuedFault r ≡ valueFault o
   pub fits : InRange r
 
 -- what a step makes of the value so far, a, and the next value, b
-abbrev pub stepped : Step → ℤ → ℤ → Option ℤ
-stepped First a b = some b
-stepped Negated a b = checked (negℤ b)
-stepped Plus a b = checked (a +ℤ b)
-stepped Minus a b = checked (a -ℤ b)
-stepped Times a b = checked (a *ℤ b)
-stepped Divide a b = divided a b
+abbrev pub stepValue : Step → ℤ → ℤ → Option ℤ
+stepValue First a b = some b
+stepValue Negated a b = checked (negℤ b)
+stepValue Plus a b = checked (a +ℤ b)
+stepValue Minus a b = checked (a -ℤ b)
+stepValue Times a b = checked (a *ℤ b)
+stepValue Divide a b = divided a b
 
 -- the value z in decimal is the first r bytes of out
-pub record Writes (m : Marks) (z : ℤ) (r : ℕ) (out : List ℕ) : Type 0 where
+pub record WritesValue (m : Marks) (z : ℤ) (r : ℕ) (out : List ℕ) : Type 0 where
   pub is : part out 0 r ≡ written m z
   pub few : r ≤ 21

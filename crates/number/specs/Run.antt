@@ -17,7 +17,7 @@ abbrev pub capped : ℕ → ℕ
 capped n = min n (end + 1)
 
 -- r is the run of digits of s from `at` on
-pub record Runs (s : List ℕ) (at : ℕ) (r : Run) : Type 0 where
+pub record DigitRun (s : List ℕ) (at : ℕ) (r : Run) : Type 0 where
   pub amount : r .amount ≡ capped (number 0 (drop at s) .0)
   pub rest : number 0 (drop at s) .1 ≡ drop (r .end) s
   pub from : at ≤ r .end
@@ -32,7 +32,7 @@ unfoldable pub signedNumber : Bool → List ℕ → Option ℤ
 signedNumber minus s = elim (isStoredNumber s) [ true ↦ checked (withSign minus (pos (number 0 s .0))) | false ↦ none ]
 
 -- the digits of s from `at` up to i write the amount so far
-pub record Reading (s : List ℕ) (at amount i : ℕ) : Type 0 where
+pub record DigitsRead (s : List ℕ) (at amount i : ℕ) : Type 0 where
   pub amounts : capped (number amount (drop i s) .0) ≡ capped (number 0 (drop at s) .0)
   pub rest : number amount (drop i s) .1 ≡ number 0 (drop at s) .1
   pub from : at ≤ i

@@ -9,8 +9,8 @@ ghost use Prim.Native.Nat.{_+_, _*_, _-_, _≤_};
 ghost use Rattle.model.specs.Text.{isDigit};
 ghost use Rattle.model.specs.Value.{checked, storedNumber};
 ghost use Rattle.model.specs.Machine.{compares};
-ghost use Rattle.number.specs.Number.{end, Gives, Writes, stepped};
-ghost use Rattle.number.specs.Run.{Runs, Numerals, capped, withSign, signedNumber};
+ghost use Rattle.number.specs.Number.{end, Gives, WritesValue, stepValue};
+ghost use Rattle.number.specs.Run.{DigitRun, Numerals, capped, withSign, signedNumber};
 
 // The ends of the range, and the amount at which digits count no further.
 const LEAST: i64 = -2147483648;
@@ -50,7 +50,7 @@ fn narrow(z: i64) -> Valued
 
 // What a step makes of the value so far, a, and the next value, b.
 pub fn apply(k: Step, a: i32, b: i32) -> Valued
-    ensures { λ r. ⌜ Gives r (stepped k a b) ⌝ }
+    ensures { λ r. ⌜ Gives r (stepValue k a b) ⌝ }
 {
     let x = a as i64;
     let y = b as i64;
@@ -82,7 +82,7 @@ pub fn compare(o: Comparison, a: i32, b: i32) -> bool
 pub fn is_digit(b: u8) -> bool
     ensures { λ r. ⌜ r ≡ isDigit b ⌝ }
 {
-    (48 <= b) & (b <= 57)
+    (b'0' <= b) & (b <= b'9')
 }
 
 // The amount with one more digit.
@@ -90,7 +90,7 @@ fn add_digit(amount: usize, b: u8) -> usize
     requires { ⌜ (amount ≤ end + 1) × (isDigit b ≡ true) ⌝ }
     ensures { λ r. ⌜ r ≡ capped (amount * 10 + (b - 48)) ⌝ }
 {
-    let n = amount * 10 + buffer::wide(b - 48);
+    let n = amount * 10 + buffer::wide(b - b'0');
     if CAP < n {
         return CAP;
     }
@@ -106,7 +106,7 @@ pub struct Run {
 // The digits from `at` on.
 fn read_digits(s: &[u8], at: usize) -> Run
     requires { ⌜ at ≤ length (now s) ⌝ }
-    ensures { λ r. ⌜ Runs (now (s .entry)) at r ⌝ }
+    ensures { λ r. ⌜ DigitRun (now (s .entry)) at r ⌝ }
 {
     let mut amount = 0;
     let mut i = at;
@@ -198,7 +198,7 @@ fn magnitude(v: i32) -> u64
 // A value in decimal: its bytes are `&out[0..r]` for the answer r.
 pub fn write_value(m: Marks, v: i32, out: &mut [u8]) -> usize
     requires { ⌜ 21 ≤ length (now out) ⌝ }
-    ensures { λ r. ⌜ Writes m v r (now (out .exit)) ⌝ }
+    ensures { λ r. ⌜ WritesValue m v r (now (out .exit)) ⌝ }
 {
     let n = magnitude(v);
     if v < 0 {

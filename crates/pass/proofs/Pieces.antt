@@ -101,7 +101,8 @@ module _ {m : Marks} {line : Bytes} {at : ℕ} {list : Bytes} where
       record {
         low = omega arith;
         high = high;
-        is = t .is ∙ ap (longer (part line at i)) (ap (piece m list) (drop-cons line i 0 h) ∙ piece-atom m list (getD line i 0) (drop (suc i) line) (part line i n) (drop n line) (sym (b .is) ∙ e) found (omega arith))
+        is = t .is ∙ ap (longer (part line at i)) (ap (piece m list) (drop-cons line i 0 h)
+            ∙ piece-atom m list (getD line i 0) (drop (suc i) line) (part line i n) (drop n line) (sym (b .is) ∙ e) found (omega arith))
             ∙ longer-longer (part line at i) (part line i n) (piece m list (drop n line))
             ∙ ap (λ (p : Bytes). longer p (piece m list (drop n line))) (part-join line at i n (t .low) (omega arith));
       }
@@ -185,7 +186,8 @@ module _ {m : Marks} {line : Bytes} {at : ℕ} {list : Bytes} where
 
 -- ---- what a caller learns by the flag
 
-pub piece-taken : (line : Bytes) (at : ℕ) (t : Taken) → t .ok ≡ true → pieceAt line at t ≡ some (record { piece = part line at (t .end); delimiter = delimiterOf (t .delimiter); rest = drop (t .rest) line })
+pub piece-taken : (line : Bytes) (at : ℕ) (t : Taken) → t .ok ≡ true
+    → pieceAt line at t ≡ some (record { piece = part line at (t .end); delimiter = delimiterOf (t .delimiter); rest = drop (t .rest) line })
 unfolding pieceAt
 piece-taken line at t e = rw (e, pieceAt) refl
 

@@ -1,4 +1,5 @@
-// What a pass of an iteration takes from the line it goes over (document 01, "A call's code").
+// What a pass of an iteration takes from the line it goes over (document 01, "A call's code"). The pass has to start
+// in the line or at its end; nothing else is asked.
 use atom::next_atom;
 use buffer::wide;
 use model::Marks;
@@ -6,6 +7,9 @@ use scan::has_byte;
 ghost use Prim.Native.Nat.{_≤_, _<_};
 ghost use lib.ListN.{length};
 ghost use Rattle.pass.specs.Pass.{Takes};
+
+// In place of a delimiter: none.
+pub const NO_DELIMITER: usize = 256;
 
 // What a pass takes: the piece ends before `end`, and the rest starts at `rest`. Not ok: a bracket begins no atom.
 pub struct Taken {
@@ -38,7 +42,7 @@ fn take_atoms(m: Marks, line: &[u8], at: usize, list: &[u8]) -> Taken
             return Taken {
                 ok: false,
                 end: i,
-                delimiter: 256,
+                delimiter: NO_DELIMITER,
                 rest: line.len(),
             };
         }
@@ -47,7 +51,7 @@ fn take_atoms(m: Marks, line: &[u8], at: usize, list: &[u8]) -> Taken
     Taken {
         ok: true,
         end: i,
-        delimiter: 256,
+        delimiter: NO_DELIMITER,
         rest: i,
     }
 }
@@ -64,14 +68,14 @@ pub fn take_piece(m: Marks, line: &[u8], at: usize, list: &[u8]) -> Taken
         return Taken {
             ok: true,
             end: at,
-            delimiter: 256,
+            delimiter: NO_DELIMITER,
             rest: at,
         };
     }
     Taken {
         ok: true,
         end: at + 1,
-        delimiter: 256,
+        delimiter: NO_DELIMITER,
         rest: at + 1,
     }
 }

@@ -15,13 +15,14 @@ use Rattle.model.proofs.Input.{text-short}
 use Rattle.nodes.specs.declared.Node.{Node}
 use Rattle.nodes.specs.Templates.{Represents}
 use Rattle.fit.proofs.Choose.{tree-of}
-use Rattle.templates.specs.Table.{table, Entries}
-use Rattle.tree.specs.Built.{Ready, Built}
+use Rattle.macros.specs.Table.{templatesIn, macrosIn, Entries}
+use Rattle.macros.proofs.Table.{macros-templates}
+use Rattle.tree.specs.Built.{ReadyToBuild, Built}
 use Rattle.load.specs.declared.Loading.{Loading}
-use Rattle.load.specs.Table.{macrosOf, loadedOf}
-use Rattle.load.proofs.Tables.{macros-templates, loads-ready}
+use Rattle.load.specs.Answer.{loadedOf}
+use Rattle.load.proofs.Answer.{loads-loaded, loads-ready}
 use Rattle.prepare.specs.declared.Tables.{Tables}
-use Rattle.prepare.specs.Prepares.{columnsOf, LoadsAll, HasTree, Prepares}
+use Rattle.prepare.specs.Prepares.{LoadsAll, HasTree, Prepares}
 
 module _ {text : Bytes} {t : Tables} (h : LoadsAll text t) where
   abbrev r : Loading
@@ -29,20 +30,20 @@ module _ {text : Bytes} {t : Tables} (h : LoadsAll text t) where
 
   -- the macros, and their templates as the table has them
   abbrev macros : List Macro
-  macros = macrosOf (r .marks) text (columnsOf t) (r .count)
+  macros = macrosIn (r .marks) text (t .table) (r .count)
 
   abbrev listed : List Bytes
-  listed = table text (t .starts) (t .lens) (r .count)
+  listed = templatesIn text (t .table) (r .count)
 
   same : templates macros ≡ listed
-  same = macros-templates (r .marks) text (columnsOf t) (r .count)
+  same = macros-templates (r .marks) text (t .table) (r .count)
 
   legal : r .number ≡ 0 → Lawful (r .marks) × Legal (r .marks) macros
-  legal z = load-legal text (loadedOf text (columnsOf t) r) (h .loads .loads z)
+  legal z = load-legal text (loadedOf text (t .table) r) (loads-loaded h z)
 
   -- the tree of what is loaded can be built in a row of 2,048 nodes
-  pub can-build : {row : List Node} → r .number ≡ 0 → 2048 ≤ length row → Entries text (t .starts) (t .lens) (r .count) × Ready (r .marks .placeholder) listed row
-  can-build z u = (h .loads .inside .entries, loads-ready (h .loads) z u)
+  pub can-build : {row : List Node} → r .number ≡ 0 → 2048 ≤ length row → Entries text (t .table) (r .count) × ReadyToBuild (r .marks .placeholder) listed row
+  can-build z u = (h .inside z .entries, loads-ready h z u)
 
   -- what is built is the tree of the text's templates
   has-tree : (row : List Node) (c : ℕ) → r .number ≡ 0 → c ≤ length row → Built (r .marks) listed (take c row) → HasTree text t row
@@ -50,14 +51,14 @@ module _ {text : Bytes} {t : Tables} (h : LoadsAll text t) where
       let is : Represents (take c row) (map (elems (r .marks)) (templates macros)) =
       subst (λ (ts : List Bytes). Represents (take c row) (map (elems (r .marks)) ts)) (sym same) (b .represents) in
       record {
-        short = text-short text (loadedOf text (columnsOf t) r) (h .loads .loads z);
+        short = text-short text (loadedOf text (t .table) r) (loads-loaded h z);
         fits = record {
           made = c;
           stands = record { within = u; tree = b .tree };
           root = omega (arith, b .some-node, length-take-le c row u);
           of = tree-of (r .marks) (take c row) (templates macros) is (legal z .1 .different) (brackets (r .marks) (legal z .0));
         };
-        nested = load-nested text (loadedOf text (columnsOf t) r) (h .loads .loads z);
+        nested = load-nested text (loadedOf text (t .table) r) (loads-loaded h z);
       }
 
   -- a text that loads

@@ -3,29 +3,24 @@ use mathlib.Core.Path.{_≡_}
 use mathlib.Core.List.{List}
 use Prim.Native.Nat.{ℕ, _≤_}
 use lib.ListN.{length}
+use Rattle.model.specs.Limits.{textMost}
 use Rattle.model.specs.Text.{Bytes}
 use Rattle.model.specs.Load.{templates, load}
 use Rattle.model.specs.Sizes.{BodiesOk}
 use Rattle.nodes.specs.declared.Node.{Node}
 use Rattle.fit.specs.Chosen.{TreeAt}
-use Rattle.load.specs.declared.Loading.{Loading}
-use Rattle.load.specs.Table.{Table, tableOf, Room, loadedOf, Loads}
+use Rattle.load.specs.Answer.{loadedOf, Loads}
 use Rattle.prepare.specs.declared.Tables.{Tables}
 
--- the columns of the table
-abbrev pub columnsOf : Tables → Table
-columnsOf t = tableOf (t .starts) (t .lens) (t .numbers) (t .bodies)
-
 -- t is what loading the text comes to
-pub record LoadsAll (text : Bytes) (t : Tables) : Type 0 where
-  pub loads : Loads (load text) text (columnsOf t) (t .loading)
-  pub room : Room (columnsOf t)
+abbrev pub LoadsAll : Bytes → Tables → Type 0
+LoadsAll text t = Loads (load text) text (t .table) (t .loading)
 
 -- what an expansion needs of a loaded text, besides its table: the tree of its templates stands in the row
 pub record HasTree (text : Bytes) (t : Tables) (row : List Node) : Type 0 where
-  pub short : length text ≤ 65536
-  pub fits : TreeAt (t .loading .marks) row (templates (loadedOf text (columnsOf t) (t .loading) .macros))
-  pub nested : BodiesOk (t .loading .marks) (loadedOf text (columnsOf t) (t .loading) .macros)
+  pub short : length text ≤ textMost
+  pub fits : TreeAt (t .loading .marks) row (templates (loadedOf text (t .table) (t .loading) .macros))
+  pub nested : BodiesOk (t .loading .marks) (loadedOf text (t .table) (t .loading) .macros)
 
 -- t is what loading the text and building its tree in the row of nodes comes to
 pub record Prepares (text : Bytes) (row : List Node) (t : Tables) : Type 0 where

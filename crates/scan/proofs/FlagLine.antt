@@ -11,12 +11,12 @@ use lib.Dec.{eqb}
 use lib.ListN.{length, getD, drop, drop-of-length-le}
 use lib.Seq.{drop-cons}
 use Rattle.model.specs.declared.Marks.{Marks}
-use Rattle.model.specs.Text.{Bytes, part, has, plain, allPlain, distinct, apart, legalMarks, others, legalFlags, marksOf}
+use Rattle.model.specs.Text.{Bytes, part, has, plain, allPlain, distinct, apart, legalMarks, others, legalFlags, marksFault, marksOf}
 use Rattle.model.specs.Legal.{operators}
 use Rattle.model.proofs.Text.{part-rest}
 use Rattle.scan.specs.declared.Flags.{Flags}
 use Rattle.scan.specs.declared.Flags.the-variants.{Legal, Fault}
-use Rattle.scan.specs.Lines.{Has, PlainByte, AllPlain, AllDiffer, LegalMarks, flagsOf, MarksAt}
+use Rattle.scan.specs.Lines.{Has, PlainByte, AllPlain, AllDiffer, LegalMarks, flagsOf, flagsFault, MarksAt}
 
 -- ---- a test of each byte and those after it
 
@@ -106,11 +106,19 @@ pub legal-by : {m : Marks} {p q r : Bool} → AllPlain (m .source ∷ m .placeho
 unfolding legalMarks apart
 legal-by p q r = record { is = rw (p .is, q .is, r .is) }
 
+-- an answer's number is that of its marks
+flags-fault : (r : Flags) → flagsFault r ≡ marksFault (flagsOf r)
+flags-fault (Legal m) = refl
+flags-fault Fault = refl
+
+marks-at : {text : Bytes} {end : ℕ} {r : Flags} → flagsOf r ≡ marksOf (part text 0 end) → MarksAt text end r
+marks-at {r = r} e = record { is = e; number = flags-fault r ∙ ap marksFault e }
+
 -- the answer for what legalFlags says of the line
 answer : (text : Bytes) (end : ℕ) (b : Bool) → legalFlags (part text 0 end) ≡ b → MarksAt text end (elim b as (λ _. Flags) [ true ↦ Legal (marksIn (part text 0 end)) | false ↦ Fault ])
 unfolding marksOf
-answer text end true e = record { is = rw (e, marksOf) }
-answer text end false e = record { is = rw (e, marksOf) }
+answer text end true e = marks-at (rw (e, marksOf))
+answer text end false e = marks-at (rw (e, marksOf))
 
 pub fault-short : {text : Bytes} {end : ℕ} → length (part text 0 end) < 12 → MarksAt text end Fault
 unfolding legalFlags

@@ -13,7 +13,7 @@ use Rattle.model.specs.Text.{Bytes, part, startsWith, upTo, lines}
 use Rattle.model.specs.Load.{bodyOf, bodyAt}
 use Rattle.model.proofs.Choices.{false-not-true}
 use Rattle.model.proofs.Text.{part-length, part-rest, part-whole, part-empty, part-cons, part-take}
-use Rattle.scan.specs.Lines.{lineAt, Found, Has, Begins, LineAt, ContentAt, CodeAt}
+use Rattle.scan.specs.Lines.{lineAt, FindsByte, Has, Begins, LineAt, ContentAt, CodeAt}
 use Rattle.scan.proofs.Lines.{upTo-stops, upTo-goes-on, upTo-front, upTo-short, has-upTo, lines-at, body-none, body-ends, body-goes-on}
 
 -- ---- find_byte
@@ -34,7 +34,7 @@ seeking-goes-on {s} {from} {to} {b} {i} h k f =
     record { low = omega arith; high = omega arith; within = h .within; same = rw add-one (omega arith) }
 
 -- found where nothing precedes b any more
-found-by : (s : Bytes) (from to b r : ℕ) → Seeking s from to b r → length (upTo b (part s r to)) ≡ 0 → Found s from to b r
+found-by : (s : Bytes) (from to b r : ℕ) → Seeking s from to b r → length (upTo b (part s r to)) ≡ 0 → FindsByte s from to b r
 found-by s from to b r h z =
     let p : Bytes = part s from to in
     let k : length (upTo b p) ≤ length p = upTo-short b p in
@@ -46,21 +46,21 @@ found-by s from to b r h z =
       is = sym (upTo-front b p ∙ part-take s from to (length (upTo b p)) (omega arith) ∙ ap (part s from) e);
     }
 
-pub found-there : {s : Bytes} {from to b i : ℕ} → Seeking s from to b i → i < to → getD s i 0 ≡ b → Found s from to b i
+pub found-there : {s : Bytes} {from to b i : ℕ} → Seeking s from to b i → i < to → getD s i 0 ≡ b → FindsByte s from to b i
 found-there {s} {from} {to} {b} {i} h k e =
     found-by s from to b i h (ap (λ (l : Bytes). length (upTo b l)) (part-cons s i to k (h .within)) ∙ ap length (upTo-stops b (getD s i 0) (part s (suc i) to) e))
 
-pub found-nowhere : {s : Bytes} {from to b i : ℕ} → Seeking s from to b i → to ≤ i → Found s from to b i
+pub found-nowhere : {s : Bytes} {from to b i : ℕ} → Seeking s from to b i → to ≤ i → FindsByte s from to b i
 unfolding upTo
 found-nowhere {s} {from} {to} {b} {i} h k = found-by s from to b i h (ap (λ (l : Bytes). length (upTo b l)) (part-empty s i to k))
 
 -- how far it is
-pub found-length : {s : Bytes} {from to b r : ℕ} → Found s from to b r → to ≤ length s → length (upTo b (part s from to)) ≡ r - from
+pub found-length : {s : Bytes} {from to b r : ℕ} → FindsByte s from to b r → to ≤ length s → length (upTo b (part s from to)) ≡ r - from
 found-length {s} {from} {to} {b} {r} h k = ap length (sym (h .is)) ∙ part-length s from r (omega arith)
 
 -- ---- has_byte
 
-pub has-found : {s : Bytes} {b r : ℕ} → Found s 0 (length s) b r → Has s b (ltb r (length s))
+pub has-found : {s : Bytes} {b r : ℕ} → FindsByte s 0 (length s) b r → Has s b (ltb r (length s))
 has-found {s} {b} {r} h =
     let e : length (upTo b s) ≡ r = ap (λ (l : Bytes). length (upTo b l)) (sym (part-whole s)) ∙ found-length h (omega arith) ∙ omega arith in
     record { is = ap (λ (n : ℕ). ltb n (length s)) (sym e) ∙ sym (has-upTo b s) }
@@ -86,7 +86,7 @@ begins-inside {text} {at} {end} {b} h e = by (ltb at end) refl
 
 -- ---- read_line
 
-line-by : (text : Bytes) (at r next : ℕ) → Found text at (length text) 10 r → at < length text → r ≤ next → at < next → next ≤ length text → drop (suc r) text ≡ drop next text
+line-by : (text : Bytes) (at r next : ℕ) → FindsByte text at (length text) 10 r → at < length text → r ≤ next → at < next → next ≤ length text → drop (suc r) text ≡ drop next text
     → LineAt text at r next
 line-by text at r next h k p q w e =
     let l : part text at r ≡ lineAt text at = h .is ∙ ap (upTo 10) (part-rest text at) in
@@ -101,10 +101,10 @@ line-by text at r next h k p q w e =
           ∙ ap (λ (i : ℕ). part text at r ∷ lines (drop i text)) z ∙ ap (λ (x : Bytes). part text at r ∷ lines x) e;
     }
 
-pub line-ended : {text : Bytes} {at r : ℕ} → Found text at (length text) 10 r → r < length text → LineAt text at r (r + 1)
+pub line-ended : {text : Bytes} {at r : ℕ} → FindsByte text at (length text) 10 r → r < length text → LineAt text at r (r + 1)
 line-ended {text} {at} {r} h k = rw add-one (line-by text at r (suc r) h (omega (arith, h .low)) (omega arith) (omega (arith, h .low)) (omega arith) refl)
 
-pub line-last : {text : Bytes} {at r : ℕ} → Found text at (length text) 10 r → at < length text → length text ≤ r → LineAt text at r r
+pub line-last : {text : Bytes} {at r : ℕ} → FindsByte text at (length text) 10 r → at < length text → length text ≤ r → LineAt text at r r
 line-last {text} {at} {r} h k p =
     line-by text at r r h k (omega arith) (omega arith) (h .high) (drop-of-length-le text {i = suc r} (omega arith) ∙ sym (drop-of-length-le text {i = r} p))
 
@@ -116,7 +116,7 @@ line-is {text} {at} {end} {next} h =
 
 -- ---- read_content
 
-pub content-at : {text : Bytes} {mark at stop end next : ℕ} → LineAt text at stop next → Found text at stop mark end → ContentAt text mark at end next
+pub content-at : {text : Bytes} {mark at stop end next : ℕ} → LineAt text at stop next → FindsByte text at stop mark end → ContentAt text mark at end next
 content-at {text} {mark} {at} {stop} {end} {next} h f = record {
   low = f .low;
   high = omega (arith, f .high, h .high);
@@ -148,7 +148,7 @@ code-ends {m} {text} {at} {stop} {next} h g e =
     code-none m text at (omega (arith, h .ahead, h .within)) (ap (bodyOf m) (h .is) ∙ body-ends m (part text at stop) (lines (drop next text)) (sym (g .is) ∙ e))
 
 pub code-more : {m : Marks} {text : Bytes} {at stop end next : ℕ} {b : Bool} → LineAt text at stop next → Begins text at stop (m .code) b → b ≡ false
-    → Found text at stop (m .code) end → CodeAt m text at (record { there = true; end = end; next = next })
+    → FindsByte text at stop (m .code) end → CodeAt m text at (record { there = true; end = end; next = next })
 code-more {m} {text} {at} {stop} {end} {next} h g e f = record {
   low = f .low;
   high = omega (arith, f .high, h .high);

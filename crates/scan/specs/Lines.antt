@@ -6,7 +6,7 @@ use mathlib.Core.List.{[], _∷_}
 use Prim.Native.Nat.{ℕ, _≤_, _<_}
 use lib.ListN.{length, drop}
 use Rattle.model.specs.declared.Marks.{Marks}
-use Rattle.model.specs.Text.{Bytes, part, has, startsWith, upTo, lines, plain, allPlain, distinct, legalMarks, marksOf}
+use Rattle.model.specs.Text.{Bytes, part, has, startsWith, upTo, lines, plain, allPlain, distinct, legalMarks, marksFault, marksOf}
 use Rattle.model.specs.Legal.{operators}
 use Rattle.model.specs.Load.{bodyAt}
 use Rattle.scan.specs.declared.CodeLine.{CodeLine}
@@ -18,7 +18,7 @@ abbrev pub lineAt : Bytes → ℕ → Bytes
 lineAt text at = upTo 10 (drop at text)
 
 -- r is the place of the first b from `from` on, or `to`
-pub record Found (s : Bytes) (from to b r : ℕ) : Type 0 where
+pub record FindsByte (s : Bytes) (from to b r : ℕ) : Type 0 where
   pub low : from ≤ r
   pub high : r ≤ to
   pub is : part s from r ≡ upTo b (part s from to)
@@ -77,6 +77,12 @@ abbrev pub flagsOf : Flags → Option Marks
 flagsOf (Legal m) = some m
 flagsOf Fault = none
 
+-- and document 01's number for it: a fault is 3
+abbrev pub flagsFault : Flags → ℕ
+flagsFault (Legal m) = 0
+flagsFault Fault = 3
+
 -- the flag line text[0..end] is answered
 pub record MarksAt (text : Bytes) (end : ℕ) (r : Flags) : Type 0 where
   pub is : flagsOf r ≡ marksOf (part text 0 end)
+  pub number : flagsFault r ≡ marksFault (marksOf (part text 0 end))

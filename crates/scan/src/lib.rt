@@ -4,7 +4,7 @@ ghost use mathlib.Core.List.{_∷_};
 ghost use Prim.Native.Nat.{_≤_, _<_};
 ghost use lib.ListN.{length};
 ghost use Rattle.model.specs.Legal.{operators};
-ghost use Rattle.scan.specs.Lines.{Found, Has, Begins, LineAt, ContentAt, CodeAt, PlainByte, AllPlain, AllDiffer, LegalMarks, MarksAt};
+ghost use Rattle.scan.specs.Lines.{FindsByte, Has, Begins, LineAt, ContentAt, CodeAt, PlainByte, AllPlain, AllDiffer, LegalMarks, MarksAt};
 
 // A line, or its content, which starts at a known place: where it ends, and where the next line starts.
 pub struct Line {
@@ -28,7 +28,7 @@ pub enum Flags {
 // The place of the first b in s[from..to], or `to` where there is none.
 pub fn find_byte(s: &[u8], from: usize, to: usize, b: u8) -> usize
     requires { ⌜ (from ≤ to) × (to ≤ length (now s)) ⌝ }
-    ensures { λ r. ⌜ Found (now (s .entry)) from to b r ⌝ }
+    ensures { λ r. ⌜ FindsByte (now (s .entry)) from to b r ⌝ }
 {
     let mut i = from;
     while i < to {
@@ -63,7 +63,7 @@ pub fn read_line(text: &[u8], at: usize) -> Line
     requires { ⌜ at < length (now text) ⌝ }
     ensures { λ r. ⌜ LineAt (now (text .entry)) at (r .end) (r .next) ⌝ }
 {
-    let end = find_byte(text, at, text.len(), 10);
+    let end = find_byte(text, at, text.len(), b'\n');
     if end < text.len() {
         return Line { end, next: end + 1 };
     }
@@ -112,7 +112,7 @@ pub fn read_code(text: &[u8], m: Marks, at: usize) -> CodeLine
 fn is_plain(b: u8) -> bool
     ensures { λ r. ⌜ PlainByte b r ⌝ }
 {
-    !((48 <= b) & (b <= 57)) & ((b != 70) & (b != 0))
+    !((b'0' <= b) & (b <= b'9')) & ((b != b'F') & (b != 0))
 }
 
 // Whether each byte of s may be a mark.
@@ -194,7 +194,7 @@ pub fn read_marks(text: &[u8], end: usize) -> Flags
     if s.len() < 12 {
         return Flags::Fault;
     }
-    if s[4] != 48 {
+    if s[4] != b'0' {
         return Flags::Fault;
     }
     let m = Marks {

@@ -1,11 +1,13 @@
 // Skips of code lines, by a value or where a test holds (document 01, "A call's code").
+use answer::Answer;
+use answer::end_with;
+use answer::go_on;
 use buffer::same_bytes;
-use call::Call;
+use call::Head;
 use call::param_len;
-use finish::Carried;
-use finish::Turn;
-use finish::come_to;
+use landing::land_skip;
 use model::Comparison;
+use model::LINE_MOST;
 use model::Marks;
 use number::Valued;
 use number::compare;
@@ -19,69 +21,101 @@ ghost use Rattle.model.specs.Machine.{wanted};
 ghost use Rattle.model.specs.Text.{part, same};
 ghost use Rattle.store.specs.Memory.{Kept};
 ghost use Rattle.code.specs.Tokens.{Parameter};
-ghost use Rattle.skip.specs.Skips.{Turns, ParamValue, Agrees, SkipsBy, SkipsIf, SkipsText, SkipsValue};
+ghost use Rattle.call.specs.Call.{laid, Sized};
+ghost use Rattle.skip.specs.Skips.{SkipsLines, ParamValue, Agrees, SkipsBy, SkipsIf, SkipsText, SkipsValue};
+ghost use Rattle.model.specs.Limits.{lineMost};
 
-// A negative skip ends the run with 18.
-fn turn_by(v: i32) -> Turn
-    ensures { λ r. ⌜ Turns v r ⌝ }
+// Skips v code lines; a negative skip ends the run with 18.
+fn skip_lines(m: Marks, text: &[u8], call: Head, v: i32, s: State) -> Answer
+    requires { ⌜ call .next ≤ length (now text) ⌝ }
+    ensures { λ r. ⌜ SkipsLines m (now (text .entry)) call v s r ⌝ }
 {
     if v < 0 {
-        return Turn::Halts(18);
+        return end_with(18, s);
     }
-    Turn::Skips(v as usize)
+    land_skip(m, text, call, v as usize, s)
 }
 
 // The value of parameter d.
-fn param_value(m: Marks, call: Call, d: usize, memory: &[u8], index: Index) -> Valued
+fn param_value(
+    m: Marks,
+    nums: &[usize],
+    params: &[u8],
+    d: usize,
+    memory: &[u8],
+    index: Index,
+) -> Valued
     requires { ⌜ Parameter d ⌝ }
+    requires { ⌜ Sized (now nums) (now params) ⌝ }
     requires { ⌜ Kept (now memory) index ⌝ }
-    ensures { λ r. ⌜ ParamValue m call d (now (memory .entry)) index r ⌝ }
+    ensures { λ r. ⌜ ParamValue m (now (nums .entry)) (now (params .entry)) d (now (memory .entry)) index r ⌝ }
 {
-    let bytes = call.bytes;
-    let from = 200 * (d - 1);
-    let to = from + param_len(call, d);
-    value(m, memory, index, &bytes[from..to])
+    let from = LINE_MOST * (d - 1);
+    let to = from + param_len(nums, d);
+    value(m, memory, index, &params[from..to])
 }
 
 // Whether two parts of the parameters' bytes, the second from offset 200 on, are the same.
 fn parts_agree(params: &[u8], first: usize, second: usize) -> bool
-    requires { ⌜ (first ≤ length (now params)) × ((200 ≤ second) × (second ≤ length (now params))) ⌝ }
-    ensures { λ r. ⌜ r ≡ same (part (now (params .entry)) 0 first) (part (now (params .entry)) 200 second) ⌝ }
+    requires { ⌜ (first ≤ length (now params)) × ((lineMost ≤ second) × (second ≤ length (now params))) ⌝ }
+    ensures { λ r. ⌜ r ≡ same (part (now (params .entry)) 0 first) (part (now (params .entry)) lineMost second) ⌝ }
 {
-    same_bytes(&params[0..first], &params[200..second])
+    same_bytes(&params[0..first], &params[LINE_MOST..second])
 }
 
 // Whether parameters 1 and 2 are the same text.
-fn params_agree(call: Call) -> bool
-    ensures { λ r. ⌜ Agrees call r ⌝ }
+fn params_agree(nums: &[usize], params: &[u8]) -> bool
+    requires { ⌜ Sized (now nums) (now params) ⌝ }
+    ensures { λ r. ⌜ Agrees (now (nums .entry)) (now (params .entry)) r ⌝ }
 {
-    let bytes = call.bytes;
-    let first = param_len(call, 1);
-    let second = 200 + param_len(call, 2);
-    parts_agree(&bytes, first, second)
+    let first = param_len(nums, 1);
+    let second = LINE_MOST + param_len(nums, 2);
+    parts_agree(params, first, second)
 }
 
 // F4 by parameter d.
-pub fn skip_by(m: Marks, call: Call, d: usize, memory: &[u8], s: State) -> Carried
+pub fn skip_by(
+    m: Marks,
+    text: &[u8],
+    call: Head,
+    nums: &[usize],
+    params: &[u8],
+    d: usize,
+    memory: &[u8],
+    s: State,
+) -> Answer
     requires { ⌜ Parameter d ⌝ }
+    requires { ⌜ Sized (now nums) (now params) × (call .next ≤ length (now text)) ⌝ }
     requires { ⌜ Kept (now memory) (s .index) ⌝ }
-    ensures { λ r. ⌜ SkipsBy m call d (now (memory .entry)) s r ⌝ }
+    ensures { λ r. ⌜ SkipsBy m (now (text .entry)) (laid call (now (nums .entry)) (now (params .entry)))
+        d (now (memory .entry)) s r ⌝ }
 {
-    match param_value(m, call, d, memory, s.index) {
-        Valued::Number(v) => come_to(turn_by(v), call, s),
-        Valued::Fault => come_to(Turn::Halts(15), call, s),
+    match param_value(m, nums, params, d, memory, s.index) {
+        Valued::Number(v) => skip_lines(m, text, call, v, s),
+        Valued::Fault => end_with(15, s),
     }
 }
 
 // Where a test holds, a skip by parameter 3.
-fn skip_if(m: Marks, holds: bool, call: Call, memory: &[u8], s: State) -> Carried
+fn skip_if(
+    m: Marks,
+    text: &[u8],
+    holds: bool,
+    call: Head,
+    nums: &[usize],
+    params: &[u8],
+    memory: &[u8],
+    s: State,
+) -> Answer
+    requires { ⌜ Sized (now nums) (now params) × (call .next ≤ length (now text)) ⌝ }
     requires { ⌜ Kept (now memory) (s .index) ⌝ }
-    ensures { λ r. ⌜ SkipsIf m holds call (now (memory .entry)) s r ⌝ }
+    ensures { λ r. ⌜ SkipsIf m (now (text .entry)) holds (laid call (now (nums .entry)) (now (params .entry)))
+        (now (memory .entry)) s r ⌝ }
 {
     if holds {
-        return skip_by(m, call, 3, memory, s);
+        return skip_by(m, text, call, nums, params, 3, memory, s);
     }
-    come_to(Turn::Continues, call, s)
+    go_on(call, s)
 }
 
 // F50 wants equal texts, F51 unequal ones.
@@ -95,23 +129,54 @@ fn is_wanted(equal: bool, agree: bool) -> bool
 }
 
 // F5.
-pub fn skip_text(m: Marks, equal: bool, call: Call, memory: &[u8], s: State) -> Carried
+pub fn skip_text(
+    m: Marks,
+    text: &[u8],
+    equal: bool,
+    call: Head,
+    nums: &[usize],
+    params: &[u8],
+    memory: &[u8],
+    s: State,
+) -> Answer
+    requires { ⌜ Sized (now nums) (now params) × (call .next ≤ length (now text)) ⌝ }
     requires { ⌜ Kept (now memory) (s .index) ⌝ }
-    ensures { λ r. ⌜ SkipsText m equal call (now (memory .entry)) s r ⌝ }
+    ensures { λ r. ⌜ SkipsText m (now (text .entry)) equal (laid call (now (nums .entry)) (now (params .entry)))
+        (now (memory .entry)) s r ⌝ }
 {
-    skip_if(m, is_wanted(equal, params_agree(call)), call, memory, s)
+    skip_if(
+        m,
+        text,
+        is_wanted(equal, params_agree(nums, params)),
+        call,
+        nums,
+        params,
+        memory,
+        s,
+    )
 }
 
 // F6.
-pub fn skip_value(m: Marks, how: Comparison, call: Call, memory: &[u8], s: State) -> Carried
+pub fn skip_value(
+    m: Marks,
+    text: &[u8],
+    how: Comparison,
+    call: Head,
+    nums: &[usize],
+    params: &[u8],
+    memory: &[u8],
+    s: State,
+) -> Answer
+    requires { ⌜ Sized (now nums) (now params) × (call .next ≤ length (now text)) ⌝ }
     requires { ⌜ Kept (now memory) (s .index) ⌝ }
-    ensures { λ r. ⌜ SkipsValue m how call (now (memory .entry)) s r ⌝ }
+    ensures { λ r. ⌜ SkipsValue m (now (text .entry)) how (laid call (now (nums .entry)) (now (params .entry)))
+        (now (memory .entry)) s r ⌝ }
 {
-    let Valued::Number(a) = param_value(m, call, 1, memory, s.index) else {
-        return come_to(Turn::Halts(15), call, s);
+    let Valued::Number(a) = param_value(m, nums, params, 1, memory, s.index) else {
+        return end_with(15, s);
     };
-    let Valued::Number(b) = param_value(m, call, 2, memory, s.index) else {
-        return come_to(Turn::Halts(15), call, s);
+    let Valued::Number(b) = param_value(m, nums, params, 2, memory, s.index) else {
+        return end_with(15, s);
     };
-    skip_if(m, compare(how, a, b), call, memory, s)
+    skip_if(m, text, compare(how, a, b), call, nums, params, memory, s)
 }

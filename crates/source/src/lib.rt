@@ -1,7 +1,13 @@
-// Reading texts: a whole descriptor or a whole file into a lent buffer, with a failed read told from the end.
+// What a program reads: a whole descriptor or a whole file into a lent buffer, with a failed read told from the end; and its messages
+// about files.
 ghost use mathlib.Core.Path.{_≡_};
+ghost use mathlib.Core.Bool.{true, false};
+ghost use mathlib.Core.List.{[], _∷_};
 ghost use Prim.Native.Nat.{_+_, _≤_};
 ghost use lib.ListN.{length};
+ghost use Rattle.model.specs.Text.{same};
+ghost use Rattle.source.specs.Answer.{gotOf};
+use libc::STDERR_FILENO;
 
 // How many bytes were read, and whether no read failed. A length that is all of the buffer says that there may be more.
 pub struct Got {
@@ -10,8 +16,8 @@ pub struct Got {
 }
 
 // A read that failed.
-fn failed() -> Got
-    ensures { λ r. ⌜ r .length ≡ 0 ⌝ }
+fn fail_read() -> Got
+    ensures { λ r. ⌜ (r .ok ≡ false) × (r .length ≡ 0) ⌝ }
 {
     Got {
         ok: false,
@@ -19,20 +25,30 @@ fn failed() -> Got
     }
 }
 
+// What a read to buf answered.
+fn take_answer(got: isize, buf: &[u8]) -> Got
+    ensures { λ r. ⌜ r ≡ gotOf got (length (now (buf .entry))) ⌝ }
+    ensures { λ r. ⌜ r .length ≤ length (now (buf .entry)) ⌝ }
+{
+    if got < 0 {
+        return Got {
+            ok: false,
+            length: 0,
+        };
+    }
+    Got {
+        ok: true,
+        length: io::count(got, buf),
+    }
+}
+
 // One read, to what follows `at` in buf.
-pub fn read_some(fd: i32, buf: &mut [u8], at: usize) -> Got
+fn read_some(fd: i32, buf: &mut [u8], at: usize) -> Got
     requires { ⌜ at ≤ length (now buf) ⌝ }
     ensures { λ r. ⌜ at + r .length ≤ length (now (buf .exit)) ⌝ }
 {
     let got = libc::read(fd, &mut buf[at..]);
-    if got < 0 {
-        return failed();
-    }
-    let more = io::count(got, &buf[at..]);
-    Got {
-        ok: true,
-        length: more,
-    }
+    take_answer(got, &buf[at..])
 }
 
 // Reads until buf is full or the input ends.
@@ -43,7 +59,7 @@ pub fn read_all(fd: i32, buf: &mut [u8]) -> Got
     while done < buf.len() {
         let turn = read_some(fd, buf, done);
         if !turn.ok {
-            return failed();
+            return fail_read();
         }
         if turn.length == 0 {
             break;
@@ -56,29 +72,36 @@ pub fn read_all(fd: i32, buf: &mut [u8]) -> Got
     }
 }
 
-// Reads a file by its name.
+// Reads a file by its name, which is opened once.
 pub fn read_file(name: &[u8], buf: &mut [u8]) -> Got
     ensures { λ r. ⌜ r .length ≤ length (now (buf .exit)) ⌝ }
 {
     let fd = os::open_read(name);
     if fd < 0 {
-        return failed();
+        return fail_read();
     }
     let got = read_all(fd, buf);
     libc::close(fd);
     got
 }
 
-// Opens a file that can be read, or answers -1. Nothing is read: a read of no bytes tells a folder from a file.
-pub fn open_file(name: &[u8]) -> i32 {
-    let fd = os::open_read(name);
-    if fd < 0 {
-        return -1;
-    }
-    let mut none = [0u8; 1];
-    if libc::read(fd, &mut none[0..0]) < 0 {
-        libc::close(fd);
-        return -1;
-    }
-    fd
+// Whether an argument asks how a program is called.
+pub fn asks_help(argument: &[u8]) -> bool
+    ensures { λ r. ⌜ r ≡ same (now (argument .entry)) (45 ∷ 45 ∷ 104 ∷ 101 ∷ 108 ∷ 112 ∷ []) ⌝ }
+{
+    buffer::same_bytes(argument, b"--help")
+}
+
+// Whether the first argument does. On Linux no argument is longer than 131,071 bytes.
+pub fn is_help_asked() -> bool {
+    let mut space = [0u8; 131072];
+    let n = os::arg(1, &mut space);
+    asks_help(&space[..n])
+}
+
+// Says of a file, after the program's name, what is wrong with it.
+pub fn tell(program: &[u8], name: &[u8], wrong: &[u8]) {
+    io::write_all(STDERR_FILENO, program);
+    io::write_all(STDERR_FILENO, name);
+    io::write_all(STDERR_FILENO, wrong);
 }

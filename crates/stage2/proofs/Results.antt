@@ -4,8 +4,8 @@ use mathlib.Core.Bool.{Bool, true, false}
 use mathlib.Core.List.{List, [], _∷_}
 use Prim.Native.Nat.{ℕ, zero, suc, _≤_, _<_}
 use native.Mathlib.Omega.{arith}
-use lib.ListN.{length, getD, drop, take, replicate, drop-of-length-le}
-use lib.Seq.{drop-cons, take-length}
+use lib.ListN.{length, getD, take, replicate}
+use lib.Seq.{take-length}
 use borrow.Author.Tests.{ltb-false, lt-ltb, le-ltb}
 use Rattle.model.specs.declared.Checked.{Checked}
 use Rattle.model.specs.declared.Fitted.{Fitted}
@@ -22,22 +22,13 @@ use Rattle.nodes.specs.declared.Node.{Node}
 use Rattle.fit.specs.declared.Choice.{Choice}
 use Rattle.fit.specs.Outcome.{Asks}
 use Rattle.fit.specs.Chosen.{Chosen, Chooses}
-use Rattle.load.specs.Table.{macrosOf, macroAt, loadedOf}
-use Rattle.load.proofs.Tables.{macros-length, macros-at}
+use Rattle.macros.specs.Table.{Table, lineIn, macroIn, macrosIn}
+use Rattle.macros.proofs.Table.{macros-in-length, macros-in-at}
+use Rattle.load.specs.Answer.{loadedOf}
+use Rattle.load.proofs.Answer.{loads-loaded, loads-refused}
 use Rattle.prepare.specs.declared.Tables.{Tables}
-use Rattle.prepare.specs.Prepares.{columnsOf, LoadsAll, Prepares}
+use Rattle.prepare.specs.Prepares.{LoadsAll, Prepares}
 use Rattle.stage2.specs.Answers.{Answers}
-
--- ---- nine numbers, one by one
-
-next : (a : List ℕ) (i : ℕ) (l : List ℕ) → i < length a → drop (suc i) a ≡ l → drop i a ≡ getD a i 0 ∷ l
-next a i l h e = drop-cons a i 0 h ∙ ap (λ (x : List ℕ). getD a i 0 ∷ x) e
-
-pub all-nine : (a : List ℕ) → length a ≡ 9
-    → getD a 0 0 ∷ getD a 1 0 ∷ getD a 2 0 ∷ getD a 3 0 ∷ getD a 4 0 ∷ getD a 5 0 ∷ getD a 6 0 ∷ getD a 7 0 ∷ getD a 8 0 ∷ [] ≡ a
-all-nine a e =
-    sym (next a 0 _ (omega arith) (next a 1 _ (omega arith) (next a 2 _ (omega arith) (next a 3 _ (omega arith) (next a 4 _ (omega arith)
-    (next a 5 _ (omega arith) (next a 6 _ (omega arith) (next a 7 _ (omega arith) (next a 8 _ (omega arith) (drop-of-length-le a {i = 9} (omega arith)))))))))))
 
 -- a row of nodes that is not too short
 pub row-legal : {rows : ℕ} {b : Bool} → b ≡ shortRow rows → b ≡ false → 2048 ≤ rows
@@ -62,8 +53,8 @@ unfolding checkedAs
 checked {text} {t} {k} {n} h u v = by (t .loading .number) refl
   where
     by : (j : ℕ) → t .loading .number ≡ j → _≡_ {A = Checked} (record { number = k; line = n }) (checkedAs (load text))
-    by zero e = (λ i. record { number = (u ∙ e) i; line = v i }) ∙ ap checkedAs (sym (h .loads .loads e))
-    by (suc j) e = (λ i. record { number = u i; line = v i }) ∙ ap checkedAs (sym (h .loads .refuses (λ z. omega arith)))
+    by zero e = (λ i. record { number = (u ∙ e) i; line = v i }) ∙ ap checkedAs (sym (loads-loaded h e))
+    by (suc j) e = (λ i. record { number = u i; line = v i }) ∙ ap checkedAs (sym (loads-refused h (λ z. omega arith)))
 
 -- ---- fit
 
@@ -87,13 +78,13 @@ unfolding noPieces nine
 no-pieces u v = λ i. record { number = u i; line = v i; start = replicate 9 0; length = replicate 9 0 }
 
 -- the answer for a choice
-module _ {numbers : List ℕ} {c : Choice} where
-  pub answer-none : {f : Fitted} → c .found ≡ false → f ≡ noPieces 0 0 → Answers numbers c f
+module _ {t : Table} {c : Choice} where
+  pub answer-none : {f : Fitted} → c .found ≡ false → f ≡ noPieces 0 0 → Answers t c f
   answer-none e h = record { no-call = λ _. h; call = λ u. false-not-true (sym e ∙ u) }
 
-  pub answer-call : {n : ℕ} {s l : List ℕ} → c .found ≡ true → n ≡ getD numbers (c .template) 0 → s ≡ c .starts → l ≡ c .lens
-      → Answers numbers c (record { number = 0; line = n; start = s; length = l })
-  answer-call e n s l = record { no-call = λ u. false-not-true (sym u ∙ e); call = λ _. λ i. record { number = 0; line = n i; start = s i; length = l i } }
+  pub answer-call : {k n : ℕ} {s l : List ℕ} → c .found ≡ true → k ≡ lineIn t (c .template) → n ≡ k → s ≡ c .starts → l ≡ c .lens
+      → Answers t c (record { number = 0; line = n; start = s; length = l })
+  answer-call e k n s l = record { no-call = λ u. false-not-true (sym u ∙ e); call = λ _. λ i. record { number = 0; line = (n ∙ k) i; start = s i; length = l i } }
 
 template-at : (ms : List Macro) (k : ℕ) → getD (templates ms) k [] ≡ getD ms k noMacro .template
 unfolding templates noMacro
@@ -102,30 +93,30 @@ template-at (x ∷ ms) zero = refl
 template-at (x ∷ ms) (suc k) = template-at ms k
 
 abbrev macros : Bytes → Tables → List Macro
-macros text t = macrosOf (t .loading .marks) text (columnsOf t) (t .loading .count)
+macros text t = macrosIn (t .loading .marks) text (t .table) (t .loading .count)
 
 module _ {text : Bytes} {t : Tables} {row : List Node} (line : Bytes) (p : Prepares text row t) where
   -- a text that is refused
   pub fit-refused : {f : Fitted} → ¬ (t .loading .number ≡ 0) → f ≡ noPieces (t .loading .number) (t .loading .line) → f ≡ fittedIn line (load text)
   unfolding fittedIn
-  fit-refused z e = e ∙ ap (fittedIn line) (sym (p .all .loads .refuses z))
+  fit-refused z e = e ∙ ap (fittedIn line) (sym (loads-refused (p .all) z))
 
   module _ (z : t .loading .number ≡ 0) where
     -- a line over 200 bytes
     pub fit-long : {f : Fitted} → 200 < length line → f ≡ noPieces 11 0 → f ≡ fittedIn line (load text)
     unfolding fittedIn
-    fit-long l e = e ∙ sym (when-true _ _ (lt-ltb 200 (length line) l)) ∙ ap (fittedIn line) (sym (p .all .loads .loads z))
+    fit-long l e = e ∙ sym (when-true _ _ (lt-ltb 200 (length line) l)) ∙ ap (fittedIn line) (sym (loads-loaded (p .all) z))
 
     -- any other
-    fit-loaded : length line ≤ 200 → fittedAs (loadedOf text (columnsOf t) (t .loading)) (chosen (t .loading .marks) (templates (macros text t)) line) ≡ fittedIn line (load text)
+    fit-loaded : length line ≤ 200 → fittedAs (loadedOf text (t .table) (t .loading)) (chosen (t .loading .marks) (templates (macros text t)) line) ≡ fittedIn line (load text)
     unfolding fittedIn
-    fit-loaded l = sym (when-false _ _ (le-ltb 200 (length line) l)) ∙ ap (fittedIn line) (sym (p .all .loads .loads z))
+    fit-loaded l = sym (when-false _ _ (le-ltb 200 (length line) l)) ∙ ap (fittedIn line) (sym (loads-loaded (p .all) z))
 
     -- the tree is there to be searched, from its root and the line's start on
-    pub asks-whole : Asks row line (length line) 0 0
-    asks-whole =
+    pub asks-whole : length line ≤ 200 → Asks row line (length line) 0 0
+    asks-whole l =
         let x = p .has-tree z .fits in
-        record { made = x .made; stands = x .stands; there = x .root; low = omega arith; high = omega arith }
+        record { made = x .made; stands = x .stands; there = x .root; low = omega arith; high = omega arith; short = omega (arith, l) }
 
     module _ {c : Choice} (chose : Chooses (t .loading .marks) row (take (length line) line) c) where
       h : Chooses (t .loading .marks) row line c
@@ -136,31 +127,31 @@ module _ {text : Bytes} {t : Tables} {row : List Node} (line : Bytes) (p : Prepa
       which e = h .call e (templates (macros text t)) (p .has-tree z .fits)
 
       place : c .found ≡ true → c .template < t .loading .count
-      place e = omega (arith, which e .place, templates-length (macros text t), macros-length (t .loading .marks) text (columnsOf t) (t .loading .count))
+      place e = omega (arith, which e .place, templates-length (macros text t), macros-in-length (t .loading .marks) text (t .table) (t .loading .count))
 
       -- its template is one of the table's
       pub template-within : c .found ≡ true → c .template < 128
-      template-within e = omega (arith, place e, p .all .loads .inside .few)
+      template-within e = omega (arith, place e, p .all .inside z .entries .few)
 
       no-call : {f : Fitted} → length line ≤ 200 → c .found ≡ false → f ≡ noPieces 0 0 → f ≡ fittedIn line (load text)
       unfolding fittedAs
-      no-call l e a = a ∙ ap (fittedAs (loadedOf text (columnsOf t) (t .loading))) (sym (h .no-call e (templates (macros text t)) (p .has-tree z .fits))) ∙ fit-loaded l
+      no-call l e a = a ∙ ap (fittedAs (loadedOf text (t .table) (t .loading))) (sym (h .no-call e (templates (macros text t)) (p .has-tree z .fits))) ∙ fit-loaded l
 
-      call : {f : Fitted} → length line ≤ 200 → c .found ≡ true → f ≡ record { number = 0; line = getD (t .numbers) (c .template) 0; start = c .starts; length = c .lens }
+      call : {f : Fitted} → length line ≤ 200 → c .found ≡ true → f ≡ record { number = 0; line = lineIn (t .table) (c .template); start = c .starts; length = c .lens }
           → f ≡ fittedIn line (load text)
       unfolding fittedAs
       call l e a =
           let w = which e in
-          let x : macroAt (t .loading .marks) text (columnsOf t) (c .template) ≡ getD (macros text t) (w .reading .which) noMacro =
-          sym (macros-at (t .loading .marks) text (columnsOf t) (t .loading .count) (c .template) (place e)) ∙ ap (λ (k : ℕ). getD (macros text t) k noMacro) (sym (w .which)) in
+          let x : macroIn (t .loading .marks) text (t .table) (c .template) ≡ getD (macros text t) (w .reading .which) noMacro =
+          sym (macros-in-at (t .loading .marks) text (t .table) (t .loading .count) (c .template) (place e)) ∙ ap (λ (k : ℕ). getD (macros text t) k noMacro) (sym (w .which)) in
           let y : getD (templates (macros text t)) (c .template) [] ≡ getD (macros text t) (w .reading .which) noMacro .template =
           template-at (macros text t) (c .template) ∙ ap (λ (k : ℕ). getD (macros text t) k noMacro .template) (sym (w .which)) in
           let starts = w .starts ∙ ap (λ (q : Bytes). nine (startsOf (t .loading .marks) 0 q (w .reading .pieces))) y in
           a ∙ (λ i. record { number = 0; line = x i .line; start = starts i; length = w .lens i })
-          ∙ ap (fittedAs (loadedOf text (columnsOf t) (t .loading))) (sym (w .is)) ∙ fit-loaded l
+          ∙ ap (fittedAs (loadedOf text (t .table) (t .loading))) (sym (w .is)) ∙ fit-loaded l
 
       -- what the choice comes to
-      pub fit-chosen : {f : Fitted} → length line ≤ 200 → Answers (t .numbers) c f → f ≡ fittedIn line (load text)
+      pub fit-chosen : {f : Fitted} → length line ≤ 200 → Answers (t .table) c f → f ≡ fittedIn line (load text)
       fit-chosen {f} l a = by (c .found) refl
         where
           by : (b : Bool) → c .found ≡ b → f ≡ fittedIn line (load text)

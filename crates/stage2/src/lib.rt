@@ -1,24 +1,37 @@
-// The public calls of STAGE2 (document 01, "Events, store and result"): check a text, and fit a line against its templates.
-// Each takes the text itself and a lent row of nodes, whose contents are free. None asks anything of its caller.
+// The public calls of STAGE2 (document 01, "Events, store and result"): check a text, fit a line against its templates, and run it.
+// Each takes the text itself and a lent row of nodes, whose contents are free. No public function has a `requires`.
+// `&[Node]` is not covered by the checker's own account of a function: check, fit, fit_prepared and run are proved by walks.
 ghost use mathlib.Core.Path.{_≡_};
 ghost use Prim.Native.Nat.{_≤_, _<_};
 ghost use lib.ListN.{length};
-ghost use mathlib.Core.Bool.{true};
+ghost use mathlib.Core.Bool.{true, false};
 ghost use Rattle.model.specs.Load as Load;
 ghost use Rattle.model.specs.Load.{Loaded, loaded};
-ghost use Rattle.model.specs.Results.{shortRow, checkedAs, checkText, noPieces, fittedIn, fitLine};
+ghost use Rattle.model.specs.Results.{shortRow, checkedAs, checkText, noPieces, fittedIn, fitLine, illegal, runText};
 ghost use Rattle.model.specs.FirstReading.{FitsFirst};
 ghost use Rattle.prepare.specs.Prepares.{Prepares};
+ghost use Rattle.model.specs.Runs.{Runs};
+ghost use Rattle.model.specs.Demands.{FollowsExpansion};
 ghost use Rattle.stage2.specs.Answers.{Answers};
+ghost use Rattle.stage2.specs.Rooms.{TestsRooms};
+ghost use Rattle.model.specs.Limits.{macrosMost};
+use buffer::widen;
 use fit::Choice;
 use fit::first_reading;
+use macros::line_of;
 use model::Checked;
+use model::FUEL_MOST;
 use model::Fitted;
+use model::LINE_MOST;
+use model::NODES_MOST;
+use model::Ran;
+use model::STORE_LEAST;
 use nodes::Node;
 use prepare::Tables;
 use prepare::load_tables;
 use prepare::prepare;
-use prepare::widen;
+use run::refuse;
+use run::run_prepared;
 
 // Nine counts, as the answers have them.
 fn widen_nine(a: [usize; 9]) -> [u64; 9]
@@ -41,7 +54,7 @@ fn widen_nine(a: [usize; 9]) -> [u64; 9]
 fn is_short(rows: usize) -> bool
     ensures { λ r. ⌜ r ≡ shortRow rows ⌝ }
 {
-    rows < 2048
+    rows < NODES_MOST
 }
 
 // A text checked, with a legal row of nodes.
@@ -80,17 +93,17 @@ fn no_pieces(number: usize, line: usize) -> Fitted
 
 // What a choice comes to; the table says each template's line.
 fn answer_choice(t: Tables, c: Choice) -> Fitted
-    requires { ⌜ (c .found ≡ true → c .template < 128) ⌝ }
-    ensures { λ r. ⌜ Answers (t .numbers) c r ⌝ }
+    requires { ⌜ (c .found ≡ true → c .template < macrosMost) ⌝ }
+    ensures { λ r. ⌜ Answers (t .table) c r ⌝ }
 {
     if c.found {
         let k = c.template;
-        let numbers = t.numbers;
+        let table = t.table;
         let starts = c.starts;
         let lens = c.lens;
         return Fitted {
             number: 0,
-            line: widen(numbers[k]),
+            line: widen(line_of(&table, k)),
             start: widen_nine(starts),
             length: widen_nine(lens),
         };
@@ -108,7 +121,7 @@ fn fit_prepared(text: &[u8], nodes: &[Node], t: Tables, line: &[u8]) -> Fitted
         return no_pieces(r.number, r.line);
     }
     let n = line.len();
-    if 200 < n {
+    if LINE_MOST < n {
         return no_pieces(11, 0);
     }
     let c = first_reading(r.marks, nodes, line, n);
@@ -118,11 +131,41 @@ fn fit_prepared(text: &[u8], nodes: &[Node], t: Tables, line: &[u8]) -> Fitted
 // Fits one line, taken whole, against the templates of a text: the first of all its readings, or line 0 where it is no call.
 pub fn fit(text: &[u8], nodes: &mut [Node], line: &[u8]) -> Fitted
     ensures { λ r. ⌜ r ≡ fitLine (length (now (nodes .entry))) (now (text .entry)) (now (line .entry)) ⌝ }
-    ensures { λ r. ⌜ ((t : Loaded) → Load.load (now (text .entry)) ≡ loaded t → 2048 ≤ length (now (nodes .entry)) → length (now (line .entry)) ≤ 200 → FitsFirst t (now (line .entry)) r) ⌝ }
+    ensures { λ r. ⌜ ((t : Loaded) → Load.load (now (text .entry)) ≡ loaded t → 2048 ≤ length (now (nodes .entry)) → length (now (line .entry)) ≤ 200
+        → FitsFirst t (now (line .entry)) r) ⌝ }
 {
     if is_short(nodes.len()) {
         return no_pieces(1, 0);
     }
     let t = prepare(text, nodes);
     fit_prepared(text, nodes, t, line)
+}
+
+// Whether the fuel is not 1 to 1,000,000, the node row below 2,048 or the store below 8,704.
+fn is_illegal(fuel: u64, rows: usize, store: usize) -> bool
+    ensures { λ r. ⌜ TestsRooms fuel rows store r ⌝ }
+{
+    (fuel < 1) | ((FUEL_MOST < fuel) | ((rows < NODES_MOST) | (store < STORE_LEAST)))
+}
+
+// The fuel as the machine counts it.
+fn count_of(n: u64) -> usize
+    ensures { λ r. ⌜ r ≡ n ⌝ }
+{
+    n as usize
+}
+
+// Runs a text. No more than 2,048 nodes of the lent row are used; their contents are free.
+pub fn run(text: &[u8], fuel: u64, nodes: &mut [Node], output: &mut [u8], store: &mut [u8]) -> Ran
+    ensures { λ r. ⌜ Runs (runText fuel (length (now (nodes .entry))) (length (now (output .entry))) (length (now (store .entry))) (now (text .entry)))
+        (now (output .entry)) (now (store .entry)) r (now (output .exit)) (now (store .exit)) ⌝ }
+    ensures { λ r. ⌜ ((t : Loaded) → Load.load (now (text .entry)) ≡ loaded t
+        → illegal fuel (length (now (nodes .entry))) (length (now (store .entry))) ≡ false
+        → FollowsExpansion t fuel (now (output .entry)) (now (store .entry)) r (now (output .exit)) (now (store .exit))) ⌝ }
+{
+    if is_illegal(fuel, nodes.len(), store.len()) {
+        return refuse(1, 0);
+    }
+    let t = prepare(text, nodes);
+    run_prepared(text, nodes, t, count_of(fuel), output, store)
 }

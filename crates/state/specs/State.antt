@@ -3,17 +3,13 @@ use mathlib.Core.Option.{Option}
 use mathlib.Core.List.{List}
 use Prim.Native.Nat.{ℕ, _+_, _-_, _≤_}
 use lib.ListN.{length, take, drop}
+use Rattle.model.specs.Limits.{fuelMost}
 use Rattle.model.specs.Text.{Bytes, lines}
 use Rattle.model.specs.Machine as Machine
 use Rattle.model.specs.Machine.{Frame, Shared}
 use Rattle.store.specs.declared.Index.{Index}
 use Rattle.store.specs.Memory.{held, Kept}
 use Rattle.state.specs.declared.State.{State}
-use Rattle.state.specs.declared.Line.{Line}
-
--- the bytes of a line
-abbrev pub bytesOf : Line → Bytes
-bytesOf l = take (l .len) (l .bytes)
 
 -- what every call shares
 abbrev pub sharedOf : State → (output memory : Bytes) → Shared
@@ -31,12 +27,12 @@ pub record Sound (s : State) (output memory : Bytes) : Type 0 where
   -- each number of ed2 has its name
   pub symbols : s .symbols ≤ s .index .count
   pub calls : s .calls ≤ s .events
-  pub total : s .events + s .fuel ≤ 1000000
+  pub total : s .events + s .fuel ≤ fuelMost
 
 -- ---- changes of one part
 
-abbrev pub counted : State → State
-counted s = record { at = s .at; line = s .line; calls = s .calls; symbols = s .symbols; index = s .index; written = s .written; events = s .events + 1; fuel = s .fuel - 1 }
+abbrev pub countedEvent : State → State
+countedEvent s = record { at = s .at; line = s .line; calls = s .calls; symbols = s .symbols; index = s .index; written = s .written; events = s .events + 1; fuel = s .fuel - 1 }
 
 abbrev pub withIndex : State → Index → State
 withIndex s x = record { at = s .at; line = s .line; calls = s .calls; symbols = s .symbols; index = x; written = s .written; events = s .events; fuel = s .fuel }

@@ -1,7 +1,9 @@
 // What a run carries from one event to the next, by value. Output and memory are lent slices beside it.
+// An event asks that fuel is left, and what is counted has to be at most 1,000,000, so that no sum is too large. Nothing else is asked.
 ghost use mathlib.Core.Path.{_≡_};
 ghost use Prim.Native.Nat.{_+_, _≤_, _<_};
-ghost use Rattle.state.specs.State.{counted, withIndex, withSymbol, withWritten, withInput, withCall};
+ghost use Rattle.state.specs.State.{countedEvent, withIndex, withSymbol, withWritten, withInput, withCall};
+ghost use Rattle.model.specs.Limits.{fuelMost};
 use store::Index;
 
 pub struct State {
@@ -21,16 +23,10 @@ pub struct State {
     pub fuel: usize,
 }
 
-// A line that is built or offered: the first len of its bytes.
-pub struct Line {
-    pub len: usize,
-    pub bytes: [u8; 200],
-}
-
 // An event is counted.
 pub fn count_event(s: State) -> State
-    requires { ⌜ (0 < s .fuel) × (s .events + s .fuel ≤ 1000000) ⌝ }
-    ensures { λ r. ⌜ r ≡ counted s ⌝ }
+    requires { ⌜ (0 < s .fuel) × (s .events + s .fuel ≤ fuelMost) ⌝ }
+    ensures { λ r. ⌜ r ≡ countedEvent s ⌝ }
 {
     let mut t = s;
     t.events = s.events + 1;
@@ -55,8 +51,8 @@ pub fn set_index(s: State, index: Index) -> State
 }
 
 // A number of ed2 is stored.
-pub fn add_symbol(s: State, index: Index) -> State
-    requires { ⌜ s .symbols ≤ 1000000 ⌝ }
+pub fn count_symbol(s: State, index: Index) -> State
+    requires { ⌜ s .symbols ≤ fuelMost ⌝ }
     ensures { λ r. ⌜ r ≡ withSymbol s index ⌝ }
 {
     State {
@@ -92,7 +88,7 @@ pub fn set_input(s: State, at: usize, line: usize) -> State
 
 // A call is opened.
 pub fn add_call(s: State) -> State
-    requires { ⌜ s .calls ≤ 1000000 ⌝ }
+    requires { ⌜ s .calls ≤ fuelMost ⌝ }
     ensures { λ r. ⌜ r ≡ withCall s ⌝ }
 {
     let mut t = s;

@@ -9,7 +9,7 @@ use Rattle.model.specs.Store.{Store, put}
 use Rattle.buffer.specs.Pasted.{Pasted}
 use Rattle.buffer.proofs.Pasted.{pasted-long}
 use Rattle.store.specs.Memory.{held, packed, Kept}
-use Rattle.store.specs.Seek.{Placed}
+use Rattle.store.specs.Seek.{Locates}
 use Rattle.store.specs.Put.{Puts}
 use Rattle.store.specs.declared.Index.{Index}
 use Rattle.store.specs.declared.Place.the-variants.{Nowhere}
@@ -25,7 +25,7 @@ record Grown (m : List ℕ) (x : Index) (name text : List ℕ) : Type 0 where
   count : length (put name text (held (x .count) m)) ≡ suc (x .count)
   long : length (packed (put name text (held (x .count) m))) ≡ x .used + 2 + length name + length text
 
-grown : {m : List ℕ} {x : Index} {name : List ℕ} (text : List ℕ) → Kept m x → Placed m x name Nowhere → Grown m x name text
+grown : {m : List ℕ} {x : Index} {name : List ℕ} (text : List ℕ) → Kept m x → Locates m x name Nowhere → Grown m x name text
 unfolding packed
 grown {m} {x} {name} text k e =
     let es : Store = held (x .count) m in
@@ -45,7 +45,7 @@ grown {m} {x} {name} text k e =
       long = omega arith;
     }
 
-pub appends : {m : List ℕ} {x : Index} {name text m1 m2 : List ℕ} {b c : ℕ} → Kept m x → Placed m x name Nowhere
+pub appends : {m : List ℕ} {x : Index} {name text m1 m2 : List ℕ} {b c : ℕ} → Kept m x → Locates m x name Nowhere
     → (x .count ≡ 256 → ⊥) → x .used + 2 + length name + length text ≤ 8194 + 2 * x .count
     → b ≡ length name → c ≡ length text
     → Pasted (set (set m (x .used) b) (x .used + 1) c) (x .used + 2) name (length name) m1
@@ -76,12 +76,12 @@ appends {m} {x} {name} {text} {m1} {m2} {b} {c} k e f r eb ec g1 g2 =
     (t4 ∙ t5 ∙ ap₂ (λ (i j : ℕ). F ++ (i ∷ j ∷ (name ++ text))) eb ec ∙ sym (w .bytes))
     (omega arith) (omega arith) (omega arith) (omega arith) (omega arith))
 
-pub no-more : {m : List ℕ} {x : Index} {name text : List ℕ} → Kept m x → Placed m x name Nowhere → x .count ≡ 256 → Puts m x name text m Full
+pub no-more : {m : List ℕ} {x : Index} {name text : List ℕ} → Kept m x → Locates m x name Nowhere → x .count ≡ 256 → Puts m x name text m Full
 no-more {m} {x} {name} {text} k e f =
     let w = grown text k e in
     puts-full (too-many (put name text (held (x .count) m)) (omega arith))
 
-pub no-room : {m : List ℕ} {x : Index} {name text : List ℕ} → Kept m x → Placed m x name Nowhere → (x .count ≡ 256 → ⊥)
+pub no-room : {m : List ℕ} {x : Index} {name text : List ℕ} → Kept m x → Locates m x name Nowhere → (x .count ≡ 256 → ⊥)
     → 8194 + 2 * x .count < x .used + 2 + length name + length text → Puts m x name text m Full
 no-room {m} {x} {name} {text} k e f r =
     let w = grown text k e in

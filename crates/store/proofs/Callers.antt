@@ -11,7 +11,7 @@ use Rattle.model.specs.Store.{Store, find}
 use Rattle.model.specs.Machine.{orNothing}
 use Rattle.model.proofs.Choices.{false-not-true}
 use Rattle.store.specs.Memory.{held, packed, Kept, Holds}
-use Rattle.store.specs.Seek.{isThere, Sees}
+use Rattle.store.specs.Seek.{isThere, SeeksName}
 use Rattle.store.specs.Put.{Puts}
 use Rattle.store.specs.declared.Index.{Index}
 use Rattle.store.specs.declared.Seen.{Seen}
@@ -40,7 +40,7 @@ unfolding isThere
 there-none none e = refl
 there-none (some t) e = false-not-true (sym e)
 
-module _ {m : List ℕ} {x : Index} {st : Store} {name : List ℕ} {r : Seen} (h : Holds m x st) (s : Sees m x name r) where
+module _ {m : List ℕ} {x : Index} {st : Store} {name : List ℕ} {r : Seen} (h : Holds m x st) (s : SeeksName m x name r) where
   pub seen-text : part m (r .at) (r .at + r .len) ≡ orNothing (find name st)
   seen-text = s .text ∙ ap (λ (es : Store). orNothing (find name es)) (h .is)
 

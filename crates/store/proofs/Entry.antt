@@ -13,9 +13,9 @@ use Rattle.model.specs.Machine.{orNothing}
 use Rattle.model.proofs.Choices.{when-true, when-false}
 use Rattle.buffer.proofs.Same.{same-eq}
 use Rattle.store.specs.Memory.{held, packed, Kept}
-use Rattle.store.specs.Seek.{Heads, placeIn, Placed, isThere, Sees}
+use Rattle.store.specs.Seek.{EntryAt, placeIn, Locates, isThere, SeeksName}
 use Rattle.store.specs.declared.Index.{Index}
-use Rattle.store.specs.declared.Head.{Head}
+use Rattle.store.specs.declared.Bounds.{Bounds}
 use Rattle.store.specs.declared.Place.{Place}
 use Rattle.store.specs.declared.Place.the-variants.{At, Nowhere}
 use Rattle.store.proofs.Packed.{packed-append, filled}
@@ -114,7 +114,7 @@ packed-long before name text after =
     let c = length-append text after in
     omega arith
 
-pub entry : {m : List ℕ} {x : Index} {name : List ℕ} {p : ℕ} {r : Place} → Kept m x → Placed m x name r → r ≡ At p → Entry m x name p
+pub entry : {m : List ℕ} {x : Index} {name : List ℕ} {p : ℕ} {r : Place} → Kept m x → Locates m x name r → r ≡ At p → Entry m x name p
 unfolding packed
 entry {m} {x} {name} {p} k e f =
     let es : Store = held (x .count) m in
@@ -166,18 +166,18 @@ module _ {m : List ℕ} {x : Index} {name : List ℕ} {p : ℕ} (e : Entry m x n
 
 -- ---- as the functions ask it
 
-pub entry-within : {m : List ℕ} {x : Index} {name : List ℕ} {p : ℕ} {r : Place} → Kept m x → Placed m x name r → r ≡ At p
+pub entry-within : {m : List ℕ} {x : Index} {name : List ℕ} {p : ℕ} {r : Place} → Kept m x → Locates m x name r → r ≡ At p
     → p + 2 + getD m p 0 + getD m (p + 1) 0 ≤ length m
 entry-within k e f = let y = entry k e f in let n = entry-name y in let t = entry-text y in omega arith
 
-pub entry-used : {m : List ℕ} {x : Index} {name : List ℕ} {p : ℕ} {h : Head} → Kept m x → Placed m x name (At p) → Heads m p h → h .next ≤ x .used
+pub entry-used : {m : List ℕ} {x : Index} {name : List ℕ} {p : ℕ} {h : Bounds} → Kept m x → Locates m x name (At p) → EntryAt m p h → h .next ≤ x .used
 entry-used k e g = let y = entry k e refl in let n = entry-name y in let t = entry-text y in omega arith
 
-pub placed-as : {m : List ℕ} {x : Index} {name : List ℕ} {r s : Place} → Placed m x name r → r ≡ s → Placed m x name s
+pub placed-as : {m : List ℕ} {x : Index} {name : List ℕ} {r s : Place} → Locates m x name r → r ≡ s → Locates m x name s
 placed-as e f = record { is = sym f ∙ e .is }
 
-pub sees-some : {m : List ℕ} {x : Index} {name : List ℕ} {p : ℕ} {h : Head} {r : Place} → Kept m x → Placed m x name r → r ≡ At p → Heads m p h
-    → Sees m x name (record { there = true; at = h .text; len = h .next - h .text })
+pub sees-some : {m : List ℕ} {x : Index} {name : List ℕ} {p : ℕ} {h : Bounds} {r : Place} → Kept m x → Locates m x name r → r ≡ At p → EntryAt m p h
+    → SeeksName m x name (record { there = true; at = h .text; len = h .next - h .text })
 unfolding orNothing isThere
 sees-some {m} {x} {name} {p} {h} k e f g =
     let y = entry k e f in
@@ -194,8 +194,8 @@ sees-some {m} {x} {name} {p} {h} k e f g =
       short = omega arith;
     }
 
-pub sees-none : {m : List ℕ} {x : Index} {name : List ℕ} {r : Place} → Placed m x name r → r ≡ Nowhere
-    → Sees m x name (record { there = false; at = 0; len = 0 })
+pub sees-none : {m : List ℕ} {x : Index} {name : List ℕ} {r : Place} → Locates m x name r → r ≡ Nowhere
+    → SeeksName m x name (record { there = false; at = 0; len = 0 })
 unfolding orNothing isThere
 sees-none {m} {x} {name} e f =
     let g = sym (missing name (held (x .count) m) 0 (sym (e .is) ∙ f) .finds) in

@@ -7,7 +7,7 @@ use native.Mathlib.Omega.{arith}
 use borrow.Author.Tests.{le-leb, lt-leb}
 use lib.Dec.{leb}
 use lib.ListN.{length, take, drop, take-append-drop}
-use Rattle.model.specs.Store.{Store, put, size, within}
+use Rattle.model.specs.Store.{Store, put, size, within, memoryFault}
 use Rattle.store.specs.Memory.{held, extent, packed, Holds}
 use Rattle.store.specs.Put.{Puts}
 use Rattle.store.specs.declared.Index.{Index}
@@ -38,12 +38,14 @@ nothing-yet m l = holds-by [] m (record { count = 0; used = 0 }) refl l refl ref
 
 pub puts-done : {m : List ℕ} {x : Index} {name text m′ : List ℕ} {y : Index} → Holds m′ y (put name text (held (x .count) m)) → Puts m x name text m′ (Now y)
 puts-done {m} {x} {name} {text} {m′} {y} h = record {
+  number = ap memoryFault (sym (h .fits));
   done = λ z e. let q : y ≡ z = cc in subst (λ (i : Index). Holds m′ i (put name text (held (x .count) m))) q h;
   full = λ e. let z : _≡_ {A = ℕ} 0 1 = cc in absurd (omega arith);
 }
 
 pub puts-full : {m : List ℕ} {x : Index} {name text : List ℕ} → within (put name text (held (x .count) m)) ≡ false → Puts m x name text m Full
 puts-full {m} {x} {name} {text} h = record {
+  number = ap memoryFault (sym h);
   done = λ y e. let z : _≡_ {A = ℕ} 0 1 = cc in absurd (omega arith);
   full = λ e. (refl, h);
 }

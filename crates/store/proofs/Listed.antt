@@ -10,7 +10,7 @@ use Rattle.model.specs.Store.{Store, names, texts, listing, size}
 use Rattle.buffer.specs.Written.{Written}
 use Rattle.buffer.proofs.Written.{written-none, written-length, written-store, written-more}
 use Rattle.store.specs.Memory.{held, Kept}
-use Rattle.store.specs.List.{each, Writes, Closes, Lists}
+use Rattle.store.specs.List.{each, WritesEach, ClosesNames, Lists}
 use Rattle.store.specs.declared.Index.{Index}
 use Rattle.store.proofs.Packed.{size-packed, filled}
 
@@ -48,14 +48,14 @@ names-fit k h = let r = each-room k in omega arith
 
 -- ---- the end of the names
 
-pub closes-alone : {a : ℕ} {out : List ℕ} → a ≡ 0 → Closes a out 1 (set out 0 10)
+pub closes-alone : {a : ℕ} {out : List ℕ} → a ≡ 0 → ClosesNames a out 1 (set out 0 10)
 closes-alone e = record { alone = λ _. (refl, refl); last = λ h. absurd (omega arith) }
 
-pub closes-last : {a : ℕ} {out : List ℕ} → (a ≡ 0 → ⊥) → Closes a out a (set out (a - 1) 10)
+pub closes-last : {a : ℕ} {out : List ℕ} → (a ≡ 0 → ⊥) → ClosesNames a out a (set out (a - 1) 10)
 closes-last e = record { alone = λ h. absurd (e h); last = λ _. (refl, refl) }
 
 closed : (es : Store) {o : List ℕ} {a : ℕ} {out : List ℕ} {r : ℕ} {out′ : List ℕ} → 0 < length o → Written o (take 0 o ++ each false 0 es) a out
-    → Closes a out r out′ → Written o (names es ++ (10 ∷ [])) r out′
+    → ClosesNames a out r out′ → Written o (names es ++ (10 ∷ [])) r out′
 unfolding each names
 closed [] {o} {a} {out} {r} {out′} h w c =
     let z : a ≡ 0 = sym (w .long) in
@@ -82,29 +82,29 @@ no-names [] h = refl
 no-names (e ∷ es) h = let a = length-append (e .0) (0 ∷ each false 0 es) in absurd (omega arith)
 
 closed-room : (es : Store) {a : ℕ} {out : List ℕ} {r : ℕ} {out′ : List ℕ} {n : ℕ} → 0 < n → length (each false 0 es) ≡ a → a + length (each true 10 es) ≤ n
-    → Closes a out r out′ → r + length (each true 10 es) ≤ n
+    → ClosesNames a out r out′ → r + length (each true 10 es) ≤ n
 closed-room es {a = zero} p e h c = let f = c .alone refl .0 in let g = no-names es e in omega arith
 closed-room es {a = suc a} p e h c = let f = c .last (omega arith) .0 in omega arith
 
 -- ---- the listing
 
 -- the texts end within 8,704 bytes
-texts-end : {m : List ℕ} {x : Index} {o : List ℕ} {a : ℕ} {out : List ℕ} {r : ℕ} {out1 : List ℕ} → Kept m x → Writes m x false 0 0 o a out → Closes a out r out1
+texts-end : {m : List ℕ} {x : Index} {o : List ℕ} {a : ℕ} {out : List ℕ} {r : ℕ} {out1 : List ℕ} → Kept m x → WritesEach m x false 0 0 o a out → ClosesNames a out r out1
     → r + length (each true 10 (held (x .count) m)) ≤ 8704
 texts-end {m} {x} k l c =
     let e = each-room k in
     let f = l .is .long in
     closed-room (held (x .count) m) (omega arith) f (omega arith) c
 
-pub texts-fit : {m : List ℕ} {x : Index} {o : List ℕ} {a : ℕ} {out : List ℕ} {r : ℕ} {out1 : List ℕ} → Kept m x → 8704 ≤ length o → Writes m x false 0 0 o a out
-    → Closes a out r out1 → r + length (each true 10 (held (x .count) m)) ≤ length out1
+pub texts-fit : {m : List ℕ} {x : Index} {o : List ℕ} {a : ℕ} {out : List ℕ} {r : ℕ} {out1 : List ℕ} → Kept m x → 8704 ≤ length o → WritesEach m x false 0 0 o a out
+    → ClosesNames a out r out1 → r + length (each true 10 (held (x .count) m)) ≤ length out1
 texts-fit {m} {x} k h l c =
     let n = written-length (closed (held (x .count) m) (omega arith) (l .is) c) in
     let e = texts-end k l c in
     omega arith
 
 pub listed : {m : List ℕ} {x : Index} {o : List ℕ} {a : ℕ} {out : List ℕ} {r : ℕ} {out1 : List ℕ} {s : ℕ} {out2 : List ℕ} → Kept m x → 8704 ≤ length o
-    → Writes m x false 0 0 o a out → Closes a out r out1 → Writes m x true 10 r out1 s out2 → Lists m x o s out2
+    → WritesEach m x false 0 0 o a out → ClosesNames a out r out1 → WritesEach m x true 10 r out1 s out2 → Lists m x o s out2
 unfolding listing
 listed {m} {x} {o} {a} {out} {r} {out1} {s} {out2} k h l c t =
     let es : Store = held (x .count) m in

@@ -9,10 +9,10 @@ use Rattle.model.specs.Store.{Store, put}
 use Rattle.buffer.specs.Pasted.{Pasted}
 use Rattle.buffer.proofs.Pasted.{pasted-long}
 use Rattle.store.specs.Memory.{held, Kept}
-use Rattle.store.specs.Seek.{Heads, Placed}
+use Rattle.store.specs.Seek.{EntryAt, Locates}
 use Rattle.store.specs.Put.{Puts}
 use Rattle.store.specs.declared.Index.{Index}
-use Rattle.store.specs.declared.Head.{Head}
+use Rattle.store.specs.declared.Bounds.{Bounds}
 use Rattle.store.specs.declared.Place.the-variants.{At}
 use Rattle.store.specs.declared.Stored.the-variants.{Now, Full}
 use Rattle.store.proofs.Packed.{size-packed}
@@ -62,7 +62,7 @@ module _ {m : List ℕ} {x : Index} {name : List ℕ} {p : ℕ} (y : Entry m x n
       let l2 = packed-long b name text a in
       ap (λ (l : List ℕ). take (e + length a) l) e6 ∙ take-at k j (e + length a) (omega arith)
 
-pub replaces : {m : List ℕ} {x : Index} {name : List ℕ} {p : ℕ} {h : Head} {text m1 m2 : List ℕ} {b : ℕ} → Kept m x → Placed m x name (At p) → Heads m p h
+pub replaces : {m : List ℕ} {x : Index} {name : List ℕ} {p : ℕ} {h : Bounds} {text m1 m2 : List ℕ} {b : ℕ} → Kept m x → Locates m x name (At p) → EntryAt m p h
     → h .text + length text + (x .used - h .next) ≤ 8192 + 2 * x .count
     → Pasted m (h .text + length text) (drop (h .next) m) (x .used - h .next) m1
     → Pasted m1 (h .text) text (length text) m2
@@ -92,7 +92,7 @@ replaces {m} {x} {name} {p} {h} {text} {m1} {m2} {b} k e g r g1 g2 eb =
     (ap₂ (λ (i v : ℕ). take i (set m2 (p + 1) v)) zu eb ∙ rewritten y (omega arith) p1 p2 ∙ sym (y .puts text))
     (omega arith) (omega arith) (omega arith) (omega arith) (omega arith))
 
-pub too-long : {m : List ℕ} {x : Index} {name : List ℕ} {p : ℕ} {h : Head} {text : List ℕ} → Kept m x → Placed m x name (At p) → Heads m p h
+pub too-long : {m : List ℕ} {x : Index} {name : List ℕ} {p : ℕ} {h : Bounds} {text : List ℕ} → Kept m x → Locates m x name (At p) → EntryAt m p h
     → 8192 + 2 * x .count < h .text + length text + (x .used - h .next) → Puts m x name text m Full
 too-long {m} {x} {name} {p} {h} {text} k e g r =
     let es : Store = put name text (held (x .count) m) in

@@ -8,9 +8,9 @@ use lib.Seq.{drop-cons, drop-drop}
 use Rattle.model.specs.Text.{part}
 use Rattle.model.proofs.Text.{part-length}
 use Rattle.store.specs.Memory.{held, extent, Kept}
-use Rattle.store.specs.Seek.{Heads}
+use Rattle.store.specs.Seek.{EntryAt}
 use Rattle.store.specs.declared.Index.{Index}
-use Rattle.store.specs.declared.Head.{Head}
+use Rattle.store.specs.declared.Bounds.{Bounds}
 
 -- the entries that are left begin at a, and end where all do
 pub record Walking (m : List ℕ) (count left a : ℕ) : Type 0 where
@@ -59,12 +59,12 @@ walk-ahead {left = zero} w h = absurd (omega arith)
 walk-ahead {m} {left = suc k} {a} w h = let f = first m a k (omega arith) in omega arith
 
 -- the entry that was read, and the walk after it
-pub record Passed (m : List ℕ) (count left a : ℕ) (h : Head) : Type 0 where
+pub record Passed (m : List ℕ) (count left a : ℕ) (h : Bounds) : Type 0 where
   pub walk : Walking m count (left - 1) (h .next)
   pub entry : held left (drop a m) ≡ (part m (h .name) (h .text), part m (h .text) (h .next)) ∷ held (left - 1) (drop (h .next) m)
   pub next : h .next ≡ a + 2 + length (part m (h .name) (h .text)) + length (part m (h .text) (h .next))
 
-pub passed : {m : List ℕ} {count left a : ℕ} {h : Head} → Walking m count left a → 0 < left → Heads m a h → Passed m count left a h
+pub passed : {m : List ℕ} {count left a : ℕ} {h : Bounds} → Walking m count left a → 0 < left → EntryAt m a h → Passed m count left a h
 passed {left = zero} w l r = absurd (omega arith)
 passed {m} {count} {left = suc k} {a} {h} w l r =
     let f = first m a k (omega arith) in

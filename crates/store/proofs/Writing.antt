@@ -12,10 +12,10 @@ use Rattle.buffer.specs.Pasted.{Pasted}
 use Rattle.buffer.specs.Written.{Written}
 use Rattle.buffer.proofs.Written.{written-none, written-length, written-copy}
 use Rattle.store.specs.Memory.{held, Kept}
-use Rattle.store.specs.Seek.{Heads}
-use Rattle.store.specs.List.{each, Parts, Marked, Writes}
+use Rattle.store.specs.Seek.{EntryAt}
+use Rattle.store.specs.List.{each, Parts, Marked, WritesEach}
 use Rattle.store.specs.declared.Index.{Index}
-use Rattle.store.specs.declared.Head.{Head}
+use Rattle.store.specs.declared.Bounds.{Bounds}
 use Rattle.store.specs.declared.Part.{Part}
 use Rattle.store.proofs.Walk.{Walking, walk-begins, passed}
 
@@ -53,7 +53,7 @@ write-begins {o = o} {start = start} k h = record {
   room = h;
 }
 
-part-is : (m : List ℕ) {h : Head} (q : Bool) {p : Part} → Parts h q p → part m (p .from) (p .to) ≡ cond q (part m (h .text) (h .next)) (part m (h .name) (h .text))
+part-is : (m : List ℕ) {h : Bounds} (q : Bool) {p : Part} → Parts h q p → part m (p .from) (p .to) ≡ cond q (part m (h .text) (h .next)) (part m (h .name) (h .text))
 part-is m true f = ap₂ (λ (i j : ℕ). part m i j) (f .from) (f .to)
 part-is m false f = ap₂ (λ (i j : ℕ). part m i j) (f .from) (f .to)
 
@@ -63,8 +63,8 @@ record Turn (m : List ℕ) (count : ℕ) (q : Bool) (b : ℕ) (o : List ℕ) (st
   comes : front ++ (s ++ (b ∷ [])) ++ each q b (held (left - 1) (drop next m)) ≡ take start o ++ each q b (held count m)
   room : w + length (s ++ (b ∷ [])) ≤ length o
 
-module _ {m : List ℕ} {count : ℕ} {q : Bool} {b : ℕ} {o : List ℕ} {start left a w : ℕ} {out : List ℕ} {h : Head} {p : Part}
-    (g : Writing m count q b o start left a w out) (l : 0 < left) (e : Heads m a h) (f : Parts h q p) where
+module _ {m : List ℕ} {count : ℕ} {q : Bool} {b : ℕ} {o : List ℕ} {start left a w : ℕ} {out : List ℕ} {h : Bounds} {p : Part}
+    (g : Writing m count q b o start left a w out) (l : 0 < left) (e : EntryAt m a h) (f : Parts h q p) where
   turn : Turn m count q b o start left w (g .front) (part m (p .from) (p .to)) (h .next)
   unfolding each
   turn =
@@ -98,7 +98,7 @@ module _ {m : List ℕ} {count : ℕ} {q : Bool} {b : ℕ} {o : List ℕ} {start
       record { walk = turn .walk; front = g .front ++ s; wrote = t; long = written-length t; comes = turn .comes; room = g .room }
 
 pub write-done : {m : List ℕ} {x : Index} {q : Bool} {b : ℕ} {o : List ℕ} {start left a w : ℕ} {out : List ℕ} → Writing m (x .count) q b o start left a w out → left ≤ 0
-    → Writes m x q b start o w out
+    → WritesEach m x q b start o w out
 unfolding held each
 write-done {o = o} {left = zero} {w = w} {out = out} g h =
     record { is = subst (λ (f : List ℕ). Written o f w out) (sym (append-nil (g .front)) ∙ g .comes) (g .wrote) }

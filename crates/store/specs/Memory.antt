@@ -4,6 +4,7 @@ use mathlib.Core.Bool.{true}
 use mathlib.Core.List.{List, [], _∷_, _++_}
 use Prim.Native.Nat.{ℕ, zero, suc, _+_, _*_, _≤_}
 use lib.ListN.{length, take, drop}
+use Rattle.model.specs.Limits.{namesMost, memoryMost, storeLeast}
 use Rattle.model.specs.Store.{Store, within}
 use Rattle.store.specs.declared.Index.{Index}
 
@@ -28,10 +29,10 @@ packed (e ∷ es) = length (e .0) ∷ length (e .1) ∷ (e .0 ++ (e .1 ++ packed
 
 -- the index fits memory: what each function asks
 pub record Kept (memory : List ℕ) (x : Index) : Type 0 where
-  pub long : length memory ≡ 8704
+  pub long : length memory ≡ storeLeast
   pub whole : extent (x .count) memory ≡ x .used
-  pub few : x .count ≤ 256
-  pub small : x .used ≤ 8192 + 2 * x .count
+  pub few : x .count ≤ namesMost
+  pub small : x .used ≤ memoryMost + 2 * x .count
 
 -- memory and index hold the entries es: what each change ensures
 pub record Holds (memory : List ℕ) (x : Index) (es : Store) : Type 0 where

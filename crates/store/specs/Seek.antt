@@ -10,13 +10,13 @@ use Rattle.model.specs.Store.{Store, find}
 use Rattle.model.specs.Machine.{orNothing}
 use Rattle.store.specs.Memory.{held}
 use Rattle.store.specs.declared.Index.{Index}
-use Rattle.store.specs.declared.Head.{Head}
+use Rattle.store.specs.declared.Bounds.{Bounds}
 use Rattle.store.specs.declared.Place.{Place}
 use Rattle.store.specs.declared.Place.the-variants.{At, Nowhere}
 use Rattle.store.specs.declared.Seen.{Seen}
 
--- what `read_head` says of the entry at a
-pub record Heads (memory : List ℕ) (a : ℕ) (h : Head) : Type 0 where
+-- what `read_entry` says of the entry at a
+pub record EntryAt (memory : List ℕ) (a : ℕ) (h : Bounds) : Type 0 where
   pub name : h .name ≡ a + 2
   pub text : h .text ≡ a + 2 + getD memory a 0
   pub next : h .next ≡ a + 2 + getD memory a 0 + getD memory (a + 1) 0
@@ -29,7 +29,7 @@ placeIn name a [] = Nowhere
 placeIn name a (e ∷ es) = elim (same (e .0) name) [ true ↦ At a | false ↦ placeIn name (a + 2 + length (e .0) + length (e .1)) es ]
 
 -- what `locate` answers
-pub record Placed (memory : List ℕ) (x : Index) (name : List ℕ) (r : Place) : Type 0 where
+pub record Locates (memory : List ℕ) (x : Index) (name : List ℕ) (r : Place) : Type 0 where
   pub is : r ≡ placeIn name 0 (held (x .count) memory)
 
 unfoldable pub isThere : Option (List ℕ) → Bool
@@ -37,7 +37,7 @@ isThere none = false
 isThere (some s) = true
 
 -- what `seek` answers: a part of memory in each case, so that its bounds hold whatever `there` says
-pub record Sees (memory : List ℕ) (x : Index) (name : List ℕ) (r : Seen) : Type 0 where
+pub record SeeksName (memory : List ℕ) (x : Index) (name : List ℕ) (r : Seen) : Type 0 where
   pub text : part memory (r .at) (r .at + r .len) ≡ orNothing (find name (held (x .count) memory))
   pub there : r .there ≡ isThere (find name (held (x .count) memory))
   pub within : r .at + r .len ≤ length memory

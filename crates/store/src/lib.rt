@@ -1,14 +1,17 @@
 // Stored names and their texts, in lent memory of 8,704 bytes: 8,192 for names and texts, and two for the lengths of each
 // of 256 entries. An entry is a byte with the name's length, one with the text's, the name and the text. Entries stand in
 // the order in which their names were first stored, with nothing between them.
+use model::MEMORY_MOST;
+use model::NAMES_MOST;
 ghost use mathlib.Core.Path.{_≡_};
 ghost use mathlib.Core.List.{[]};
 ghost use Prim.Native.Nat.{_+_, _≤_, _<_};
 ghost use lib.ListN.{length, getD};
 ghost use Rattle.store.specs.Memory.{held, Kept, Holds};
-ghost use Rattle.store.specs.Seek.{Heads, Placed, Sees};
+ghost use Rattle.store.specs.Seek.{EntryAt, Locates, SeeksName};
 ghost use Rattle.store.specs.Put.{Puts};
-ghost use Rattle.store.specs.List.{each, Parts, Marked, Writes, Closes, Lists};
+ghost use Rattle.store.specs.List.{each, Parts, Marked, WritesEach, ClosesNames, Lists};
+ghost use Rattle.model.specs.Limits.{storeLeast};
 
 // How many entries there are, and how many bytes they take.
 pub struct Index {
@@ -36,7 +39,7 @@ enum Place {
 }
 
 // Where an entry's name and its text begin, and the next entry.
-struct Head {
+struct Bounds {
     name: usize,
     text: usize,
     next: usize,
@@ -50,32 +53,32 @@ struct Part {
 
 // Nothing is stored yet.
 pub fn empty(memory: &[u8]) -> Index
-    requires { ⌜ length (now memory) ≡ 8704 ⌝ }
+    requires { ⌜ length (now memory) ≡ storeLeast ⌝ }
     ensures { λ r. ⌜ Holds (now (memory .entry)) r [] ⌝ }
 {
     Index { count: 0, used: 0 }
 }
 
 // The entry that begins at offset at.
-fn read_head(memory: &[u8], at: usize) -> Head
+fn read_entry(memory: &[u8], at: usize) -> Bounds
     requires { ⌜ at + 2 + getD (now memory) at 0 + getD (now memory) (at + 1) 0 ≤ length (now memory) ⌝ }
-    ensures { λ r. ⌜ Heads (now (memory .entry)) at r ⌝ }
+    ensures { λ r. ⌜ EntryAt (now (memory .entry)) at r ⌝ }
 {
     let name = at + 2;
     let text = name + buffer::wide(memory[at]);
     let next = text + buffer::wide(memory[at + 1]);
-    Head { name, text, next }
+    Bounds { name, text, next }
 }
 
 // Where the entry of a name begins.
 fn locate(memory: &[u8], index: Index, name: &[u8]) -> Place
     requires { ⌜ Kept (now memory) index ⌝ }
-    ensures { λ r. ⌜ Placed (now (memory .entry)) index (now (name .entry)) r ⌝ }
+    ensures { λ r. ⌜ Locates (now (memory .entry)) index (now (name .entry)) r ⌝ }
 {
     let mut left = index.count;
     let mut at = 0;
     while 0 < left {
-        let h = read_head(memory, at);
+        let h = read_entry(memory, at);
         let from = h.name;
         let to = h.text;
         if buffer::same_bytes(&memory[from..to], name) {
@@ -90,11 +93,11 @@ fn locate(memory: &[u8], index: Index, name: &[u8]) -> Place
 // Where the text of a name lies.
 pub fn seek(memory: &[u8], index: Index, name: &[u8]) -> Seen
     requires { ⌜ Kept (now memory) index ⌝ }
-    ensures { λ r. ⌜ Sees (now (memory .entry)) index (now (name .entry)) r ⌝ }
+    ensures { λ r. ⌜ SeeksName (now (memory .entry)) index (now (name .entry)) r ⌝ }
 {
     match locate(memory, index, name) {
         Place::At(at) => {
-            let h = read_head(memory, at);
+            let h = read_entry(memory, at);
             let from = h.text;
             let to = h.next;
             Seen {
@@ -113,18 +116,18 @@ pub fn seek(memory: &[u8], index: Index, name: &[u8]) -> Seen
 
 // The text of the name whose entry begins at offset at is replaced.
 fn replace(memory: &mut [u8], index: Index, at: usize, name: &[u8], text: &[u8]) -> Stored
-    requires { ⌜ Kept (now memory) index × Placed (now memory) index (now name) (Place.At at) ⌝ }
+    requires { ⌜ Kept (now memory) index × Locates (now memory) index (now name) (Place.At at) ⌝ }
     requires { ⌜ length (now text) < 256 ⌝ }
     ensures { λ r. ⌜ Puts (now (memory .entry)) index (now (name .entry)) (now (text .entry)) (now (memory .exit)) r ⌝ }
 {
     let count = index.count;
     let used = index.used;
-    let h = read_head(memory, at);
+    let h = read_entry(memory, at);
     let from = h.text;
     let next = h.next;
     let end = from + text.len();
     let tail = used - next;
-    if 8192 + 2 * count < end + tail {
+    if MEMORY_MOST + 2 * count < end + tail {
         return Stored::Full;
     }
     buffer::shift(memory, end, next, tail);
@@ -137,14 +140,14 @@ fn replace(memory: &mut [u8], index: Index, at: usize, name: &[u8], text: &[u8])
 }
 
 // A new name and its text come last.
-fn append(memory: &mut [u8], index: Index, name: &[u8], text: &[u8]) -> Stored
-    requires { ⌜ Kept (now memory) index × Placed (now memory) index (now name) Place.Nowhere ⌝ }
+fn append_entry(memory: &mut [u8], index: Index, name: &[u8], text: &[u8]) -> Stored
+    requires { ⌜ Kept (now memory) index × Locates (now memory) index (now name) Place.Nowhere ⌝ }
     requires { ⌜ (length (now name) < 256) × (length (now text) < 256) ⌝ }
     ensures { λ r. ⌜ Puts (now (memory .entry)) index (now (name .entry)) (now (text .entry)) (now (memory .exit)) r ⌝ }
 {
     let count = index.count;
     let used = index.used;
-    if count == 256 {
+    if count == NAMES_MOST {
         return Stored::Full;
     }
     let from = used + 2;
@@ -171,12 +174,12 @@ pub fn put(memory: &mut [u8], index: Index, name: &[u8], text: &[u8]) -> Stored
 {
     match locate(memory, index, name) {
         Place::At(at) => replace(memory, index, at, name, text),
-        Place::Nowhere => append(memory, index, name, text),
+        Place::Nowhere => append_entry(memory, index, name, text),
     }
 }
 
 // The text of an entry, or its name.
-fn part_of(h: Head, texts: bool) -> Part
+fn part_of(h: Bounds, texts: bool) -> Part
     requires { ⌜ (h .name ≤ h .text) × (h .text ≤ h .next) ⌝ }
     ensures { λ r. ⌜ Parts h texts r ⌝ }
 {
@@ -217,13 +220,13 @@ fn write_each(
 ) -> usize
     requires { ⌜ Kept (now memory) index ⌝ }
     requires { ⌜ start + length (each texts mark (held (index .count) (now memory))) ≤ length (now room) ⌝ }
-    ensures { λ r. ⌜ Writes (now (memory .entry)) index texts mark start (now (room .entry)) r (now (room .exit)) ⌝ }
+    ensures { λ r. ⌜ WritesEach (now (memory .entry)) index texts mark start (now (room .entry)) r (now (room .exit)) ⌝ }
 {
     let mut left = index.count;
     let mut at = 0;
     let mut w = start;
     while 0 < left {
-        let h = read_head(memory, at);
+        let h = read_entry(memory, at);
         let p = part_of(h, texts);
         let from = p.from;
         let to = p.to;
@@ -237,13 +240,13 @@ fn write_each(
 // The byte 10 that ends the names takes the place of the byte 0 after the last of them, or stands alone.
 fn close_names(room: &mut [u8], end: usize) -> usize
     requires { ⌜ (end ≤ length (now room)) × (0 < length (now room)) ⌝ }
-    ensures { λ r. ⌜ Closes end (now (room .entry)) r (now (room .exit)) ⌝ }
+    ensures { λ r. ⌜ ClosesNames end (now (room .entry)) r (now (room .exit)) ⌝ }
 {
     if end == 0 {
-        room[0] = 10;
+        room[0] = b'\n';
         return 1;
     }
-    room[end - 1] = 10;
+    room[end - 1] = b'\n';
     end
 }
 
@@ -251,10 +254,10 @@ fn close_names(room: &mut [u8], end: usize) -> usize
 // The answer is its length.
 pub fn listing(memory: &[u8], index: Index, room: &mut [u8]) -> usize
     requires { ⌜ Kept (now memory) index ⌝ }
-    requires { ⌜ 8704 ≤ length (now room) ⌝ }
+    requires { ⌜ storeLeast ≤ length (now room) ⌝ }
     ensures { λ r. ⌜ Lists (now (memory .entry)) index (now (room .entry)) r (now (room .exit)) ⌝ }
 {
     let names = write_each(memory, index, false, 0, room, 0);
     let end = close_names(room, names);
-    write_each(memory, index, true, 10, room, end)
+    write_each(memory, index, true, b'\n', room, end)
 }

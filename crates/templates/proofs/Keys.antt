@@ -13,7 +13,7 @@ use lib.Seq.{getD-take, getD-drop}
 use borrow.Author.Tests.{eqb-true, eqb-false, eq-eqb, ne-eqb, ltb-true, ltb-false}
 use Rattle.model.specs.Text.{Bytes, part}
 use Rattle.model.specs.Load.{count}
-use Rattle.templates.specs.Keys.{Small, pick, byteKey, keyOf, codeOf, Share, one, cnt, Key}
+use Rattle.templates.specs.Keys.{AllBytes, pick, byteKey, keyOf, codeOf, Share, one, cnt, Key}
 use Rattle.model.proofs.Text.{part-long}
 
 -- keys and their numbers
@@ -117,10 +117,10 @@ module _ (p b : ℕ) (small : b < 256) where
       (λ e. ⊎-elim (λ g. omega arith) (λ g. absurd (omega (arith, byte-hole p b e, byte-plain p a g))) (eq-or a p))
       (λ e. ⊎-elim (λ g. absurd (omega (arith, byte-plain p b e, byte-hole p a g))) (λ g. omega (arith, byte-plain p b e, byte-plain p a g)) (eq-or a p)) (eq-or b p)
 
-pub key-bound : (p : ℕ) (c : Bytes) (x : ℕ) → Small c → keyOf p c x < 258
+pub key-bound : (p : ℕ) (c : Bytes) (x : ℕ) → AllBytes c → keyOf p c x < 258
 key-bound p c x h = ⊎-elim (λ u. omega (arith, key-in p c x u, byte-bound p (getD c x 0) (h x))) (λ u. omega (arith, key-past p c x u)) (lt-or x (length c))
 
-pub key-ends : (p : ℕ) (c : Bytes) (x : ℕ) → Small c → keyOf p c x ≡ 256 → length c ≤ x
+pub key-ends : (p : ℕ) (c : Bytes) (x : ℕ) → AllBytes c → keyOf p c x ≡ 256 → length c ≤ x
 key-ends p c x h q = ⊎-elim (λ u. absurd (byte-no-end p (getD c x 0) (h x) (sym (key-in p c x u) ∙ q))) (λ u. u) (lt-or x (length c))
 
 -- shared beginnings
@@ -169,7 +169,8 @@ pigeon zero s g b d = omega arith
 pigeon (suc n) zero g b d = absurd (omega (arith, b n (omega arith)))
 pigeon (suc n) (suc s) g b d =
     let ne : (i : ℕ) → i < n → g i ≡ g n → ⊥ = λ i u. d i n u (omega arith) in
-    let h = pigeon n s (λ i. squeeze (g n) (g i)) (λ i u. squeeze-lt (g n) (g i) s (ne i u) (b i (omega arith)) (b n (omega arith))) (λ i j u v e. d i j u (omega arith) (squeeze-inj (g n) (g i) (g j) (ne i (omega arith)) (ne j v) e)) in
+    let h = pigeon n s (λ i. squeeze (g n) (g i)) (λ i u. squeeze-lt (g n) (g i) s (ne i u) (b i (omega arith)) (b n (omega arith)))
+    (λ i j u v e. d i j u (omega arith) (squeeze-inj (g n) (g i) (g j) (ne i (omega arith)) (ne j v) e)) in
     omega (arith, h)
 
 -- placeholders in the first x elements of a template, at most those of all
@@ -178,7 +179,7 @@ unfolding cnt
 cnt-shift g zero = omega arith
 cnt-shift g (suc x) = omega (arith, cnt-shift g x)
 
-pub holes-most : (p : ℕ) (c : Bytes) (x : ℕ) → Small c → cnt (λ y. eqb (keyOf p c y) 257) x ≤ count p c
+pub holes-most : (p : ℕ) (c : Bytes) (x : ℕ) → AllBytes c → cnt (λ y. eqb (keyOf p c y) 257) x ≤ count p c
 unfolding cnt keyOf count
 holes-most p c zero h = omega arith
 holes-most p [] (suc x) h = omega (arith, cnt-shift (λ y. eqb (keyOf p [] y) 257) x, holes-most p [] x h)

@@ -1,5 +1,4 @@
--- The table of templates, and how many beginnings they have.
-pub mod Table
+-- How many beginnings templates have.
 pub mod Count
 mod Matching
 -- Keys, and the templates that stand at a node.

@@ -8,7 +8,8 @@ use borrow.Author.Tests.{eq-eqb, ne-eqb}
 use lib.ListN.{length, getD}
 use Rattle.model.specs.Text.{Bytes, part}
 use Rattle.model.proofs.Text.{part-first, part-empty, part-long}
-use Rattle.templates.specs.Table.{content, table}
+use Rattle.macros.specs.Table.{startIn, lenIn, templateIn, templatesIn}
+use Rattle.macros.proofs.Table.{entry-is}
 use Rattle.templates.specs.Count.{common, longest, Counted}
 use Rattle.templates.proofs.Count.{longest-most, longest-snoc, counted}
 
@@ -78,30 +79,33 @@ module _ (text : Bytes) (a la b lb : ℕ) where
 -- ---- what a template has in common with those of a table
 
 -- `most` is the most that the template at start has in common with one of the first m
-pub record Passed (text starts lens : List ℕ) (k start len m most : ℕ) : Type 0 where
+pub record Passed (text table : List ℕ) (k start len m most : ℕ) : Type 0 where
   pub within : m ≤ k
-  pub is : most ≡ longest (part text start (start + len)) (table text starts lens m)
+  pub is : most ≡ longest (part text start (start + len)) (templatesIn text table m)
 
-module _ (text starts lens : List ℕ) (k start len : ℕ) where
-  pub passed-none : Passed text starts lens k start len 0 0
-  unfolding longest table
+module _ (text table : List ℕ) (k start len : ℕ) where
+  pub passed-none : Passed text table k start len 0 0
+  unfolding longest templatesIn
   passed-none = record { within = omega arith; is = refl }
 
-  pub passed-more : (m most c r : ℕ) → Passed text starts lens k start len m most → m < k → c ≡ common (part text start (start + len)) (content text starts lens m) → r ≡ max most c
-      → Passed text starts lens k start len (m + 1) r
-  unfolding table
-  passed-more m most c r h u p q = record {
-    within = omega arith;
-    is = q ∙ rw add-one (rw (longest-snoc (part text start (start + len)) (table text starts lens m) (content text starts lens m), h .is, p) refl);
-  }
+  pub passed-more : (m most c r s l : ℕ) → Passed text table k start len m most → m < k → s ≡ startIn table m → l ≡ lenIn table m
+      → c ≡ common (part text start (start + len)) (part text s (s + l)) → r ≡ max most c → Passed text table k start len (m + 1) r
+  unfolding templatesIn
+  passed-more m most c r s l h u a b p q =
+      let e : c ≡ common (part text start (start + len)) (templateIn text table m) = p ∙ ap (common (part text start (start + len))) (entry-is text table m s l a b) in
+      record {
+        within = omega arith;
+        is = q ∙ rw add-one (rw (longest-snoc (part text start (start + len)) (templatesIn text table m) (templateIn text table m), h .is, e) refl);
+      }
 
   -- it is no more than all
-  pub passed-within : (m most : ℕ) → Passed text starts lens k start len m most → start + len ≤ length text → most ≤ len + 1
-  passed-within m most h u = omega (arith, h .is, longest-most (part text start (start + len)) (table text starts lens m), part-long text start len u)
+  pub passed-within : (m most : ℕ) → Passed text table k start len m most → start + len ≤ length text → most ≤ len + 1
+  passed-within m most h u = omega (arith, h .is, longest-most (part text start (start + len)) (templatesIn text table m), part-long text start len u)
 
   -- the rest is new
-  pub passed-all : (m most r : ℕ) → Passed text starts lens k start len m most → k ≤ m → start + len ≤ length text → r ≡ len + 1 - most
-      → Counted (table text starts lens k) (part text start (start + len)) r
+  pub passed-all : (m most r : ℕ) → Passed text table k start len m most → k ≤ m → start + len ≤ length text → r ≡ len + 1 - most
+      → Counted (templatesIn text table k) (part text start (start + len)) r
   passed-all m most r h u v q =
       let z : m ≡ k = omega (arith, h .within) in
-      counted (table text starts lens k) (part text start (start + len)) r (omega (arith, part-long text start len v, h .is, ap (λ (n : ℕ). longest (part text start (start + len)) (table text starts lens n)) z))
+      let e = ap (λ (n : ℕ). longest (part text start (start + len)) (templatesIn text table n)) z in
+      counted (templatesIn text table k) (part text start (start + len)) r (omega (arith, part-long text start len v, h .is, e))

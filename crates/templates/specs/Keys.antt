@@ -14,11 +14,11 @@ pick true a b = a
 pick false a b = b
 
 -- bytes, and templates of bytes
-abbrev pub Small : Bytes → Type 0
-Small c = (i : ℕ) → getD c i 0 < 256
+abbrev pub AllBytes : Bytes → Type 0
+AllBytes c = (i : ℕ) → getD c i 0 < 256
 
 abbrev pub Smalls : List Bytes → Type 0
-Smalls ts = (k : ℕ) → Small (getD ts k [])
+Smalls ts = (k : ℕ) → AllBytes (getD ts k [])
 
 -- p is the placeholder
 unfoldable pub byteKey : ℕ → ℕ → ℕ
@@ -68,8 +68,8 @@ pub record Least (f : ℕ → ℕ → ℕ) (n : ℕ) (at : List ℕ) (i d key wh
   pub least : (k : ℕ) → k < n → getD at k 0 ≡ i → (key ≤ f k d) × (f k d < 258)
 
 -- the same of all templates
-abbrev pub Chosen : ℕ → List Bytes → List ℕ → ℕ → ℕ → ℕ → ℕ → Type 0
-Chosen p ts at i d key who = Least (keys p ts) (length ts) at i d key who
+abbrev pub LeastOfAll : ℕ → List Bytes → List ℕ → ℕ → ℕ → ℕ → ℕ → Type 0
+LeastOfAll p ts at i d key who = Least (keys p ts) (length ts) at i d key who
 
 -- where a template that stands at node a stands when those with this key at node i go on to node c
 unfoldable pub moveTo : ℕ → ℕ → ℕ → ℕ → ℕ → ℕ

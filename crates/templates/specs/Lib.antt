@@ -1,4 +1,3 @@
--- Templates in a text, how many beginnings they have, and their keys.
-pub mod Table
+-- How many beginnings templates have, and their keys.
 pub mod Count
 pub mod Keys

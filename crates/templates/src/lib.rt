@@ -1,13 +1,15 @@
-// The templates of a text, by a table of where each starts and how long it is: how many beginnings a new one adds, and the least
-// key at a place of those that stand at a node.
+// The templates that the table of macros holds: how many beginnings a new one adds, and the least key at a place of those that
+// stand at a node.
 ghost use mathlib.Core.Path.{_≡_};
 ghost use Prim.Native.Nat.{ℕ, _+_, _≤_, _<_, max};
 ghost use lib.ListN.{length};
 ghost use lib.Dec.{eqb};
 ghost use Rattle.model.specs.Text.{part};
-ghost use Rattle.templates.specs.Table.{table, Entries};
+ghost use Rattle.macros.specs.Table.{templatesIn, Entries};
 ghost use Rattle.templates.specs.Count.{common, Counted};
-ghost use Rattle.templates.specs.Keys.{keyOf, codeOf, one, Key, Chosen, moveTo, MovedOn};
+ghost use Rattle.templates.specs.Keys.{keyOf, codeOf, one, Key, LeastOfAll, moveTo, MovedOn};
+use macros::len_of;
+use macros::start_of;
 
 fn larger(a: usize, b: usize) -> usize
     ensures { λ r. ⌜ r ≡ max a b ⌝ }
@@ -40,21 +42,14 @@ fn match_both(text: &[u8], a: usize, la: usize, b: usize, lb: usize) -> usize
 }
 
 // How many beginnings the template at start has that none of the first k of the table has: 0 where it is one of them.
-pub fn count_new(
-    text: &[u8],
-    starts: &[usize],
-    lens: &[usize],
-    k: usize,
-    start: usize,
-    len: usize,
-) -> usize
-    requires { ⌜ Entries (now text) (now starts) (now lens) k × (start + len ≤ length (now text)) ⌝ }
-    ensures { λ r. ⌜ Counted (table (now (text .entry)) (now (starts .entry)) (now (lens .entry)) k) (part (now (text .entry)) start (start + len)) r ⌝ }
+pub fn count_new(text: &[u8], table: &[usize], k: usize, start: usize, len: usize) -> usize
+    requires { ⌜ Entries (now text) (now table) k × (start + len ≤ length (now text)) ⌝ }
+    ensures { λ r. ⌜ Counted (templatesIn (now (text .entry)) (now (table .entry)) k) (part (now (text .entry)) start (start + len)) r ⌝ }
 {
     let mut most = 0;
     let mut m = 0;
     while m < k {
-        let c = match_both(text, start, len, starts[m], lens[m]);
+        let c = match_both(text, start, len, start_of(table, m), len_of(table, m));
         most = larger(most, c);
         m += 1;
     }
@@ -86,22 +81,21 @@ pub struct Pick {
 pub fn least(
     mark: u8,
     text: &[u8],
-    starts: &[usize],
-    lens: &[usize],
+    table: &[usize],
     n: usize,
     at: &[usize],
     i: usize,
     d: usize,
 ) -> Pick
-    requires { ⌜ Entries (now text) (now starts) (now lens) n × (n ≤ length (now at)) ⌝ }
-    ensures { λ r. ⌜ Chosen mark (table (now (text .entry)) (now (starts .entry)) (now (lens .entry)) n) (now (at .entry)) i d (r .key) (r .template) ⌝ }
+    requires { ⌜ Entries (now text) (now table) n × (n ≤ length (now at)) ⌝ }
+    ensures { λ r. ⌜ LeastOfAll mark (templatesIn (now (text .entry)) (now (table .entry)) n) (now (at .entry)) i d (r .key) (r .template) ⌝ }
 {
     let mut best: u16 = 258;
     let mut who = 0;
     let mut k = 0;
     while k < n {
         if at[k] == i {
-            let e = key_at(mark, text, starts[k], lens[k], d);
+            let e = key_at(mark, text, start_of(table, k), len_of(table, k), d);
             if e < best {
                 best = e;
                 who = k;
@@ -140,11 +134,10 @@ fn follow(
 }
 
 // The templates that stand at node i and have this key at place d go on to node c.
-pub fn advance(
+pub fn move_templates(
     mark: u8,
     text: &[u8],
-    starts: &[usize],
-    lens: &[usize],
+    table: &[usize],
     n: usize,
     at: &mut [usize],
     i: usize,
@@ -152,13 +145,14 @@ pub fn advance(
     key: u16,
     c: usize,
 )
-    requires { ⌜ Entries (now text) (now starts) (now lens) n × (n ≤ length (now at)) ⌝ }
-    ensures { λ r. ⌜ MovedOn mark (table (now (text .entry)) (now (starts .entry)) (now (lens .entry)) n) (now (at .entry)) (now (at .exit)) i d key c ⌝ }
+    requires { ⌜ Entries (now text) (now table) n × (n ≤ length (now at)) ⌝ }
+    ensures { λ r. ⌜ MovedOn mark (templatesIn (now (text .entry)) (now (table .entry)) n) (now (at .entry)) (now (at .exit)) i d key c ⌝ }
 {
     let mut k = 0;
     while k < n {
-        let a = at[k];
-        at[k] = follow(mark, text, starts[k], lens[k], a, i, d, key, c);
+        let start = start_of(table, k);
+        let len = len_of(table, k);
+        at[k] = follow(mark, text, start, len, at[k], i, d, key, c);
         k += 1;
     }
 }

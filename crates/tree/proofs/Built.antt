@@ -14,12 +14,13 @@ use Rattle.model.specs.Parts.{Elem, stop, elems}
 use Rattle.nodes.specs.declared.Node.{Node}
 use Rattle.nodes.specs.Rows.{noNode, elem, code, firstOf, countOf, templateOf, height, holes, Child, Tree}
 use Rattle.nodes.proofs.Rows.{front-node}
-use Rattle.nodes.specs.Templates.{Begins}
+use Rattle.nodes.specs.Templates.{Beginnings}
 use Rattle.nodes.proofs.Templates.{represents}
 use Rattle.templates.specs.Count.{known, beginnings}
 use Rattle.templates.specs.Keys.{keys, codeOf, Share, one, cnt, holed}
 use Rattle.tree.specs.Nodes.{columns, Half, Made}
-use Rattle.tree.specs.Built.{Ready, order, Built}
+use Rattle.tree.specs.Built.{ReadyToBuild, order, Built, Growing, NodesMade}
+use Rattle.macros.specs.Table.{Table}
 use Rattle.templates.proofs.Keys.{code-hole, code-inj, lt-or, cnt-more, cnt-same, key-bound, key-ends, holes-most}
 use Rattle.tree.proofs.Known.{templates-known}
 use Rattle.tree.proofs.Nodes.{Agree, stem, carry-all}
@@ -118,13 +119,15 @@ module _ (f : ℕ → ℕ → ℕ) (len : ℕ → ℕ) (n : ℕ) (rows : List No
       let d : 201 - height rows i ≡ 201 - height rows j = sym (begin-length f (templateOf rows i) (201 - height rows i)) ∙ ap length e ∙ begin-length f (templateOf rows j) (201 - height rows j) in
       let h : height rows i ≡ height rows j = omega (arith, d, si .high, sj .high) in
       let s : (x : ℕ) → x < 201 - height rows i → f (templateOf rows i) x ≡ f (templateOf rows j) x =
-      λ x w. elem-inj _ _ (sym (begin-at f (templateOf rows i) (201 - height rows i) x w) ∙ ap (λ (l : List Elem). getD l x stop) e ∙ begin-at f (templateOf rows j) (201 - height rows j) x (omega (arith, d))) in
+      λ x w. elem-inj _ _ (sym (begin-at f (templateOf rows i) (201 - height rows i) x w) ∙ ap (λ (l : List Elem). getD l x stop) e
+      ∙ begin-at f (templateOf rows j) (201 - height rows j) x (omega (arith, d))) in
       ⊎-elim (λ a. sj .first (templateOf rows i) a (λ x w. s x (omega (arith, d))))
-      (λ a. ⊎-elim (λ b. si .first (templateOf rows j) b (λ x w. sym (s x w))) (λ b. half .distinct i j u v (omega arith) h) (lt-or (templateOf rows j) (templateOf rows i))) (lt-or (templateOf rows i) (templateOf rows j))
+      (λ a. ⊎-elim (λ b. si .first (templateOf rows j) b (λ x w. sym (s x w))) (λ b. half .distinct i j u v (omega arith) h) (lt-or (templateOf rows j) (templateOf rows i)))
+      (lt-or (templateOf rows i) (templateOf rows j))
 
   module _ (bounded : (k x : ℕ) → f k x < 258) (ends : (k x : ℕ) → f k x ≡ 256 → len k ≤ x)
       (ts : List (List Elem)) (size : length ts ≡ n) (at : (k : ℕ) → k < n → getD ts k [] ≡ begin f k (suc (len k))) where
-    pub is-begins : Begins rows ts pre
+    pub is-begins : Beginnings rows ts pre
     unfolding pre
     is-begins = record {
       root-empty = rw (half .root .1) (begin-zero f (templateOf rows 0));
@@ -150,7 +153,7 @@ module _ (f : ℕ → ℕ → ℕ) (len : ℕ → ℕ) (n : ℕ) (rows : List No
     }
 
 -- the first r nodes of the row that was lent
-is-built : (m : Marks) (ts : List Bytes) (first rows : List Node) (at : List ℕ) (r : ℕ) → Ready (m .placeholder) ts first → r ≤ length rows
+is-built : (m : Marks) (ts : List Bytes) (first rows : List Node) (at : List ℕ) (r : ℕ) → ReadyToBuild (m .placeholder) ts first → r ≤ length rows
     → Made (m .placeholder) ts rows at r r → Built m ts (take r rows)
 is-built m ts first rows at r ready le h =
     let small = h .bytes in
@@ -188,12 +191,16 @@ is-built m ts first rows at r ready le h =
     }
 
 -- and they stand in it
-pub built-in-row : (m : Marks) {ts : List Bytes} {first rows : List Node} {at : List ℕ} {r : ℕ} → Ready (m .placeholder) ts first → length rows ≡ length first
-    → (r ≤ suc (beginnings ts)) × Made (m .placeholder) ts rows at r r → (r ≤ length rows) × Built m ts (take r rows)
-built-in-row m {ts} {first} {rows} {at} {r} ready e (le, h) =
-    let u : r ≤ length rows = omega (arith, ready .room) in
-    (u, is-built m ts first rows at r ready u h)
+pub built-in-row : (m : Marks) {ts : List Bytes} {first rows : List Node} {at : List ℕ} {r : ℕ} → ReadyToBuild (m .placeholder) ts first → length rows ≡ length first
+    → NodesMade (m .placeholder) ts rows at r r → (r ≤ length rows) × Built m ts (take r rows)
+built-in-row m {ts} {first} {rows} {at} {r} ready e h =
+    let u : r ≤ length rows = omega (arith, ready .room, h .within) in
+    (u, is-built m ts first rows at r ready u (h .made))
 
 -- a row of the same length is as ready
-pub ready-kept : {p : ℕ} {ts : List Bytes} {rows rows′ : List Node} → Ready p ts rows → length rows′ ≡ length rows → Ready p ts rows′
+pub ready-kept : {p : ℕ} {ts : List Bytes} {rows rows′ : List Node} → ReadyToBuild p ts rows → length rows′ ≡ length rows → ReadyToBuild p ts rows′
 ready-kept h e = record { few = h .few; short = h .short; nine = h .nine; room = omega (arith, h .room); small = h .small }
+
+pub growing-kept : {p : ℕ} {text : Bytes} {t : Table} {n : ℕ} {rows rows′ : List Node} {at at′ : List ℕ} → Growing p text t n rows at → length rows′ ≡ length rows → length at′ ≡ length at
+    → Growing p text t n rows′ at′
+growing-kept h e f = record { entries = h .entries; ready = ready-kept (h .ready) e; places = omega (arith, h .places) }

@@ -14,7 +14,7 @@ use Rattle.model.specs.declared.Marks.{Marks}
 use Rattle.model.specs.Text.{Bytes}
 use Rattle.model.specs.Parts.{Elem, lit, hole, stop, elems}
 use Rattle.nodes.specs.Rows.{code}
-use Rattle.templates.specs.Keys.{Small, pick, byteKey, keyOf, keys, codeOf, Share}
+use Rattle.templates.specs.Keys.{AllBytes, pick, byteKey, keyOf, keys, codeOf, Share}
 use Rattle.tree.specs.Built.{order}
 use Rattle.templates.proofs.Keys.{Sorted, is-end, is-hole, is-byte, sorted, code-end, code-hole, code-byte, code-inj, byte-hole, byte-plain}
 
@@ -103,7 +103,8 @@ module _ (f : ℕ → ℕ → ℕ) where
   begin-on k D m d e es q =
       let a : D ≡ d + suc (length es) = omega (arith, ap length q, begin-length k D, begin-length m d, length-append (begin f m d) (e ∷ es)) in (
         omega arith,
-        λ x u. elem-inj (f k x) (f m x) (sym (begin-at k D x (omega arith)) ∙ ap (λ (l : List Elem). getD l x stop) q ∙ List·getD-append (begin f m d) (e ∷ es) stop x (omega (arith, begin-length m d)) ∙ begin-at m d x u),
+        λ x u. elem-inj (f k x) (f m x) (sym (begin-at k D x (omega arith)) ∙ ap (λ (l : List Elem). getD l x stop) q
+            ∙ List·getD-append (begin f m d) (e ∷ es) stop x (omega (arith, begin-length m d)) ∙ begin-at m d x u),
         sym (begin-at k D d (omega arith)) ∙ ap (λ (l : List Elem). getD l d stop) q ∙ getD-at (begin f m d) e es stop d (begin-length m d),
       )
 
@@ -118,7 +119,7 @@ elems-length m (b ∷ c) = by (eqb b (m .placeholder)) (elems-length m c)
     by true h = ap suc h
     by false h = ap suc h
 
-elems-at : (m : Marks) (c : Bytes) (x : ℕ) → Small c → getD (elems m c) x stop ≡ elemOf (keyOf (m .placeholder) c x)
+elems-at : (m : Marks) (c : Bytes) (x : ℕ) → AllBytes c → getD (elems m c) x stop ≡ elemOf (keyOf (m .placeholder) c x)
 unfolding elems keyOf
 elems-at m [] zero h = sym (elem-end 256 refl)
 elems-at m [] (suc x) h = sym (elem-end 256 refl)
@@ -135,7 +136,7 @@ elems-at m (b ∷ c) (suc x) h = by (eqb b (m .placeholder)) (elems-at m c x (λ
     by true e = e
     by false e = e
 
-pub whole : (m : Marks) (ts : List Bytes) (k : ℕ) → Small (getD ts k []) → elems m (getD ts k []) ≡ begin (keys (m .placeholder) ts) k (suc (length (getD ts k [])))
+pub whole : (m : Marks) (ts : List Bytes) (k : ℕ) → AllBytes (getD ts k []) → elems m (getD ts k []) ≡ begin (keys (m .placeholder) ts) k (suc (length (getD ts k [])))
 whole m ts k h =
     let c = getD ts k [] in
     let f = keys (m .placeholder) ts in

@@ -1,4 +1,4 @@
--- The loop of `fill`, and what `expand`, `grow` and `build` do around it.
+-- The loop of `fill_children`, and what `add_children`, `grow_tree` and `build` do around it.
 use mathlib.Core.Path.{_≡_, refl, sym, _∙_, ap, subst}
 use mathlib.Core.Bool.{Bool, true, false}
 use mathlib.Core.List.{List, []}
@@ -12,9 +12,9 @@ use Rattle.nodes.specs.declared.Node.{Node}
 use Rattle.nodes.specs.Rows.{noNode, elem, templateOf, height}
 use Rattle.model.specs.Text.{Bytes}
 use Rattle.templates.specs.Count.{known, beginnings}
-use Rattle.templates.specs.Keys.{Smalls, keys, Least, Chosen, Moved, MovedOn}
+use Rattle.templates.specs.Keys.{Smalls, keys, Least, LeastOfAll, Moved, MovedOn}
 use Rattle.tree.specs.Nodes.{columns, Half, Ahead, Here, Made, Filled, withKids, below, rootNode}
-use Rattle.tree.specs.Built.{Ready}
+use Rattle.tree.specs.Built.{ReadyToBuild}
 use Rattle.templates.proofs.Keys.{key-past, holes-most}
 use Rattle.tree.proofs.Known.{templates-known}
 use Rattle.tree.proofs.Nodes.{Next, stem, seal}
@@ -75,7 +75,7 @@ module _ (p : ℕ) (ts : List Bytes) where
     most = omega arith;
   }
 
-  module _ {rows : List Node} {at : List ℕ} {i made d c low key who : ℕ} {x : Node} (fl : Filling p ts rows at i made x c low) (depth : d ≡ 201 - x .height) (l : Chosen p ts at i d key who) where
+  module _ {rows : List Node} {at : List ℕ} {i made d c low key who : ℕ} {x : Node} (fl : Filling p ts rows at i made x c low) (depth : d ≡ 201 - x .height) (l : LeastOfAll p ts at i d key who) where
     uc : i < c
     uc = omega (arith, fl .more, fl .parent)
 
@@ -92,7 +92,14 @@ module _ (p : ℕ) (ts : List Bytes) where
     pub no-more : key ≡ 258 → Filled p ts rows at i c made
     no-more e =
         let z : Next f (length ts) (templateOf rows i) (201 - height rows i) low 258 who = rw (← e) next-key in
-        record { bytes = fl .bytes; more = fl .more; within = fl .within; half = seal f len (length ts) (columns rows) i c made low (fl .half) uc who (fl .most) z; ahead = fl .ahead; open-node = fl .open-node }
+        record {
+          bytes = fl .bytes;
+          more = fl .more;
+          within = fl .within;
+          half = seal f len (length ts) (columns rows) i c made low (fl .half) uc who (fl .most) z;
+          ahead = fl .ahead;
+          open-node = fl .open-node;
+        }
 
     -- there is one
     module _ (ne : ¬ (key ≡ 258)) where
@@ -103,7 +110,7 @@ module _ (p : ℕ) (ts : List Bytes) where
       pub key-low : (low ≤ key) × (key < 258)
       key-low = (next-key .there kb .3, kb)
 
-      module _ {first : List Node} (ready : Ready p ts first) where
+      module _ {first : List Node} (ready : ReadyToBuild p ts first) where
         high-enough : 0 < height rows i
         high-enough = has-height f len (length ts) ended (λ k u. ready .short k) rows i c made low key who (fl .half) uc (fl .open-node) next-key kb
 
@@ -194,7 +201,7 @@ module _ (p : ℕ) (ts : List Bytes) where
   })
 
   -- the root alone, with all templates at it
-  pub root-alone : Smalls ts → (rows : List Node) {rows′ : List Node} {x : Node} → Ready p ts rows → x ≡ rootNode → rows′ ≡ set rows 0 x → Made p ts rows′ (replicate 128 0) 0 1
+  pub root-alone : Smalls ts → (rows : List Node) {rows′ : List Node} {x : Node} → ReadyToBuild p ts rows → x ≡ rootNode → rows′ ≡ set rows 0 x → Made p ts rows′ (replicate 128 0) 0 1
   root-alone b rows {rows′} {x} ready a q =
       let h = planted f len (length ts) ended rows (omega (arith, ready .room)) in
       let at : List ℕ = replicate 128 0 in

@@ -71,7 +71,8 @@ module _ (f : ℕ → ℕ → ℕ) (len : ℕ → ℕ) (n : ℕ) (ended : (k x :
       let g = relinked f len n rows i c F (c - F) v in
       let same : getD (set rows i r) i noNode ≡ r = getD-set-same rows i r noNode v in
       let h = carry f len n (columns rows) (columns (set rows i r)) i c g F low u half in
-      close f len n (columns (set rows i r)) i c F low h u af (λ z. sole (sym (g .element i u) ∙ z)) (λ z. all (λ y. z (g .element i u ∙ y))) (ap (λ (x : Node). x .first) same) (ap (λ (x : Node). x .count) same)
+      close f len n (columns (set rows i r)) i c F low h u af (λ z. sole (sym (g .element i u) ∙ z)) (λ z. all (λ y. z (g .element i u ∙ y)))
+      (ap (λ (x : Node). x .first) same) (ap (λ (x : Node). x .count) same)
 
   -- the root alone
   pub planted : (rows : List Node) → 0 < length rows → Half f len n (columns (set rows 0 rootNode)) 0 1 1 0

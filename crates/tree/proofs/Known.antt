@@ -10,10 +10,10 @@ use lib.Dec.{eqb}
 use lib.ListN.{length, getD, take, drop, List·getD-eq-default}
 use lib.Seq.{length-take-le, getD-take, getD-drop}
 use Rattle.model.specs.Text.{Bytes}
-use Rattle.templates.specs.Table.{table}
+use Rattle.macros.specs.Table.{Table, startIn, lenIn, templatesIn}
 use Rattle.templates.specs.Count.{common, known}
-use Rattle.templates.specs.Keys.{Small, Smalls, byteKey, keyOf, keys}
-use Rattle.templates.proofs.Table.{table-length, table-at}
+use Rattle.templates.specs.Keys.{AllBytes, Smalls, byteKey, keyOf, keys}
+use Rattle.macros.proofs.Table.{templates-in-length, templates-in-at}
 use Rattle.templates.proofs.Count.{longest-upper, longest-reached}
 use Rattle.templates.proofs.Keys.{lt-or, byte-no-end, byte-inj}
 use Rattle.tree.proofs.Room.{Known}
@@ -36,7 +36,7 @@ common-keys p (a ∷ s) (y ∷ t) (suc x) u = common-keys p s t x (by (eqb a y) 
     by false v = absurd (omega arith)
 
 -- and no others do
-keys-common : (p : ℕ) (s t : Bytes) (x : ℕ) → Small s → Small t → x ≤ suc (length s) → ((y : ℕ) → y < x → keyOf p s y ≡ keyOf p t y) → x ≤ common s t
+keys-common : (p : ℕ) (s t : Bytes) (x : ℕ) → AllBytes s → AllBytes t → x ≤ suc (length s) → ((y : ℕ) → y < x → keyOf p s y ≡ keyOf p t y) → x ≤ common s t
 unfolding common keyOf
 keys-common p s t zero a b u h = omega arith
 keys-common p [] [] (suc x) a b u h = omega arith
@@ -64,14 +64,16 @@ templates-known p ts small = record {
 }
 
 -- a part of bytes has bytes, and so have the templates of a table
-take-small : (k : ℕ) (s : Bytes) → Small s → Small (take k s)
+take-small : (k : ℕ) (s : Bytes) → AllBytes s → AllBytes (take k s)
 take-small zero s h i = omega arith
 take-small (suc k) [] h i = omega arith
 take-small (suc k) (x ∷ s) h zero = h 0
 take-small (suc k) (x ∷ s) h (suc i) = take-small k s (λ i. h (suc i)) i
 
-pub table-small : (text starts lens : List ℕ) (n : ℕ) → Small text → Smalls (table text starts lens n)
-table-small text starts lens n h k i = ⊎-elim
-    (λ u. subst (λ (c : Bytes). getD c i 0 < 256) (sym (table-at text starts lens n k u))
-    (take-small (getD starts k 0 + getD lens k 0 - getD starts k 0) (drop (getD starts k 0) text) (λ i. subst (λ (b : ℕ). b < 256) (sym (getD-drop (getD starts k 0) text i 0)) (h (getD starts k 0 + i))) i))
-    (λ u. subst (λ (c : Bytes). getD c i 0 < 256) (sym (List·getD-eq-default (table text starts lens n) [] (omega (arith, table-length text starts lens n)))) (omega arith)) (lt-or k n)
+pub table-small : (text : Bytes) (t : Table) (n : ℕ) → AllBytes text → Smalls (templatesIn text t n)
+table-small text t n h k i = ⊎-elim
+    (λ u. subst (λ (c : Bytes). getD c i 0 < 256) (sym (templates-in-at text t n k u))
+    (take-small (startIn t k + lenIn t k - startIn t k) (drop (startIn t k) text)
+    (λ j. subst (λ (b : ℕ). b < 256) (sym (getD-drop (startIn t k) text j 0)) (h (startIn t k + j))) i))
+    (λ u. subst (λ (c : Bytes). getD c i 0 < 256) (sym (List·getD-eq-default (templatesIn text t n) [] (omega (arith, templates-in-length text t n)))) (omega arith))
+    (lt-or k n)

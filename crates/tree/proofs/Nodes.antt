@@ -8,7 +8,7 @@ use lib.Dec.{eqb}
 use Rattle.templates.specs.Keys.{codeOf, Share, one, cnt, holed}
 use Rattle.tree.specs.Nodes.{Columns, IsNode, Run, Done, Half}
 use Rattle.templates.proofs.Keys.{code-end, lt-or, share-trans, cnt-more, cnt-same}
-use Rattle.templates.proofs.Table.{one-more}
+use Rattle.macros.proofs.Table.{one-more}
 
 -- the least key from low on that follows the first d elements of t in a template below n, and the first that has it; 258 where
 -- there is none
@@ -127,7 +127,8 @@ module _ (f : ℕ → ℕ → ℕ) (len : ℕ → ℕ) (n : ℕ) where
         let a = stem N i c F low half i u in
         let b = stem N i c F low half p (omega arith) in
         ⊎-elim (λ x. a .first (N .template p) x s)
-        (λ x. ⊎-elim (λ y. b .first (N .template i) y (λ z w. sym (s z (rw e at w)))) (λ y. half .distinct p i v u (omega arith) e) (lt-or (N .template i) (N .template p))) (lt-or (N .template p) (N .template i))
+        (λ x. ⊎-elim (λ y. b .first (N .template i) y (λ z w. sym (s z (rw e at w)))) (λ y. half .distinct p i v u (omega arith) e) (lt-or (N .template i) (N .template p)))
+        (lt-or (N .template p) (N .template i))
 
     -- the node that is found is not yet there
     not-there : (key who : ℕ) → Next f n (N .template i) (201 - N .height i) low key who → key < 258 → (j : ℕ) → j < c → N .template j ≡ who → N .height j + 1 ≡ N .height i → ⊥

@@ -57,7 +57,8 @@ module _ (f : ℕ → ℕ → ℕ) (len old : ℕ → ℕ) (n : ℕ) (known : Kn
   bound N i (suc c) F low h =
       let p = pigeon c (sum new n) (λ x. rank (N .template (suc x)) (N .height (suc x)))
       (λ x u. let w = h .node (suc x) (omega arith) (omega arith) in omega (arith, rank-below _ _ _ _ w, sum-mono (suc (N .template (suc x))) n (w .known)))
-      (λ x y u v r. let q = rank-apart _ _ _ _ _ _ _ _ (h .node (suc x) (omega arith) (omega arith)) (h .node (suc y) (omega arith) (omega arith)) r in h .distinct (suc x) (suc y) (omega arith) (omega arith) (q .0) (q .1)) in
+      (λ x y u v r. let q = rank-apart _ _ _ _ _ _ _ _ (h .node (suc x) (omega arith) (omega arith)) (h .node (suc y) (omega arith) (omega arith)) r
+      in h .distinct (suc x) (suc y) (omega arith) (omega arith) (q .0) (q .1)) in
       omega (arith, p)
 
   -- a function with another value at c

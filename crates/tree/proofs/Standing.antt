@@ -8,7 +8,7 @@ use lib.ListN.{getD}
 use Rattle.templates.specs.Keys.{Share, Least, Moved}
 use Rattle.tree.specs.Nodes.{Columns, Ahead, Here}
 use Rattle.templates.proofs.Keys.{eq-or, lt-or, share-sym, share-trans, share-more}
-use Rattle.templates.proofs.Table.{one-more}
+use Rattle.macros.proofs.Table.{one-more}
 use Rattle.templates.proofs.Choosing.{stay-away, stay-other, move-on}
 use Rattle.tree.proofs.Nodes.{Next, Agree}
 

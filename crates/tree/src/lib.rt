@@ -4,19 +4,20 @@ ghost use Prim.Native.Nat.{ℕ, suc, _+_, _-_, _≤_, _<_};
 ghost use mathlib.Core.List.{[]};
 ghost use lib.ListN.{length, getD, set, take};
 ghost use Rattle.nodes.specs.Rows.{noNode, elem};
-ghost use Rattle.templates.specs.Table.{table, Entries};
-ghost use Rattle.templates.specs.Count.{beginnings};
+ghost use Rattle.macros.specs.Table.{templatesIn, Entries};
 ghost use Rattle.tree.specs.Nodes.{Made, Filled, withKids, below, rootNode};
-ghost use Rattle.tree.specs.Built.{Ready, Built};
+ghost use Rattle.tree.specs.Built.{ReadyToBuild, Growing, NodesMade, NextNode, Built};
+ghost use Rattle.model.specs.Limits.{macrosMost};
+use model::MACROS_MOST;
 use model::Marks;
 use nodes::Node;
 use nodes::node_at;
 use nodes::set_node;
 use templates::Pick;
-use templates::advance;
 use templates::code_of;
 use templates::holes_past;
 use templates::least;
+use templates::move_templates;
 
 // How many elements stand up to and with a node.
 fn depth_of(n: Node) -> usize
@@ -28,7 +29,7 @@ fn depth_of(n: Node) -> usize
 
 // The node for a key of a template, below the node n.
 fn make_child(n: Node, p: Pick) -> Node
-    requires { ⌜ (p .key < 258) × (p .template < 128) × (0 < n .height) × (n .holes < 1000) ⌝ }
+    requires { ⌜ (p .key < 258) × (p .template < macrosMost) × (0 < n .height) × (n .holes < 1000) ⌝ }
     ensures { λ r. ⌜ r ≡ below n (p .key) (p .template) ⌝ }
 {
     Node {
@@ -71,32 +72,31 @@ fn make_root() -> Node
 }
 
 // Appends the children of node i; the answer is how many nodes there are then.
-fn fill(
+fn fill_children(
     mark: u8,
     text: &[u8],
-    starts: &[usize],
-    lens: &[usize],
+    table: &[usize],
     n: usize,
     nodes: &mut [Node],
     at: &mut [usize],
     i: usize,
     made: usize,
 ) -> usize
-    requires { ⌜ Entries (now text) (now starts) (now lens) n × Ready mark (table (now text) (now starts) (now lens) n) (now nodes) × (n ≤ length (now at)) × (i < made) × (made ≤ suc (beginnings (table (now text) (now starts) (now lens) n))) × Made mark (table (now text) (now starts) (now lens) n) (now nodes) (now at) i made × (elem (now nodes) i ≡ 0 → ⊥) ⌝ }
-    ensures { λ r. ⌜ Filled mark (table (now (text .entry)) (now (starts .entry)) (now (lens .entry)) n) (now (nodes .exit)) (now (at .exit)) i r made ⌝ }
+    requires { ⌜ NextNode mark (now text) (now table) n (now nodes) (now at) i made × (elem (now nodes) i ≡ 0 → ⊥) ⌝ }
+    ensures { λ r. ⌜ Filled mark (templatesIn (now (text .entry)) (now (table .entry)) n) (now (nodes .exit)) (now (at .exit)) i r made ⌝ }
 {
     let parent = node_at(nodes, i);
     let d = depth_of(parent);
     let mut c = made;
     let mut low: u16 = 0;
     while low < 258 {
-        let p = least(mark, text, starts, lens, n, at, i, d);
+        let p = least(mark, text, table, n, at, i, d);
         let key = p.key;
         if key == 258 {
             return c;
         }
         set_node(nodes, c, make_child(parent, p));
-        advance(mark, text, starts, lens, n, at, i, d, key, c);
+        move_templates(mark, text, table, n, at, i, d, key, c);
         c += 1;
         low = key + 1;
     }
@@ -104,7 +104,7 @@ fn fill(
 }
 
 // Says where the children of node i stand.
-fn link(nodes: &mut [Node], i: usize, first: usize, c: usize)
+fn link_children(nodes: &mut [Node], i: usize, first: usize, c: usize)
     requires { ⌜ (i < length (now nodes)) × (first ≤ c) × (c < 65536) ⌝ }
     ensures { λ r. ⌜ now (nodes .exit) ≡ set (now (nodes .entry)) i (withKids (getD (now (nodes .entry)) i noNode) first (c - first)) ⌝ }
 {
@@ -113,64 +113,55 @@ fn link(nodes: &mut [Node], i: usize, first: usize, c: usize)
 }
 
 // Gives node i its children; an end has none.
-fn expand(
+fn add_children(
     mark: u8,
     text: &[u8],
-    starts: &[usize],
-    lens: &[usize],
+    table: &[usize],
     n: usize,
     nodes: &mut [Node],
     at: &mut [usize],
     i: usize,
     made: usize,
 ) -> usize
-    requires { ⌜ Entries (now text) (now starts) (now lens) n × Ready mark (table (now text) (now starts) (now lens) n) (now nodes) × (n ≤ length (now at)) × (i < made) × (made ≤ suc (beginnings (table (now text) (now starts) (now lens) n))) × Made mark (table (now text) (now starts) (now lens) n) (now nodes) (now at) i made ⌝ }
-    ensures { λ r. ⌜ (r ≤ suc (beginnings (table (now (text .entry)) (now (starts .entry)) (now (lens .entry)) n))) × Made mark (table (now (text .entry)) (now (starts .entry)) (now (lens .entry)) n) (now (nodes .exit)) (now (at .exit)) (i + 1) r ⌝ }
+    requires { ⌜ NextNode mark (now text) (now table) n (now nodes) (now at) i made ⌝ }
+    ensures { λ r. ⌜ NodesMade mark (templatesIn (now (text .entry)) (now (table .entry)) n) (now (nodes .exit)) (now (at .exit)) (i + 1) r ⌝ }
 {
     if nodes::has_element(node_at(nodes, i), 0) {
-        link(nodes, i, made, made);
+        link_children(nodes, i, made, made);
         return made;
     }
-    let c = fill(mark, text, starts, lens, n, nodes, at, i, made);
-    link(nodes, i, made, c);
+    let c = fill_children(mark, text, table, n, nodes, at, i, made);
+    link_children(nodes, i, made, c);
     c
 }
 
 // Gives every node its children, from the root on: how many nodes there are then.
-fn grow(
+fn grow_tree(
     mark: u8,
     text: &[u8],
-    starts: &[usize],
-    lens: &[usize],
+    table: &[usize],
     n: usize,
     nodes: &mut [Node],
     at: &mut [usize],
 ) -> usize
-    requires { ⌜ Entries (now text) (now starts) (now lens) n × Ready mark (table (now text) (now starts) (now lens) n) (now nodes) × (n ≤ length (now at)) × Made mark (table (now text) (now starts) (now lens) n) (now nodes) (now at) 0 1 ⌝ }
-    ensures { λ r. ⌜ (r ≤ suc (beginnings (table (now (text .entry)) (now (starts .entry)) (now (lens .entry)) n))) × Made mark (table (now (text .entry)) (now (starts .entry)) (now (lens .entry)) n) (now (nodes .exit)) (now (at .exit)) r r ⌝ }
+    requires { ⌜ Growing mark (now text) (now table) n (now nodes) (now at) × Made mark (templatesIn (now text) (now table) n) (now nodes) (now at) 0 1 ⌝ }
+    ensures { λ r. ⌜ NodesMade mark (templatesIn (now (text .entry)) (now (table .entry)) n) (now (nodes .exit)) (now (at .exit)) r r ⌝ }
 {
     let mut c = 1;
     let mut i = 0;
     while i < c {
-        c = expand(mark, text, starts, lens, n, nodes, at, i, c);
+        c = add_children(mark, text, table, n, nodes, at, i, c);
         i += 1;
     }
     c
 }
 
 // Makes the tree of the first n templates of the table at the front of the row: how many nodes it has.
-pub fn build(
-    m: Marks,
-    text: &[u8],
-    starts: &[usize],
-    lens: &[usize],
-    n: usize,
-    nodes: &mut [Node],
-) -> usize
-    requires { ⌜ Entries (now text) (now starts) (now lens) n × Ready (m .placeholder) (table (now text) (now starts) (now lens) n) (now nodes) ⌝ }
-    ensures { λ r. ⌜ (r ≤ length (now (nodes .exit))) × Built m (table (now (text .entry)) (now (starts .entry)) (now (lens .entry)) n) (take r (now (nodes .exit))) ⌝ }
+pub fn build(m: Marks, text: &[u8], table: &[usize], n: usize, nodes: &mut [Node]) -> usize
+    requires { ⌜ Entries (now text) (now table) n × ReadyToBuild (m .placeholder) (templatesIn (now text) (now table) n) (now nodes) ⌝ }
+    ensures { λ r. ⌜ (r ≤ length (now (nodes .exit))) × Built m (templatesIn (now (text .entry)) (now (table .entry)) n) (take r (now (nodes .exit))) ⌝ }
 {
-    let mut at = [0usize; 128];
+    let mut at = [0usize; MACROS_MOST];
     set_node(nodes, 0, make_root());
-    grow(m.placeholder, text, starts, lens, n, nodes, &mut at)
+    grow_tree(m.placeholder, text, table, n, nodes, &mut at)
 }

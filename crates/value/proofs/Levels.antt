@@ -1,7 +1,7 @@
--- One turn of each function of the cycle, over plain values. The hypotheses are what the code learns on its way; `Comes` says
+-- One turn of each function of the cycle, over plain values. The hypotheses are what the code learns on its way; `ReadsAbove` says
 -- what is read at every bound that is large enough, so no law says that the bound does not matter.
 --     done, fails, faults, goes-on     the four ways through `expression`, and through `product`, which is the same one level down
---     nothing, read-operand, bracketed   the ways through `operand`
+--     nothing, digits-read, name-read, bracketed     the ways through `operand`
 use mathlib.Core.Path.{_≡_, refl, sym, ap, _∙_}
 use mathlib.Core.Bool.{Bool, true, false, cond}
 use mathlib.Core.Option.{none, some}
@@ -20,10 +20,10 @@ use mir.Val.{toZ, ofZ}
 use Rattle.model.specs.declared.Marks.{Marks}
 use Rattle.model.specs.Text.{isDigit}
 use Rattle.model.specs.Store.{Store}
-use Rattle.model.specs.Value.{Read, andThen, giving, isMark, closing, expression, sum, product, factors, operand, whole, valueOf}
+use Rattle.model.specs.Value.{valueFault, Read, andThen, giving, isMark, closing, expression, sum, product, factors, operand, whole, valueOf}
 use Rattle.store.specs.Memory.{held}
 use Rattle.store.specs.declared.Index.{Index}
-use Rattle.number.specs.Number.{width, end, stepped, Gives, numberOf}
+use Rattle.number.specs.Number.{width, end, stepValue, Gives, numberOf}
 use Rattle.number.specs.declared.Valued.{Valued}
 use Rattle.number.specs.declared.Valued.the-variants.{Number, Fault}
 use Rattle.number.specs.declared.Step.{Step}
@@ -36,17 +36,18 @@ use Rattle.value.specs.declared.Lead.the-variants.{Digits, Bracket, Name
 use Rattle.value.specs.declared.Parsed.{Parsed}
 use Rattle.value.specs.declared.Parsed.the-variants.{Value, Failed}
 use Rattle.value.specs.Place.{startAt, joinAt, sumAt, factorAt, placeOf, Joins, leadAt, Leads, closedAt}
-use Rattle.value.specs.Reads.{readOf, Within, Reads, Comes, Values, numeralAt, nameAt}
+use Rattle.value.specs.Reads.{readOf, EndsWithin, ReadsValue, ReadsAbove, Values, numeralAt, nameAt}
+use Rattle.value.proofs.Operands.{reads-above}
 
 -- ---- where values end
 
-pub ended-at : {r : Parsed} {μ lo : ℕ} {s : List ℕ} {F : ℕ → Read} {v : ℤ} {e : ℕ} → r ≡ Value v e → Comes μ lo s r F → (lo ≤ e) × (e ≤ length s)
+pub ended-at : {r : Parsed} {μ lo : ℕ} {s : List ℕ} {F : ℕ → Read} {v : ℤ} {e : ℕ} → r ≡ Value v e → ReadsAbove μ lo s r F → (lo ≤ e) × (e ≤ length s)
 ended-at q c = rw q at (c .ends)
 
-pub ended-before : {r : Parsed} {μ lo : ℕ} {s : List ℕ} {F : ℕ → Read} {v : ℤ} {e : ℕ} → r ≡ Value v e → Comes μ lo s r F → e ≤ length s
+pub ended-before : {r : Parsed} {μ lo : ℕ} {s : List ℕ} {F : ℕ → Read} {v : ℤ} {e : ℕ} → r ≡ Value v e → ReadsAbove μ lo s r F → e ≤ length s
 ended-before q c = ended-at q c .1
 
-wider : (r : Parsed) (lo lo′ hi : ℕ) → lo ≤ lo′ → Within lo′ hi r → Within lo hi r
+wider : (r : Parsed) (lo lo′ hi : ℕ) → lo ≤ lo′ → EndsWithin lo′ hi r → EndsWithin lo hi r
 wider (Value v e) lo lo′ hi l w = (le-trans l (w .0), w .1)
 wider Failed lo lo′ hi l w = tt
 
@@ -71,7 +72,7 @@ from-suc F r μ h (suc n) l = h n (omega arith)
 
 -- a step: g reads the next value, h goes on after it
 abbrev pub stepAt : (ℕ → List ℕ → Read) → (ℕ → ℤ → List ℕ → Read) → ℕ → ℤ → Step → List ℕ → Read
-stepAt g h n a k l = andThen (g n l) (λ w r. andThen (giving (stepped k a w) r) (λ u t. h n u t))
+stepAt g h n a k l = andThen (g n l) (λ w r. andThen (giving (stepValue k a w) r) (λ u t. h n u t))
 
 -- what a join gives
 abbrev pub joined : (ℕ → List ℕ → Read) → (ℕ → ℤ → List ℕ → Read) → List ℕ → ℕ → ℤ → Join → Read
@@ -91,70 +92,64 @@ pub record Level (s : List ℕ) : Type 0 where
 
 -- r comes of the value a and the join j
 abbrev pub From : {s : List ℕ} → Level s → Parsed → ℤ → Join → Type 0
-From {s} L r a j = Comes (3 * (length s - placeOf j) + L .d) (leastOf j) s r (λ n. joined (L .g) (L .h) s n a j)
+From {s} L r a j = ReadsAbove (3 * (length s - placeOf j) + L .d) (leastOf j) s r (λ n. joined (L .g) (L .h) s n a j)
 
 -- r comes of the level below at `at`
 abbrev pub Below : {s : List ℕ} → Level s → Parsed → ℕ → Type 0
-Below {s} L r at = Comes (3 * (length s - at) + L .d′) (at + 1) s r (λ n. L .g n (drop at s))
+Below {s} L r at = ReadsAbove (3 * (length s - at) + L .d′) (at + 1) s r (λ n. L .g n (drop at s))
 
 module _ {s : List ℕ} (L : Level s) (a : ℤ) {j : Join} where
   open Level L using (d, d′, g, h, more, down, on)
 
   pub done : {at : ℕ} → j ≡ Done at → placeOf j ≤ length s → From L (Value a at) a j
-  done {at} q l = rw q (record {
-    is = from-suc (λ n. joined g h s n a (Done at)) (some (a, drop at s)) (3 * (length s - at) + d) (λ n _. refl);
-    ends = (le-refl _, rw q at l);
-  })
+  done {at} q l = rw q (reads-above
+      (from-suc (λ n. joined g h s n a (Done at)) (some (a, drop at s)) (3 * (length s - at) + d) (λ n _. refl))
+      (le-refl _, rw q at l))
 
   module _ {k : Step} {at : ℕ} (q : j ≡ Go k at) {r : Parsed} (b : Below L r at) where
     pub fails : r ≡ Failed → From L Failed a j
     unfolding andThen
-    fails e = rw q (record {
-      is = from-suc (λ n. joined g h s n a (Go k at)) none (3 * (length s - at) + d) (λ n l. sym (rw (← b .is n (omega arith), e)));
-      ends = tt;
-    })
+    fails e = rw q (reads-above (from-suc (λ n. joined g h s n a (Go k at)) none (3 * (length s - at) + d) (λ n l. sym (rw (← b .is n (omega arith), e)))) tt)
 
     -- x is what `apply` gives of a value that is read back from its bits
-    module _ {v : ℤ} {e : ℕ} (w : r ≡ Value v e) (in-v : mag v < end) {x : Valued} (made : Gives x (stepped k a (toZ width (ofZ width v)))) where
-      step-is : numberOf x ≡ stepped k a v
+    module _ {v : ℤ} {e : ℕ} (w : r ≡ Value v e) (in-v : mag v < end) {x : Valued} (made : Gives x (stepValue k a (toZ width (ofZ width v)))) where
+      step-is : numberOf x ≡ stepValue k a v
       step-is = rw (told-in v in-v) at (made .is)
 
       pub faults : x ≡ Fault → From L Failed a j
       unfolding andThen giving
       faults p =
-          let f : none ≡ stepped k a v = rw p at step-is in
-          rw q (record {
-            is = from-suc (λ n. joined g h s n a (Go k at)) none (3 * (length s - at) + d) (λ n l. sym (rw (← b .is n (omega arith), w, ← f)));
-            ends = tt;
-          })
+          let f : none ≡ stepValue k a v = rw p at step-is in
+          rw q (reads-above (from-suc (λ n. joined g h s n a (Go k at)) none (3 * (length s - at) + d) (λ n l. sym (rw (← b .is n (omega arith), w, ← f)))) tt)
 
       pub goes-on : {z : ℤ} → x ≡ Number z → mag z < end → {j′ : Join} → Joins s e j′ (more e) → {r′ : Parsed} → From L r′ (toZ width (ofZ width z)) j′ → From L r′ a j
       unfolding andThen giving
       goes-on {z} p in-z {j′} u {r′} c =
           let past = ended-at w b in
-          let f : some z ≡ stepped k a v = rw p at step-is in
-          rw q (record {
-            is = from-suc (λ n. joined g h s n a (Go k at)) (readOf s r′) (3 * (length s - at) + d)
-                (λ n l. rw (told-in z in-z) at (c .is n (omega (arith, u .from, u .upto))) ∙ ap (joined g h s n z) (u .is) ∙ sym (on n z e) ∙ sym (rw (← b .is n (omega arith), w, ← f)));
-            ends = wider r′ (at + 1) (leastOf j′) (length s) (omega (arith, place-least j′, u .from)) (c .ends);
-          })
+          let f : some z ≡ stepValue k a v = rw p at step-is in
+          rw q (reads-above
+          (from-suc (λ n. joined g h s n a (Go k at)) (readOf s r′) (3 * (length s - at) + d)
+          (λ n l. rw (told-in z in-z) at (c .is n (omega (arith, u .from, u .upto))) ∙ ap (joined g h s n z) (u .is) ∙ sym (on n z e) ∙ sym (rw (← b .is n (omega arith), w, ← f))))
+          (wider r′ (at + 1) (leastOf j′) (length s) (omega (arith, place-least j′, u .from)) (c .ends)))
 
--- The invariant of both loops: what comes of the join j with the value so far, given by its bits, comes of F, the whole from `at` on.
+-- The invariant of both loops: what comes of the join j with the value so far comes of F, the whole from `at` on. s is the text, and L
+-- the level, a sum's or a product's; every bound above μ is enough for F, and the whole ends from lo on; bits is the value so far, as
+-- the code has it.
 pub record Going {s : List ℕ} (L : Level s) (μ lo : ℕ) (F : ℕ → Read) (at bits : ℕ) (j : Join) : Type 0 where
   pub from : at ≤ placeOf j
   pub upto : placeOf j ≤ length s
-  pub gives : (r : Parsed) → From L r (toZ width bits) j → Comes μ lo s r F
+  pub gives : (r : Parsed) → From L r (toZ width bits) j → ReadsAbove μ lo s r F
 
 module _ {s : List ℕ} {L : Level s} {μ lo : ℕ} {F : ℕ → Read} {at bits : ℕ} {j : Join} (going : Going L μ lo F at bits j) where
-  pub going-done : {e : ℕ} → j ≡ Done e → Comes μ lo s (Value (toZ width bits) e) F
+  pub going-done : {e : ℕ} → j ≡ Done e → ReadsAbove μ lo s (Value (toZ width bits) e) F
   going-done q = going .gives _ (done L (toZ width bits) q (going .upto))
 
   module _ {k : Step} {p : ℕ} (q : j ≡ Go k p) {r : Parsed} (b : Below L r p) where
-    pub going-fails : r ≡ Failed → Comes μ lo s Failed F
+    pub going-fails : r ≡ Failed → ReadsAbove μ lo s Failed F
     going-fails e = going .gives _ (fails L (toZ width bits) q b e)
 
     module _ {v : ℤ} {e : ℕ} (w : r ≡ Value v e) where
-      pub going-faults : mag v < end → {x : Valued} → Gives x (stepped k (toZ width bits) (toZ width (ofZ width v))) → x ≡ Fault → Comes μ lo s Failed F
+      pub going-faults : mag v < end → {x : Valued} → Gives x (stepValue k (toZ width bits) (toZ width (ofZ width v))) → x ≡ Fault → ReadsAbove μ lo s Failed F
       going-faults in-v made p = going .gives _ (faults L (toZ width bits) q b w in-v made p)
 
       -- a turn goes forward
@@ -162,7 +157,7 @@ module _ {s : List ℕ} {L : Level s} {μ lo : ℕ} {F : ℕ → Read} {at bits 
         pub going-less : length s - placeOf j′ < length s - placeOf j
         going-less = omega (arith, placed q, ended-at w b, u .from, u .upto)
 
-        pub going-on : mag v < end → {x : Valued} → Gives x (stepped k (toZ width bits) (toZ width (ofZ width v))) → {z : ℤ} → x ≡ Number z → mag z < end → Going L μ lo F at (ofZ width z) j′
+        pub going-on : mag v < end → {x : Valued} → Gives x (stepValue k (toZ width bits) (toZ width (ofZ width v))) → {z : ℤ} → x ≡ Number z → mag z < end → Going L μ lo F at (ofZ width z) j′
         going-on in-v made p in-z = record {
           from = omega (arith, going .from, placed q, ended-at w b, u .from);
           upto = u .upto;
@@ -271,7 +266,7 @@ module _ (m : Marks) (st : Store) (s : List ℕ) where
   -- ---- an expression and a product from their starts
 
   abbrev pub Whole : Parsed → ℕ → Type 0
-  Whole r at = Comes (3 * (length s - at) + 3) at s r (λ n. expression n m st (drop at s))
+  Whole r at = ReadsAbove (3 * (length s - at) + 3) at s r (λ n. expression n m st (drop at s))
 
   abbrev pub Summing : ℕ → ℕ → Join → Type 0
   Summing at bits j = Going expression-level (3 * (length s - at) + 3) at (λ n. expression n m st (drop at s)) at bits j
@@ -280,10 +275,9 @@ module _ (m : Marks) (st : Store) (s : List ℕ) where
   begins {at} {j} u = record {
     from = u .from;
     upto = u .upto;
-    gives = λ r c. record {
-      is = λ n h. c .is n (omega (arith, u .from)) ∙ ap (joined (products m st) (sums m st) s n (pos 0)) (u .is) ∙ sym (expression-starts n at);
-      ends = wider r at (leastOf j) (length s) (omega (arith, place-least j, u .from)) (c .ends);
-    };
+    gives = λ r c. reads-above
+        (λ n h. c .is n (omega (arith, u .from)) ∙ ap (joined (products m st) (sums m st) s n (pos 0)) (u .is) ∙ sym (expression-starts n at))
+        (wider r at (leastOf j) (length s) (omega (arith, place-least j, u .from)) (c .ends));
   }
 
   abbrev pub Multiplying : ℕ → ℕ → Join → Type 0
@@ -293,7 +287,7 @@ module _ (m : Marks) (st : Store) (s : List ℕ) where
   begins-product {at} h = record {
     from = le-refl _;
     upto = h;
-    gives = λ r c. record { is = λ n l. c .is n l ∙ sym (product-starts n at); ends = c .ends };
+    gives = λ r c. reads-above (λ n l. c .is n l ∙ sym (product-starts n at)) (c .ends);
   }
 
   -- ---- an operand
@@ -312,11 +306,11 @@ module _ (m : Marks) (st : Store) (s : List ℕ) where
       (λ first. by-test (readOf s) (eqb (getD s e 0) (m .right)) _ _ (Value z (e + 1)) Failed (ap (λ l. some (z, l)) (past s e)) refl)
       (λ end. refl))
 
-  closed-within : (lo : ℕ) (r : Parsed) → Within lo (length s) r → Within lo (length s) (closedAt m s r)
+  closed-within : (lo : ℕ) (r : Parsed) → EndsWithin lo (length s) r → EndsWithin lo (length s) (closedAt m s r)
   unfolding closedAt
   closed-within lo (Value v e) w = go (ltb e (length s)) refl (eqb (getD s e 0) (m .right))
     where
-      go : (t : Bool) → ltb e (length s) ≡ t → (u : Bool) → Within lo (length s) (cond t (cond u (Value v (e + 1)) Failed) Failed)
+      go : (t : Bool) → ltb e (length s) ≡ t → (u : Bool) → EndsWithin lo (length s) (cond t (cond u (Value v (e + 1)) Failed) Failed)
       go true q true = omega (arith, ltb-true e (length s) q, w .0)
       go true q false = tt
       go false q u = tt
@@ -338,35 +332,27 @@ module _ (m : Marks) (st : Store) (s : List ℕ) where
 
     pub nothing : l ≡ Nothing → Below product-level Failed at
     unfolding led
-    nothing q = record {
-      is = from-suc (λ n. operand n m st (drop at s)) none (3 * (length s - at) + 1) (λ n h. sym (by-lead q n));
-      ends = tt;
-    }
+    nothing q = reads-above (from-suc (λ n. operand n m st (drop at s)) none (3 * (length s - at) + 1) (λ n h. sym (by-lead q n))) tt
 
-    pub digits-read : l ≡ Digits → {r : Parsed} → Reads s (at + 1) r (numeralAt (drop at s)) → Below product-level r at
+    pub digits-read : l ≡ Digits → {r : Parsed} → ReadsValue s (at + 1) r (numeralAt (drop at s)) → Below product-level r at
     unfolding led
-    digits-read q {r} x = record {
-      is = from-suc (λ n. operand n m st (drop at s)) (readOf s r) (3 * (length s - at) + 1) (λ n h. x .is ∙ sym (by-lead q n));
-      ends = x .ends;
-    }
+    digits-read q {r} x = reads-above (from-suc (λ n. operand n m st (drop at s)) (readOf s r) (3 * (length s - at) + 1) (λ n h. x .is ∙ sym (by-lead q n))) (x .ends)
 
-    pub name-read : l ≡ Name → {r : Parsed} → Reads s (at + 1) r (nameAt m st (drop at s)) → Below product-level r at
+    pub name-read : l ≡ Name → {r : Parsed} → ReadsValue s (at + 1) r (nameAt m st (drop at s)) → Below product-level r at
     unfolding led
-    name-read q {r} x = record {
-      is = from-suc (λ n. operand n m st (drop at s)) (readOf s r) (3 * (length s - at) + 1) (λ n h. x .is ∙ sym (by-lead q n));
-      ends = x .ends;
-    }
+    name-read q {r} x = reads-above (from-suc (λ n. operand n m st (drop at s)) (readOf s r) (3 * (length s - at) + 1) (λ n h. x .is ∙ sym (by-lead q n))) (x .ends)
 
     pub bracketed : {i : ℕ} → l ≡ Bracket i → {r : Parsed} → Whole r i → {r′ : Parsed} → r′ ≡ closedAt m s r → Below product-level r′ at
     unfolding led
-    bracketed {i} q {r} c {r′} u = record {
-      is = from-suc (λ n. operand n m st (drop at s)) (readOf s r′) (3 * (length s - at) + 1)
-          (λ n b. ap (readOf s) u ∙ closed-reads r ∙ ap (λ x. andThen x (λ v t. closing m v t)) (c .is n (omega (arith, inside lead q))) ∙ sym (by-lead q n));
-      ends = rw u (closed-within (at + 1) r (wider r (at + 1) i (length s) (omega (arith, inside lead q)) (c .ends)));
-    }
+    bracketed {i} q {r} c {r′} u = reads-above
+        (from-suc (λ n. operand n m st (drop at s)) (readOf s r′) (3 * (length s - at) + 1)
+        (λ n b. ap (readOf s) u ∙ closed-reads r ∙ ap (λ x. andThen x (λ v t. closing m v t)) (c .is n (omega (arith, inside lead q))) ∙ sym (by-lead q n)))
+        (rw u (closed-within (at + 1) r (wider r (at + 1) i (length s) (omega (arith, inside lead q)) (c .ends))))
 
 -- ---- the text whole
 
 pub valued : {m : Marks} {memory : List ℕ} {x : Index} {s : List ℕ} {v : Parsed} → Whole m (held (x .count) memory) s v 0 → {r : Valued} → Gives r (whole (readOf s v)) → Values m memory x s r
 unfolding valueOf
-valued {s = s} c g = record { is = sym (g .is ∙ ap whole (c .is (5 * (length s + 1)) (omega arith))); fits = g .fits }
+valued {s = s} c g =
+    let e = ap whole (c .is (5 * (length s + 1)) (omega arith)) in
+    record { is = sym (g .is ∙ e); number = g .number ∙ ap valueFault e; fits = g .fits }

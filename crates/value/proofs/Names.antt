@@ -14,14 +14,15 @@ use Rattle.model.specs.Text.{has, part}
 use Rattle.model.specs.Store.{find}
 use Rattle.model.specs.Value.{isMark, nameOf, ofStored, storedNumber}
 use Rattle.store.specs.Memory.{held}
-use Rattle.store.specs.Seek.{Sees}
+use Rattle.store.specs.Seek.{SeeksName}
 use Rattle.store.specs.declared.Index.{Index}
 use Rattle.store.specs.declared.Seen.{Seen}
 use Rattle.store.proofs.Callers.{there-some, there-none}
 use Rattle.number.specs.Number.{Gives}
 use Rattle.number.specs.declared.Valued.{Valued}
 use Rattle.number.specs.declared.Valued.the-variants.{Fault}
-use Rattle.value.specs.Place.{nameLength, Ends}
+use Rattle.number.proofs.Signed.{gives-value}
+use Rattle.value.specs.Place.{nameLength, EndsName}
 
 -- ---- the marks, by the tests that the code makes
 
@@ -77,11 +78,11 @@ module _ {m : Marks} {s : List ℕ} {at : ℕ} where
   naming-none h = record { is = refl; upto = h }
 
   module _ {i : ℕ} (n : Naming m s at i) where
-    pub naming-ended : length s ≤ i → Ends m s at i
+    pub naming-ended : length s ≤ i → EndsName m s at i
     naming-ended h = record { is = sym (ended m s i (omega (arith, n .upto))) ∙ n .is; upto = n .upto }
 
     module _ (inside : i < length s) {q : Bool} (tested : q ≡ isMark m (getD s i 0)) where
-      pub naming-mark : q ≡ true → Ends m s at i
+      pub naming-mark : q ≡ true → EndsName m s at i
       naming-mark e = record { is = sym (stops m s i inside (sym tested ∙ e)) ∙ n .is; upto = n .upto }
 
       pub naming-more : q ≡ false → Naming m s at (i + 1)
@@ -94,11 +95,12 @@ name-splits m [] = refl
 name-splits m (x ∷ l) = go (isMark m x) refl (name-splits m l)
   where
     go : (t : Bool) → isMark m x ≡ t → nameOf m l ≡ (take (nameLength m l) l, drop (nameLength m l) l)
-        → _≡_ {A = List ℕ × List ℕ} (elim t [ true ↦ ([], x ∷ l) | false ↦ (x ∷ nameOf m l .0, nameOf m l .1) ]) (take (cond t 0 (suc (nameLength m l))) (x ∷ l), drop (cond t 0 (suc (nameLength m l))) (x ∷ l))
+        → _≡_ {A = List ℕ × List ℕ} (elim t [ true ↦ ([], x ∷ l) | false ↦ (x ∷ nameOf m l .0, nameOf m l .1) ])
+        (take (cond t 0 (suc (nameLength m l))) (x ∷ l), drop (cond t 0 (suc (nameLength m l))) (x ∷ l))
     go true e ih = refl
     go false e ih = ap (λ p. (x ∷ p .0, p .1)) ih
 
-module _ {m : Marks} {s : List ℕ} {at e : ℕ} (n : Ends m s at e) where
+module _ {m : Marks} {s : List ℕ} {at e : ℕ} (n : EndsName m s at e) where
   length-of : e - at ≡ nameLength m (drop at s)
   length-of = omega (arith, n .is)
 
@@ -113,10 +115,10 @@ module _ {m : Marks} {s : List ℕ} {at e : ℕ} (n : Ends m s at e) where
 
 -- ---- the text stored under it
 
-module _ {memory : List ℕ} {x : Index} {name : List ℕ} {r : Seen} (m : Marks) (s : Sees memory x name r) where
+module _ {memory : List ℕ} {x : Index} {name : List ℕ} {r : Seen} (m : Marks) (s : SeeksName memory x name r) where
   pub not-stored : not (r .there) ≡ true → Gives Fault (ofStored m (find name (held (x .count) memory)))
   unfolding ofStored
-  not-stored e = record { is = rw (there-none _ (sym (s .there) ∙ not-true _ e)); fits = tt }
+  not-stored e = gives-value (rw (there-none _ (sym (s .there) ∙ not-true _ e))) tt
 
   by-text : not (r .there) ≡ false → ofStored m (find name (held (x .count) memory)) ≡ storedNumber m (part memory (r .at) (r .at + r .len))
   unfolding ofStored

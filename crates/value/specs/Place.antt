@@ -78,7 +78,7 @@ nameLength m [] = 0
 nameLength m (x ∷ s) = cond (isMark m x) 0 (suc (nameLength m s))
 
 -- the name that begins at `at` ends at e
-pub record Ends (m : Marks) (s : List ℕ) (at e : ℕ) : Type 0 where
+pub record EndsName (m : Marks) (s : List ℕ) (at e : ℕ) : Type 0 where
   pub is : e ≡ at + nameLength m (drop at s)
   pub upto : e ≤ length s
 

@@ -1,5 +1,6 @@
 // The value of a text as an expression. An expression, a product and an operand are each read through the next, in a cycle
 // of calls over the bytes left; sums and products are loops, so only brackets nest calls.
+// `value` asks that the index fits memory (`Kept`), and nothing of the text.
 use model::Marks;
 use number::Step;
 use number::Valued;
@@ -13,8 +14,8 @@ ghost use Rattle.model.specs.Store.{find};
 ghost use Rattle.model.specs.Value.{isMark, ofStored, expression, product, operand, whole};
 ghost use Rattle.store.specs.Memory.{held, Kept};
 ghost use Rattle.number.specs.Number.{Gives};
-ghost use Rattle.value.specs.Place.{Joins, Leads, Ends, startAt, joinAt, leadAt, closedAt, at-end};
-ghost use Rattle.value.specs.Reads.{readOf, Reads, Comes, Values, numeralAt, nameAt};
+ghost use Rattle.value.specs.Place.{Joins, Leads, EndsName, startAt, joinAt, leadAt, closedAt, at-end};
+ghost use Rattle.value.specs.Reads.{readOf, ReadsValue, ReadsAbove, Values, numeralAt, nameAt};
 
 // How a sum or a product goes on: by a step with the value at an offset, or not, and the bytes after it are at an offset.
 pub enum Join {
@@ -52,7 +53,7 @@ fn is_mark(m: Marks, b: u8) -> bool
 // Where the name that begins at `at` ends: at the next mark or the text's end.
 fn name_end(m: Marks, text: &[u8], at: usize) -> usize
     requires { ⌜ at ≤ length (now text) ⌝ }
-    ensures { λ r. ⌜ Ends m (now (text .entry)) at r ⌝ }
+    ensures { λ r. ⌜ EndsName m (now (text .entry)) at r ⌝ }
 {
     let mut i = at;
     while i < text.len() {
@@ -181,7 +182,7 @@ fn find_value(m: Marks, memory: &[u8], index: Index, name: &[u8]) -> Valued
 // The digits at `at`.
 fn read_numeral(text: &[u8], at: usize) -> Parsed
     requires { ⌜ (at < length (now text)) × (isDigit (getD (now text) at 0) ≡ true) ⌝ }
-    ensures { λ r. ⌜ Reads (now (text .entry)) (at + 1) r (numeralAt (drop at (now (text .entry)))) ⌝ }
+    ensures { λ r. ⌜ ReadsValue (now (text .entry)) (at + 1) r (numeralAt (drop at (now (text .entry)))) ⌝ }
 {
     let n = number::read_number(text, at);
     let v = n.value;
@@ -192,7 +193,7 @@ fn read_numeral(text: &[u8], at: usize) -> Parsed
 fn read_name(m: Marks, memory: &[u8], index: Index, text: &[u8], at: usize) -> Parsed
     requires { ⌜ Kept (now memory) index ⌝ }
     requires { ⌜ (at < length (now text)) × (isMark m (getD (now text) at 0) ≡ false) ⌝ }
-    ensures { λ r. ⌜ Reads (now (text .entry)) (at + 1) r (nameAt m (held (index .count) (now (memory .entry))) (drop at (now (text .entry)))) ⌝ }
+    ensures { λ r. ⌜ ReadsValue (now (text .entry)) (at + 1) r (nameAt m (held (index .count) (now (memory .entry))) (drop at (now (text .entry)))) ⌝ }
 {
     let e = name_end(m, text, at);
     ended(find_value(m, memory, index, &text[at..e]), e)
@@ -201,7 +202,8 @@ fn read_name(m: Marks, memory: &[u8], index: Index, text: &[u8], at: usize) -> P
 // The expression at `at`: up to a right bracket that is not its own, a byte that does not go on, or the text's end.
 fn expression(m: Marks, memory: &[u8], index: Index, text: &[u8], at: usize) -> Parsed
     requires { ⌜ Kept (now memory) index × (at ≤ length (now text)) ⌝ }
-    ensures { λ r. ⌜ Comes (3 * (length (now (text .entry)) - at) + 3) at (now (text .entry)) r (λ n. expression n m (held (index .count) (now (memory .entry))) (drop at (now (text .entry)))) ⌝ }
+    ensures { λ r. ⌜ ReadsAbove (3 * (length (now (text .entry)) - at) + 3) at (now (text .entry)) r
+        (λ n. expression n m (held (index .count) (now (memory .entry))) (drop at (now (text .entry)))) ⌝ }
 {
     let mut sum: i32 = 0;
     let mut j = start(m, text, at);
@@ -231,7 +233,8 @@ fn expression(m: Marks, memory: &[u8], index: Index, text: &[u8], at: usize) -> 
 // The product at `at`.
 fn product(m: Marks, memory: &[u8], index: Index, text: &[u8], at: usize) -> Parsed
     requires { ⌜ Kept (now memory) index × (at ≤ length (now text)) ⌝ }
-    ensures { λ r. ⌜ Comes (3 * (length (now (text .entry)) - at) + 2) (at + 1) (now (text .entry)) r (λ n. product n m (held (index .count) (now (memory .entry))) (drop at (now (text .entry)))) ⌝ }
+    ensures { λ r. ⌜ ReadsAbove (3 * (length (now (text .entry)) - at) + 2) (at + 1) (now (text .entry)) r
+        (λ n. product n m (held (index .count) (now (memory .entry))) (drop at (now (text .entry)))) ⌝ }
 {
     let mut value: i32 = 0;
     let mut j = Join::Go(Step::First, at);
@@ -261,7 +264,8 @@ fn product(m: Marks, memory: &[u8], index: Index, text: &[u8], at: usize) -> Par
 // The operand at `at`: digits, a name, or an expression in brackets.
 fn operand(m: Marks, memory: &[u8], index: Index, text: &[u8], at: usize) -> Parsed
     requires { ⌜ Kept (now memory) index × (at ≤ length (now text)) ⌝ }
-    ensures { λ r. ⌜ Comes (3 * (length (now (text .entry)) - at) + 1) (at + 1) (now (text .entry)) r (λ n. operand n m (held (index .count) (now (memory .entry))) (drop at (now (text .entry)))) ⌝ }
+    ensures { λ r. ⌜ ReadsAbove (3 * (length (now (text .entry)) - at) + 1) (at + 1) (now (text .entry)) r
+        (λ n. operand n m (held (index .count) (now (memory .entry))) (drop at (now (text .entry)))) ⌝ }
 {
     match opening(m, text, at) {
         Lead::Nothing => Parsed::Failed,

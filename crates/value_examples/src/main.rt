@@ -3,6 +3,7 @@
 use libc::STDIN_FILENO;
 use libc::STDOUT_FILENO;
 use model::Marks;
+use model::STORE_LEAST;
 use number::Valued;
 use scan::find_byte;
 use store::Index;
@@ -83,7 +84,7 @@ fn turn(memory: &mut [u8], index: Index, line: &[u8]) -> Index
 
 // Each line of the text, in order.
 fn run(text: &[u8]) {
-    let mut memory = [0u8; 8704];
+    let mut memory = [0u8; STORE_LEAST];
     let mut index = store::empty(&memory);
     let mut at = 0;
     while at < text.len() {

@@ -1,7 +1,7 @@
 -- The text of a layout: its fields and its other bytes. Assumes nothing.
 use mathlib.Core.Path.{_≡_, refl, sym, ap, ap₂, _∙_}
 use mathlib.Core.Bool.{Bool, true, false, _&&_}
-use mathlib.Core.List.{[], _∷_, _++_, append-assoc, append-nil}
+use mathlib.Core.List.{List, [], _∷_, _++_, append-assoc, append-nil}
 use Prim.Native.Nat.{ℕ, zero, suc, _+_, _-_, _*_, _≤_, _<_}
 use native.Mathlib.Omega.{arith}
 use native.Mathlib.Numerals.{add-one}
@@ -15,11 +15,10 @@ use Rattle.model.specs.Machine.{Frame, param, field, fields}
 use Rattle.model.proofs.Choices.{when-true, when-false}
 use Rattle.model.proofs.Text.{part-length, part-long, part-empty, part-cons}
 use Rattle.buffer.specs.Pasted.{Pasted}
-use Rattle.call.specs.declared.Call.{Call}
-use Rattle.call.specs.Call.{frameOf}
+use Rattle.call.specs.Call.{Laid, frameOf}
 use Rattle.call.specs.Params.{Lies}
-use Rattle.write.specs.Output.{Adds}
-use Rattle.write.specs.Layout.{isField, Names, paramOf, layoutOf, Runs, PutsField, PutsPart, PutsLayout}
+use Rattle.write.specs.Output.{AddsAt}
+use Rattle.write.specs.Layout.{isField, NamesField, paramOf, layoutOf, RunEnds, PutsField, PutsPart, PutsLayout}
 use Rattle.write.proofs.Adding.{adds-as, adds-none, adds-copy, adds-store, adds-more, adds-length}
 
 -- ---- one field
@@ -48,40 +47,40 @@ field-long b (suc n) [] = ap suc (field-long b n [])
 field-long b (suc n) (x ∷ s) = ap suc (field-long b n s)
 
 -- the parameter's bytes in the call, whatever the marks are
-pub lies-param : {c : Call} {d r : ℕ} → Lies c d r → part (c .bytes) (200 * (d - 1)) (200 * (d - 1) + r) ≡ paramOf c d
+pub lies-param : (c : Laid) {d r : ℕ} → Lies (c .nums) d r → part (c .bytes) (200 * (d - 1)) (200 * (d - 1) + r) ≡ paramOf c d
 unfolding param
-lies-param l =
+lies-param c l =
     let m : Marks = record { source = 0; placeholder = 0; code = 0; escape = 0; blank = 0; left = 0; plus = 0; minus = 0; times = 0; divide = 0; right = 0 } in
-    sym (l .is m [])
+    sym (l .is m [] (c .head) (c .bytes))
 
 -- a parameter cut
-pub puts-cut : {m : Marks} {c : Call} {d n len : ℕ} {o : Bytes} {w : ℕ} {o′ : Bytes} → Lies c d len → n ≤ len
+pub puts-cut : {m : Marks} {c : Laid} {d n len : ℕ} {o : Bytes} {w : ℕ} {o′ : Bytes} → length (c .bytes) ≡ 3400 → d ≤ 9 → Lies (c .nums) d len → n ≤ len
     → Pasted o w (part (c .bytes) (200 * (d - 1)) (200 * (d - 1) + n)) (length (part (c .bytes) (200 * (d - 1)) (200 * (d - 1) + n))) o′
     → w + n ≤ length o → PutsField m c d o w n o′
-puts-cut {m} {c} {d} {n} {len} {o} {w} l k p r =
+puts-cut {m} {c} {d} {n} {len} {o} {w} long few l k p r =
     let a : ℕ = 200 * (d - 1) in
-    let s = l .within in
+    let s = l .short in
     let e : length (part (c .bytes) a (a + n)) ≡ n = part-long (c .bytes) a n (omega arith) in
-    let i : length (paramOf c d) ≡ len = ap (λ (x : Bytes). length x) (sym (lies-param l)) ∙ part-long (c .bytes) a len (omega arith) in
+    let i : length (paramOf c d) ≡ len = ap (λ (x : Bytes). length x) (sym (lies-param c l)) ∙ part-long (c .bytes) a len (omega arith) in
     let y : a + n - a ≡ n = omega arith in
     let z : a + len - a ≡ len = omega arith in
     let q : part (c .bytes) a (a + n) ≡ take n (paramOf c d) =
     ap (λ (j : ℕ). take j (drop a (c .bytes))) y ∙ sym (take-take n len (drop a (c .bytes)) k)
-    ∙ ap (λ (x : Bytes). take n x) (ap (λ (j : ℕ). take j (drop a (c .bytes))) (sym z) ∙ lies-param l) in
+    ∙ ap (λ (x : Bytes). take n x) (ap (λ (j : ℕ). take j (drop a (c .bytes))) (sym z) ∙ lies-param c l) in
     record { adds = adds-as (adds-copy p (omega arith)) (q ∙ sym (field-cut (m .blank) n (paramOf c d) (omega arith))) e }
 
 -- a parameter with blanks after it
-pub puts-filled : {m : Marks} {c : Call} {d n len : ℕ} {o : Bytes} {w : ℕ} {o₁ o₂ : Bytes} → Lies c d len → len < n
+pub puts-filled : {m : Marks} {c : Laid} {d n len : ℕ} {o : Bytes} {w : ℕ} {o₁ o₂ : Bytes} → length (c .bytes) ≡ 3400 → d ≤ 9 → Lies (c .nums) d len → len < n
     → Pasted o w (part (c .bytes) (200 * (d - 1)) (200 * (d - 1) + len)) (length (part (c .bytes) (200 * (d - 1)) (200 * (d - 1) + len))) o₁
-    → Adds o₁ (w + len) (replicate (n - len) (m .blank)) (n - len) o₂ → w + n ≤ length o → PutsField m c d o w n o₂
-puts-filled {m} {c} {d} {n} {len} {o} {w} l k p b r =
+    → AddsAt o₁ (w + len) (replicate (n - len) (m .blank)) (n - len) o₂ → w + n ≤ length o → PutsField m c d o w n o₂
+puts-filled {m} {c} {d} {n} {len} {o} {w} long few l k p b r =
     let a : ℕ = 200 * (d - 1) in
-    let s = l .within in
+    let s = l .short in
     let e : length (part (c .bytes) a (a + len)) ≡ len = part-long (c .bytes) a len (omega arith) in
-    let i : length (paramOf c d) ≡ len = ap (λ (x : Bytes). length x) (sym (lies-param l)) ∙ e in
+    let i : length (paramOf c d) ≡ len = ap (λ (x : Bytes). length x) (sym (lies-param c l)) ∙ e in
     let z : len + (n - len) ≡ n = omega arith in
     record {
-      adds = adds-as (adds-more (adds-as (adds-copy p (omega arith)) (lies-param l) e) b) (sym (field-filled (m .blank) n (n - len) (paramOf c d) (omega arith))) z;
+      adds = adds-as (adds-more (adds-as (adds-copy p (omega arith)) (lies-param c l) e) b) (sym (field-filled (m .blank) n (n - len) (paramOf c d) (omega arith))) z;
     }
 
 -- ---- all of them
@@ -127,25 +126,38 @@ module _ (m : Marks) (f : Frame) where
       when-false _ _ (ne-eqb x d g) ∙ either (isField x) (field (m .blank) n (param f (d - 48))) (fields m f x 1 s) (x ∷ fields m f 256 0 s)
       ∙ ap (λ (l : Bytes). field (m .blank) n (param f (d - 48)) ++ l) (sym (when-false _ _ (ne-eqb x 256 (λ z. omega arith))))
 
+-- only the parameters matter
+pub fields-same : (m : Marks) (f g : Frame) → f .params ≡ g .params → (d n : ℕ) (s : Bytes) → fields m f d n s ≡ fields m g d n s
+unfolding fields param
+fields-same m f g e d n [] = ap (λ (ps : List Bytes). field (m .blank) n (getD ps (d - 48 - 1) [])) e
+fields-same m f g e d n (x ∷ s) =
+    let same : field (m .blank) n (param f (d - 48)) ≡ field (m .blank) n (param g (d - 48)) = ap (λ (ps : List Bytes). field (m .blank) n (getD ps (d - 48 - 1) [])) e in
+    by (eqb x d) (fields-same m f g e d (suc n) s)
+    (by (isField x) (ap₂ (λ (a b : Bytes). a ++ b) same (fields-same m f g e x 1 s)) (ap₂ (λ (a b : Bytes). a ++ (x ∷ b)) same (fields-same m f g e 256 0 s)))
+  where
+    by : (q : Bool) {a b c d : Bytes} → a ≡ b → c ≡ d → _≡_ {A = Bytes} (elim q [ true ↦ a | false ↦ c ]) (elim q [ true ↦ b | false ↦ d ])
+    by true e f = e
+    by false e f = f
+
 -- ---- a run of one byte
 
 -- the bytes from `at` up to i are the same
-pub record Running (text : Bytes) (at to i : ℕ) : Type 0 where
+pub record RunSoFar (text : Bytes) (at to i : ℕ) : Type 0 where
   pub from : at < i
   pub upto : i ≤ to
   pub is : (m : Marks) (f : Frame) → fields m f (getD text at 0) 1 (part text (at + 1) to) ≡ fields m f (getD text at 0) (i - at) (part text i to)
 
-pub running-begins : {text : Bytes} {at to : ℕ} → at < to → Running text at to (at + 1)
+pub running-begins : {text : Bytes} {at to : ℕ} → at < to → RunSoFar text at to (at + 1)
 running-begins {text} {at} {to} h =
     let z : 1 ≡ at + 1 - at = omega arith in
     record { from = omega arith; upto = omega arith; is = λ m f. ap (λ (n : ℕ). fields m f (getD text at 0) n (part text (at + 1) to)) z }
 
-module _ {text : Bytes} {at to i : ℕ} (r : Running text at to i) where
+module _ {text : Bytes} {at to i : ℕ} (r : RunSoFar text at to i) where
   run-first : (m : Marks) (f : Frame) → i < to → to ≤ length text
       → fields m f (getD text at 0) 1 (part text (at + 1) to) ≡ fields m f (getD text at 0) (i - at) (getD text i 0 ∷ part text (suc i) to)
   run-first m f h k = r .is m f ∙ ap (λ (s : Bytes). fields m f (getD text at 0) (i - at) s) (part-cons text i to h k)
 
-  pub running-more : i < to → to ≤ length text → getD text i 0 ≡ getD text at 0 → Running text at to (i + 1)
+  pub running-more : i < to → to ≤ length text → getD text i 0 ≡ getD text at 0 → RunSoFar text at to (i + 1)
   unfolding fields
   running-more h k e =
       let l = r .from in
@@ -157,7 +169,7 @@ module _ {text : Bytes} {at to i : ℕ} (r : Running text at to i) where
             ∙ ap₂ (λ (n j : ℕ). fields m f (getD text at 0) n (part text j to)) z (sym (add-one i));
       }
 
-  pub runs-differ : i < to → to ≤ length text → ¬ (getD text i 0 ≡ getD text at 0) → getD text i 0 < 256 → Runs text at to i
+  pub runs-differ : i < to → to ≤ length text → ¬ (getD text i 0 ≡ getD text at 0) → getD text i 0 < 256 → RunEnds text at to i
   runs-differ h k d b = record {
     from = r .from;
     upto = r .upto;
@@ -165,7 +177,7 @@ module _ {text : Bytes} {at to i : ℕ} (r : Running text at to i) where
         ∙ ap (λ (s : Bytes). field (m .blank) (i - at) (param f (getD text at 0 - 48)) ++ fields m f 256 0 s) (sym (part-cons text i to h k));
   }
 
-  pub runs-all : to ≤ i → Runs text at to i
+  pub runs-all : to ≤ i → RunEnds text at to i
   unfolding fields field
   runs-all h = record {
     from = r .from;
@@ -178,7 +190,7 @@ module _ {text : Bytes} {at to i : ℕ} (r : Running text at to i) where
 -- ---- a part of a layout
 
 -- the parameter that a byte names
-pub names-low : {b : ℕ} → b < 49 → Names b 0
+pub names-low : {b : ℕ} → b < 49 → NamesField b 0
 names-low {b} h = record {
   small = omega arith;
   most = omega arith;
@@ -186,7 +198,7 @@ names-low {b} h = record {
   names = λ k. absurd (omega arith);
 }
 
-pub names-high : {b : ℕ} → 57 < b → b < 256 → Names b 0
+pub names-high : {b : ℕ} → 57 < b → b < 256 → NamesField b 0
 names-high {b} h k = record {
   small = k;
   most = omega arith;
@@ -194,16 +206,16 @@ names-high {b} h k = record {
   names = λ k. absurd (omega arith);
 }
 
-pub names-field : {b v : ℕ} → 49 ≤ b → b ≤ 57 → v ≡ b → Names b (v - 48)
+pub names-field : {b v : ℕ} → 49 ≤ b → b ≤ 57 → v ≡ b - 48 → NamesField b v
 names-field {b} {v} h k e = record {
   small = omega arith;
   most = omega arith;
   none = λ z. absurd (omega arith);
-  names = λ z. (ap (λ (q : Bool). q && leb b 57) (le-leb 49 b h) ∙ le-leb b 57 k, ap (λ (x : ℕ). x - 48) e);
+  names = λ z. (ap (λ (q : Bool). q && leb b 57) (le-leb 49 b h) ∙ le-leb b 57 k, e);
 }
 
-module _ {m : Marks} {text : Bytes} {at to : ℕ} {c : Call} {o : Bytes} {w d : ℕ} (h : at < to) (k : to ≤ length text) (n : Names (getD text at 0) d) where
-  pub part-field : {r : ℕ} {o′ : Bytes} → 0 < d → Runs text at to r → PutsField m c d o w (r - at) o′ → PutsPart m text at to c o w r o′
+module _ {m : Marks} {text : Bytes} {at to : ℕ} {c : Laid} {o : Bytes} {w d : ℕ} (h : at < to) (k : to ≤ length text) (n : NamesField (getD text at 0) d) where
+  pub part-field : {r : ℕ} {o′ : Bytes} → 0 < d → RunEnds text at to r → PutsField m c d o w (r - at) o′ → PutsPart m text at to c o w r o′
   unfolding param
   part-field {r} e x p = record {
     bytes = field (m .blank) (r - at) (paramOf c d);
@@ -233,21 +245,21 @@ module _ {m : Marks} {text : Bytes} {at to : ℕ} {c : Call} {o : Bytes} {w d : 
 -- ---- the parts one after the other
 
 -- the layout up to i is written
-pub record Laying (m : Marks) (text : Bytes) (at to : ℕ) (c : Call) (o₀ : Bytes) (w i : ℕ) (o : Bytes) : Type 0 where
+pub record LayoutSoFar (m : Marks) (text : Bytes) (at to : ℕ) (c : Laid) (o₀ : Bytes) (w i : ℕ) (o : Bytes) : Type 0 where
   pub bytes : Bytes
   pub is : layoutOf m text c (part text at to) ≡ bytes ++ layoutOf m text c (part text i to)
-  pub adds : Adds o₀ w bytes (i - at) o
+  pub adds : AddsAt o₀ w bytes (i - at) o
   pub from : at ≤ i
   pub upto : i ≤ to
   pub long : length o ≡ length o₀
 
-pub laying-none : {m : Marks} {text : Bytes} {at to : ℕ} {c : Call} {o : Bytes} {w : ℕ} → at ≤ to → w + (to - at) ≤ length o → Laying m text at to c o w at o
+pub laying-none : {m : Marks} {text : Bytes} {at to : ℕ} {c : Laid} {o : Bytes} {w : ℕ} → at ≤ to → w + (to - at) ≤ length o → LayoutSoFar m text at to c o w at o
 laying-none {at = at} h k =
     let z : 0 ≡ at - at = omega arith in
     record { bytes = []; is = refl; adds = adds-as (adds-none (omega arith)) refl z; from = omega arith; upto = h; long = refl }
 
-module _ {m : Marks} {text : Bytes} {at to : ℕ} {c : Call} {o₀ : Bytes} {w i : ℕ} {o : Bytes} (p : Laying m text at to c o₀ w i o) where
-  pub laying-more : {r : ℕ} {o′ : Bytes} → PutsPart m text i to c o (w + (i - at)) r o′ → Laying m text at to c o₀ w r o′
+module _ {m : Marks} {text : Bytes} {at to : ℕ} {c : Laid} {o₀ : Bytes} {w i : ℕ} {o : Bytes} (p : LayoutSoFar m text at to c o₀ w i o) where
+  pub laying-more : {r : ℕ} {o′ : Bytes} → PutsPart m text i to c o (w + (i - at)) r o′ → LayoutSoFar m text at to c o₀ w r o′
   laying-more {r} {o′} q =
       let f = p .from in
       let g = q .from in
@@ -272,5 +284,5 @@ module _ {m : Marks} {text : Bytes} {at to : ℕ} {c : Call} {o₀ : Bytes} {w i
       }
 
 -- a layout's bytes
-pub layout-long : (m : Marks) (text : Bytes) (c : Call) (at to : ℕ) → to ≤ length text → length (layoutOf m text c (part text at to)) ≡ to - at
+pub layout-long : (m : Marks) (text : Bytes) (c : Laid) (at to : ℕ) → to ≤ length text → length (layoutOf m text c (part text at to)) ≡ to - at
 layout-long m text c at to h = fields-long m (frameOf m text c) 256 0 (part text at to) ∙ (let l = part-length text at to h in omega arith)

@@ -1,55 +1,40 @@
 -- Bytes that come at the end of what is written, and lines of them.
 use mathlib.Core.Path.{_≡_}
-use mathlib.Core.Bool.{true, false}
-use mathlib.Core.Option.{none}
-use mathlib.Core.List.{List, [], _∷_, _++_}
-use Prim.Native.Nat.{ℕ, _+_, _≤_}
-use lib.ListN.{length, take, drop}
+use mathlib.Core.Bool.{Bool, true, false}
+use mathlib.Core.List.{[], _∷_, _++_}
+use Prim.Native.Nat.{ℕ, _+_}
+use lib.Dec.{leb}
+use lib.ListN.{length, take}
 use Rattle.model.specs.Text.{Bytes}
-use Rattle.model.specs.Machine.{Frame, Step, continues, halts, output, Next, running, ended, passThrough}
 use Rattle.buffer.specs.Written.{Written}
 use Rattle.state.specs.declared.State.{State}
-use Rattle.state.specs.declared.Line.{Line}
-use Rattle.state.specs.State.{bytesOf, sharedOf, stateOf, withWritten}
-use Rattle.write.specs.declared.Wrote.{Wrote}
+use Rattle.state.specs.State.{withWritten}
+use Rattle.answer.specs.declared.Answer.{Answer}
+use Rattle.answer.specs.Answers.{endsWith}
+use Rattle.answer.specs.Kept.{Extends}
 
 -- the n bytes of s come after the first w of o
-pub record Adds (o : Bytes) (w : ℕ) (s : Bytes) (n : ℕ) (o′ : Bytes) : Type 0 where
+pub record AddsAt (o : Bytes) (w : ℕ) (s : Bytes) (n : ℕ) (o′ : Bytes) : Type 0 where
   pub is : Written o (take w o ++ s) (w + n) o′
 
--- what was written stays, and so does what lies beyond what is written now
-pub record Extends (o : Bytes) (w : ℕ) (o′ : Bytes) (w′ : ℕ) : Type 0 where
-  pub front : take w o′ ≡ take w o
-  pub rest : drop w′ o′ ≡ drop w′ o
-  pub long : length o′ ≡ length o
-  pub more : w ≤ w′
-  pub fits : w′ ≤ length o
+-- there is room for the line l and a byte 10
+abbrev pub hasRoom : Bytes → State → Bytes → Bool
+hasRoom l s o = leb (length (take (s .written) o) + length l + 1) (length o)
 
--- what an answer comes to: the call goes on, or the run ends with 13
-unfoldable pub wroteStep : Frame → Bytes → Wrote → Bytes → Step
-wroteStep f memory r o = elim (r .ok) [
-  | true ↦ continues f (sharedOf (r .state) o memory)
-  | false ↦ halts 13 (sharedOf (r .state) o memory)
-]
+-- an answer with n bytes written
+abbrev pub wroteTo : Answer → ℕ → Answer
+wroteTo r n = record { turn = r .turn; call = r .call; state = withWritten (r .state) n }
 
--- the same, after a line that is no call
-unfoldable pub wroteNext : Bytes → List Frame → Bytes → Wrote → Bytes → Next
-wroteNext text frames memory r o = elim (r .ok) [
-  | true ↦ running (stateOf text none frames (r .state) o memory)
-  | false ↦ ended 13 (stateOf text none frames (r .state) o memory)
-]
+-- the line l and a byte 10 are written and the answer is r, or there is no room for them, nothing changes and the run ends with 13
+pub record Writes (l : Bytes) (r : Answer) (o : Bytes) (a : Answer) (o′ : Bytes) : Type 0 where
+  pub fits : hasRoom l (r .state) o ≡ true → (a ≡ wroteTo r (a .state .written)) × (take (a .state .written) o′ ≡ take (r .state .written) o ++ (l ++ (10 ∷ [])))
+  pub full : hasRoom l (r .state) o ≡ false → (a ≡ endsWith 13 (r .state)) × (o′ ≡ o)
+  pub extends : Extends o (r .state .written) o′ (a .state .written)
 
--- the line l and a byte 10 are written, or there is no room for them and nothing changes
-pub record Writes (l : Bytes) (s : State) (o : Bytes) (r : Wrote) (o′ : Bytes) : Type 0 where
-  pub step : (f : Frame) (memory : Bytes) → output (length o) l f (sharedOf s o memory) ≡ wroteStep f memory r o′
-  pub next : (text : Bytes) (frames : List Frame) (memory : Bytes) → passThrough (length o) l (stateOf text none frames s o memory) ≡ wroteNext text frames memory r o′
-  pub only : r .state ≡ withWritten s (r .state .written)
-  pub extends : Extends o (s .written) o′ (r .state .written)
-
-pub record WritesLine (line : Line) (s : State) (o : Bytes) (r : Wrote) (o′ : Bytes) : Type 0 where
-  pub writes : Writes (bytesOf line) s o r o′
+pub record WritesLine (line : Bytes) (n : ℕ) (r : Answer) (o : Bytes) (a : Answer) (o′ : Bytes) : Type 0 where
+  pub writes : Writes (take n line) r o a o′
 
 -- a byte 10 at offset `at` ends a line
-pub record Closes (o : Bytes) (at : ℕ) (s : State) (r : Wrote) (o′ : Bytes) : Type 0 where
-  pub adds : Adds o at (10 ∷ []) 1 o′
-  pub is : r ≡ record { ok = true; state = withWritten s (at + 1) }
+pub record ClosesLine (o : Bytes) (at : ℕ) (r a : Answer) (o′ : Bytes) : Type 0 where
+  pub adds : AddsAt o at (10 ∷ []) 1 o′
+  pub is : a ≡ wroteTo r (at + 1)

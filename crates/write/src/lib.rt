@@ -1,59 +1,55 @@
 // What is written to the output: a line, or a layout with the parameters in its fields, and a byte 10 after it.
+use answer::Answer;
+use answer::end_with;
 use buffer::copy;
 use buffer::wide;
-use call::Call;
 use call::param_len;
+use model::LINE_MOST;
 use model::Marks;
-use state::Line;
-use state::State;
 use state::set_written;
+ghost use mathlib.Core.Path.{_≡_};
 ghost use Prim.Native.Nat.{_+_, _-_, _≤_, _<_};
 ghost use lib.ListN.{length, replicate};
-ghost use Rattle.write.specs.Output.{Adds, WritesLine, Closes};
-ghost use Rattle.write.specs.Layout.{Names, Runs, PutsField, PutsPart, PutsLayout, WritesLayout};
+ghost use Rattle.write.specs.Output.{AddsAt, WritesLine, ClosesLine};
+ghost use Rattle.write.specs.Layout.{bare, NamesField, RunEnds, PutsField, PutsPart, PutsLayout, WritesLayout};
+ghost use Rattle.call.specs.Call.{Sized};
 
-// The state after a line was written. Not ok: there is no room for it, and nothing changes.
-pub struct Wrote {
-    pub ok: bool,
-    pub state: State,
-}
-
-// A byte 10 ends a line.
-fn end_line(output: &mut [u8], at: usize, s: State) -> Wrote
+// A byte 10 ends a line. The answer is r, with what is written up to there.
+fn end_line(output: &mut [u8], at: usize, r: Answer) -> Answer
     requires { ⌜ at < length (now output) ⌝ }
-    ensures { λ r. ⌜ Closes (now (output .entry)) at s r (now (output .exit)) ⌝ }
+    ensures { λ a. ⌜ ClosesLine (now (output .entry)) at r a (now (output .exit)) ⌝ }
 {
-    output[at] = 10;
-    Wrote {
-        ok: true,
+    output[at] = b'\n';
+    let turn = r.turn;
+    let call = r.call;
+    let s = r.state;
+    Answer {
+        turn,
+        call,
         state: set_written(s, at + 1),
     }
 }
 
-// A line and a byte 10 after it.
-pub fn write_line(output: &mut [u8], line: Line, s: State) -> Wrote
-    requires { ⌜ s .written ≤ length (now output) ⌝ }
-    requires { ⌜ line .len ≤ 200 ⌝ }
-    ensures { λ r. ⌜ WritesLine line s (now (output .entry)) r (now (output .exit)) ⌝ }
+// The first n bytes of a line and a byte 10 after them. The answer is r with the line written; without room for it the run
+// ends with 13.
+pub fn write_line(line: &[u8], n: usize, output: &mut [u8], r: Answer) -> Answer
+    requires { ⌜ (n ≤ length (now line)) × (r .state .written ≤ length (now output)) ⌝ }
+    ensures { λ a. ⌜ WritesLine (now (line .entry)) n r (now (output .entry)) a (now (output .exit)) ⌝ }
 {
+    let s = r.state;
     let w = s.written;
-    let n = line.len;
     if output.len() - w <= n {
-        return Wrote {
-            ok: false,
-            state: s,
-        };
+        return end_with(13, s);
     }
-    let bytes = line.bytes;
-    let content = &bytes[0..n];
+    let content = &line[0..n];
     copy(output, w, content);
-    end_line(output, w + n, s)
+    end_line(output, w + n, r)
 }
 
 // The byte b, n times from offset `at` on.
-fn fill(output: &mut [u8], at: usize, n: usize, b: u8)
+fn fill_with(output: &mut [u8], at: usize, n: usize, b: u8)
     requires { ⌜ at + n ≤ length (now output) ⌝ }
-    ensures { λ _. ⌜ Adds (now (output .entry)) at (replicate n b) n (now (output .exit)) ⌝ }
+    ensures { λ _. ⌜ AddsAt (now (output .entry)) at (replicate n b) n (now (output .exit)) ⌝ }
 {
     let mut i = 0;
     while i < n {
@@ -63,43 +59,52 @@ fn fill(output: &mut [u8], at: usize, n: usize, b: u8)
 }
 
 // Parameter d in a field of n bytes: cut, or filled with blanks.
-fn write_field(m: Marks, call: Call, d: usize, output: &mut [u8], at: usize, n: usize)
+fn write_field(
+    m: Marks,
+    nums: &[usize],
+    params: &[u8],
+    d: usize,
+    output: &mut [u8],
+    at: usize,
+    n: usize,
+)
     requires { ⌜ (1 ≤ d) × (d ≤ 9) ⌝ }
+    requires { ⌜ Sized (now nums) (now params) ⌝ }
     requires { ⌜ at + n ≤ length (now output) ⌝ }
-    ensures { λ _. ⌜ PutsField m call d (now (output .entry)) at n (now (output .exit)) ⌝ }
+    ensures { λ _. ⌜ PutsField m (bare (now (nums .entry)) (now (params .entry))) d
+        (now (output .entry)) at n (now (output .exit)) ⌝ }
 {
-    let bytes = call.bytes;
-    let from = 200 * (d - 1);
-    let len = param_len(call, d);
+    let from = LINE_MOST * (d - 1);
+    let len = param_len(nums, d);
     if n <= len {
         let to = from + n;
-        let part = &bytes[from..to];
+        let part = &params[from..to];
         copy(output, at, part);
         return;
     }
     let to = from + len;
-    let part = &bytes[from..to];
+    let part = &params[from..to];
     copy(output, at, part);
-    fill(output, at + len, n - len, m.blank);
+    fill_with(output, at + len, n - len, m.blank);
 }
 
 // The parameter that a byte of a layout names, or 0.
 fn field_of(b: u8) -> usize
-    ensures { λ r. ⌜ Names b r ⌝ }
+    ensures { λ r. ⌜ NamesField b r ⌝ }
 {
-    if b < 49 {
+    if b < b'1' {
         return 0;
     }
-    if 57 < b {
+    if b'9' < b {
         return 0;
     }
-    wide(b) - 48
+    wide(b - b'0')
 }
 
 // Where the run of the byte at `at` ends.
 fn run_end(text: &[u8], at: usize, to: usize) -> usize
     requires { ⌜ (at < to) × (to ≤ length (now text)) ⌝ }
-    ensures { λ r. ⌜ Runs (now (text .entry)) at to r ⌝ }
+    ensures { λ r. ⌜ RunEnds (now (text .entry)) at to r ⌝ }
 {
     let b = text[at];
     let mut i = at + 1;
@@ -118,19 +123,22 @@ fn write_part(
     text: &[u8],
     at: usize,
     to: usize,
-    call: Call,
+    nums: &[usize],
+    params: &[u8],
     output: &mut [u8],
     w: usize,
 ) -> usize
     requires { ⌜ (at < to) × (to ≤ length (now text)) ⌝ }
+    requires { ⌜ Sized (now nums) (now params) ⌝ }
     requires { ⌜ w + (to - at) ≤ length (now output) ⌝ }
-    ensures { λ r. ⌜ PutsPart m (now (text .entry)) at to call (now (output .entry)) w r (now (output .exit)) ⌝ }
+    ensures { λ r. ⌜ PutsPart m (now (text .entry)) at to (bare (now (nums .entry)) (now (params .entry)))
+        (now (output .entry)) w r (now (output .exit)) ⌝ }
 {
     let b = text[at];
     let d = field_of(b);
     if 0 < d {
         let end = run_end(text, at, to);
-        write_field(m, call, d, output, w, end - at);
+        write_field(m, nums, params, d, output, w, end - at);
         return end;
     }
     output[w] = b;
@@ -143,42 +151,46 @@ fn write_fields(
     text: &[u8],
     at: usize,
     to: usize,
-    call: Call,
+    nums: &[usize],
+    params: &[u8],
     output: &mut [u8],
     w: usize,
 )
     requires { ⌜ (at ≤ to) × (to ≤ length (now text)) ⌝ }
+    requires { ⌜ Sized (now nums) (now params) ⌝ }
     requires { ⌜ w + (to - at) ≤ length (now output) ⌝ }
-    ensures { λ _. ⌜ PutsLayout m (now (text .entry)) at to call (now (output .entry)) w (now (output .exit)) ⌝ }
+    ensures { λ _. ⌜ PutsLayout m (now (text .entry)) at to (bare (now (nums .entry)) (now (params .entry)))
+        (now (output .entry)) w (now (output .exit)) ⌝ }
 {
     let mut i = at;
     while i < to {
-        i = write_part(m, text, i, to, call, output, w + (i - at));
+        i = write_part(m, text, i, to, nums, params, output, w + (i - at));
     }
 }
 
-// The layout text[at..to] and a byte 10 after it.
+// The layout text[at..to] and a byte 10 after it, as a line is written.
 pub fn write_layout(
     m: Marks,
     text: &[u8],
     at: usize,
     to: usize,
-    call: Call,
+    nums: &[usize],
+    params: &[u8],
     output: &mut [u8],
-    s: State,
-) -> Wrote
+    r: Answer,
+) -> Answer
     requires { ⌜ (at ≤ to) × (to ≤ length (now text)) ⌝ }
-    requires { ⌜ s .written ≤ length (now output) ⌝ }
-    ensures { λ r. ⌜ WritesLayout m (now (text .entry)) at to call s (now (output .entry)) r (now (output .exit)) ⌝ }
+    requires { ⌜ Sized (now nums) (now params) ⌝ }
+    requires { ⌜ r .state .written ≤ length (now output) ⌝ }
+    ensures { λ a. ⌜ WritesLayout m (now (text .entry)) at to (bare (now (nums .entry)) (now (params .entry))) r
+        (now (output .entry)) a (now (output .exit)) ⌝ }
 {
-    let w = s.written;
+    let s = r.state;
     let n = to - at;
+    let w = s.written;
     if output.len() - w <= n {
-        return Wrote {
-            ok: false,
-            state: s,
-        };
+        return end_with(13, s);
     }
-    write_fields(m, text, at, to, call, output, w);
-    end_line(output, w + n, s)
+    write_fields(m, text, at, to, nums, params, output, w);
+    end_line(output, w + n, r)
 }

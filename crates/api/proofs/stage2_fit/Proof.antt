@@ -39,8 +39,8 @@ use denote.Signature.{plain, shrSliceOf}
 use Prim.Native.Nat.{ℕ}
 use lib.ListN.{length}
 use Rattle.model.specs.Load.{load}
-use Rattle.walk.proofs.Walk as Walk
-use Rattle.walk.proofs.Again as Again
+use Rattle.walk_laws.proofs.Walk as Walk
+use Rattle.walk_laws.proofs.Again as Again
 use Rattle.model.proofs.Fitted as Fitted-T
 use Rattle.model.proofs.Fitted.Laws as Fitted-L
 use Rattle.nodes.specs.declared.Node.{Node}

@@ -39,16 +39,16 @@ use denote.Signature.{plain, shrSliceOf}
 use Prim.Native.Nat.{ℕ, _<_, _^_}
 use lib.ListN.{length}
 use Rattle.model.specs.Load.{load}
-use Rattle.walk.proofs.Walk as Walk
-use Rattle.walk.proofs.Again as Again
+use Rattle.walk_laws.proofs.Walk as Walk
+use Rattle.walk_laws.proofs.Again as Again
 use Rattle.model.proofs.Ran as Ran-T
 use Rattle.model.proofs.Ran.Laws as Ran-L
 use Rattle.nodes.specs.declared.Node.{Node}
 use Rattle.nodes.proofs.Node as Node-T
-use Rattle.run.proofs.run as g-run
-use Rattle.run.proofs.run.Symbol as g-run-def
-use Rattle.run.proofs.run.Symbol.{name as #g-run}
-use Rattle.run.proofs.run.Met as g-run-thm
+use Rattle.stage2.proofs.run as g-run
+use Rattle.stage2.proofs.run.Symbol as g-run-def
+use Rattle.stage2.proofs.run.Symbol.{name as #g-run}
+use Rattle.stage2.proofs.run.Met as g-run-thm
 use Rattle.api.proofs.stage2_run as f-stage2-run
 use Rattle.api.proofs.stage2_run.Key.{name as #stage2-run}
 use Rattle.api.proofs.stage2_run.Statement as stated
@@ -279,5 +279,5 @@ stage2-run-spec 𝓤 H 𝓜 𝓖 𝓡 =
     (λ κs qs bounds a g are. via 𝓤 _ (fst∗ 𝓤 _ (emp 𝓤)) (walk-stage2-run 𝓤 H (𝓖 .A) W (𝓜 .mem) (𝓡 .run) (κs .0) (qs .0) (κs .1 .0) (qs .1 .0)
     (κs .1 .1 .0) (qs .1 .1 .0) (κs .1 .1 .1 .0) (qs .1 .1 .1 .0) (a .0) (a .1 .0) (a .1 .1 .0) (a .1 .1 .1 .0) (a .1 .1 .1 .1 .0) (𝓣 .C) (𝓣 .Λ)
     (fmOf 𝓤 H (W .laws) 𝓣) (cited 𝓤 H (Walk.Of 𝓤 H (𝓖 .A) g-run.ended (g-run.clauses 𝓤 H (𝓖 .A) (𝓜 .mem)
-    (𝓡 .run))) 𝓜 𝓡 code.env #g-run g-run-def.routine code.calls-run·run (g-run-thm.met 𝓤 H 𝓜 𝓖 𝓡)) (are .0) (are .1 .0 .1) (are .1 .1 .0)
+    (𝓡 .run))) 𝓜 𝓡 code.env #g-run g-run-def.routine code.calls-stage2·run (g-run-thm.met 𝓤 H 𝓜 𝓖 𝓡)) (are .0) (are .1 .0 .1) (are .1 .1 .0)
     (are .1 .1 .1 .0) (are .1 .1 .1 .1 .0))))

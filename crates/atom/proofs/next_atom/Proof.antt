@@ -1,4 +1,5 @@
--- next_atom finds the end of the first atom: the loop keeps `Scan`, and what is left of the line falls.
+-- next_atom finds the end of the line's first atom. The loop keeps `Scan`: the bytes from `at` to i leave `depth` brackets open,
+-- and the atom is these bytes with what closes the open brackets from i on, if anything does. The measure is the length of the line less i.
 use Prim.Native.Nat.{_-_}
 use borrow.Author.Needs.{needs}
 use native.Mathlib.Omega.{arith}

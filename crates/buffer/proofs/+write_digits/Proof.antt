@@ -1,4 +1,4 @@
--- write_digits writes the digits of n, the last one after those of a tenth of n.
+-- write_digits writes the digits of n, the last one after those of a tenth of n. The measure of a call is f: n has at most f digits.
 use borrow.Author.Needs.{needs}
 use Rattle.buffer.proofs.Decimal.{one-digit, more-digits, fewer}
 use Prim.Native.Nat.{ℕ, _<_}

@@ -1,4 +1,5 @@
--- copy pastes all of src, byte by byte from its front.
+-- copy pastes all of src, byte by byte from its front. The loop keeps `Pasting`: dest is what it was, with the first i bytes of src
+-- from offset `at` on. The measure is the length of src less i.
 use borrow.Author.Needs.{needs}
 use Prim.Native.Nat.{_-_}
 use Rattle.buffer.proofs.Moves.{Pasting, pasting-none, copy-more, pasting-all}

@@ -1,4 +1,5 @@
--- move_down pastes the bytes from their front, so that none is overwritten before it is read.
+-- move_down pastes the bytes from their front, so that none is overwritten before it is read. The loop keeps `Pasting`: d is what it
+-- was, with the first i of the len bytes at their new place. The measure is len less i.
 use borrow.Author.Needs.{needs}
 use Prim.Native.Nat.{_-_}
 use Rattle.buffer.proofs.Moves.{Pasting, pasting-none, down-more, pasting-all}

@@ -1,4 +1,5 @@
--- move_up pastes the bytes from their end, so that none is overwritten before it is read.
+-- move_up pastes the bytes from their end, so that none is overwritten before it is read. The loop keeps `Raising`: d is what it was,
+-- with all but the first i of the len bytes at their new place. The measure is i.
 use borrow.Author.Needs.{needs}
 use Rattle.buffer.proofs.Moves.{Raising, up-none, up-more, up-all}
 use Rattle.buffer.proofs.move_up.Statement.{statement}

@@ -1,4 +1,5 @@
--- same_bytes compares the lengths, then byte by byte.
+-- same_bytes compares the lengths, then byte by byte. The loop keeps `Comparing`: the lengths are equal, and the slices are the same
+-- just if their bytes from i on are. The measure is the length of a less i.
 use borrow.Author.Needs.{needs}
 use Prim.Native.Nat.{_-_}
 use lib.ListN.{length}

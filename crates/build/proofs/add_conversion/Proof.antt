@@ -1,6 +1,6 @@
 -- add_conversion: the parameter's bytes and its delimiter are those of the call.
 use borrow.Author.Needs.{needs}
-use Rattle.build.proofs.Parts.{part-convert}
+use Rattle.build.proofs.Parts.{converts}
 use Rattle.build.proofs.add_conversion.Statement.{statement}
 use Rattle.build.proofs.add_conversion.Tie as tie
 
@@ -38,7 +38,7 @@ same-length-2 : tie.Need-same-length-2
 same-length-2 c = search needs
 
 returns : tie.Need-returns
-returns c = search part-convert
+returns c = search converts
 
 pub add-conversion-spec : {M : Type 1} → statement M
 add-conversion-spec =

@@ -1,7 +1,7 @@
 -- add_part: each kind of part adds what the expansion adds.
 use native.Mathlib.Omega.{arith}
 use borrow.Author.Needs.{needs}
-use Rattle.build.proofs.Parts.{serial-most, convert-parameter, part-byte, part-serial, part-as}
+use Rattle.build.proofs.Parts.{serial-most, convert-parameter, part-byte, part-serial, part-convert}
 use Rattle.build.proofs.add_part.Statement.{statement}
 use Rattle.build.proofs.add_part.Tie as tie
 
@@ -21,7 +21,7 @@ mul-add-number : tie.Need-mul-add-number
 mul-add-number c = search needs
 
 add-add-number : tie.Need-add-add-number
-add-add-number c = let k = serial-most (c .before .before .before .before .before .before .pre .1 .1 .0) (c .before .before .p2 .given .1) in omega arith
+add-add-number c = let k = serial-most (search needs) (c .before .before .p2 .given .1) in omega arith
 
 add-number-requires : tie.Need-add-number-requires
 add-number-requires c κs = search needs
@@ -33,7 +33,7 @@ enum-known-p-3 : tie.Need-enum-known-p-3
 enum-known-p-3 c = search needs
 
 add-conversion-requires : tie.Need-add-conversion-requires
-add-conversion-requires c κs = search (convert-parameter, needs)
+add-conversion-requires c κs = (search needs, (search needs, (search convert-parameter, search needs)))
 
 same-length : tie.Need-same-length
 same-length c = search needs
@@ -54,7 +54,7 @@ same-length-4 : tie.Need-same-length-4
 same-length-4 c = search needs
 
 returns-3 : tie.Need-returns-3
-returns-3 c = search part-as
+returns-3 c = search part-convert
 
 pub add-part-spec : {M : Type 1} → statement M
 add-part-spec =

@@ -1,4 +1,5 @@
--- copy_pieces copies each piece to its place: the loop keeps `Copying`, and fewer than nine are left.
+-- copy_pieces copies each piece to the place of its parameter. The loop keeps `Copying`: the first i parameters are their pieces, and
+-- there are 1,800 bytes. The measure is nine less i.
 use Prim.Native.Nat.{_-_}
 use borrow.Author.Needs.{needs}
 use Rattle.call.proofs.Slots.{Copying, copying-none, piece-inside, copying-more, copying-all}

@@ -1,11 +1,15 @@
 -- finish_code does what the ending says: each arm is its leaf's.
-use Rattle.carry.proofs.Endings.{assign-parameter, iterate-parameter, iterate-within, iterate-depth, repeat-depth, ends-offer, ends-assign, ends-iterate, ends-stop, ends-write, ends-layout, ends-save, ends-skip, ends-text, ends-value, ends-repeat, ends-again, ends-leave, ends-malformed}
 use borrow.Author.Needs.{needs}
+use Rattle.carry.proofs.Endings.{assign-parameter, iterate-parameter, iterate-within, iterate-depth, repeat-depth}
+use Rattle.carry.proofs.Endings.{ends-offer, ends-assign, ends-iterate, ends-stop, ends-write, ends-layout, ends-save, ends-skip, ends-text, ends-value, ends-repeat, ends-again, ends-leave, ends-malformed}
 use Rattle.carry.proofs.finish_code.Statement.{statement}
 use Rattle.carry.proofs.finish_code.Tie as tie
 
 enum-told : tie.Need-enum-told
 enum-told c = search needs
+
+offer-built-requires : tie.Need-offer-built-requires
+offer-built-requires c κs = search needs
 
 enum-known-ending : tie.Need-enum-known-ending
 enum-known-ending c = search needs
@@ -17,13 +21,19 @@ enum-known-ending-2 : tie.Need-enum-known-ending-2
 enum-known-ending-2 c = search needs
 
 begin-passes-requires : tie.Need-begin-passes-requires
-begin-passes-requires c κs = search (iterate-parameter, iterate-within, iterate-depth, needs)
+begin-passes-requires c κs =
+    let told = c .before .before .before in
+    let known = told .before .before in
+    let pre = known .before .before .before .before .before .before .pre in
+    let ready = pre .1 .1 in
+    let e = told .ending2 .given .1 in
+    ((pre .1 .0, iterate-depth ready e), ((iterate-parameter ready e, (ready .short, ready .long)), (iterate-within ready e, ready .within)))
 
 enum-told-2 : tie.Need-enum-told-2
 enum-told-2 c = search needs
 
-come-to-requires : tie.Need-come-to-requires
-come-to-requires c κs = search needs
+end-with-requires : tie.Need-end-with-requires
+end-with-requires c κs = search needs
 
 enum-known-ending-3 : tie.Need-enum-known-ending-3
 enum-known-ending-3 c = search needs
@@ -34,8 +44,8 @@ write-to-requires c κs = search needs
 enum-known-ending-4 : tie.Need-enum-known-ending-4
 enum-known-ending-4 c = search needs
 
-lay-out-requires : tie.Need-lay-out-requires
-lay-out-requires c κs = search needs
+write-layout-line-requires : tie.Need-write-layout-line-requires
+write-layout-line-requires c κs = search needs
 
 enum-told-3 : tie.Need-enum-told-3
 enum-told-3 c = search needs
@@ -65,7 +75,10 @@ enum-told-5 : tie.Need-enum-told-5
 enum-told-5 c = search needs
 
 repeat-requires : tie.Need-repeat-requires
-repeat-requires c κs = search (repeat-depth, needs)
+repeat-requires c κs =
+    let known = c .before .before .before .before in
+    let pre = known .before .before .before .before .before .before .pre in
+    ((pre .1 .0 .next, pre .1 .0 .nums, repeat-depth (pre .1 .1) (search needs)), (pre .0 .kept, search needs))
 
 enum-told-6 : tie.Need-enum-told-6
 enum-told-6 c = search needs
@@ -76,68 +89,124 @@ pass-again-requires c κs = search needs
 enum-told-7 : tie.Need-enum-told-7
 enum-told-7 c = search needs
 
-come-to-requires-2 : tie.Need-come-to-requires-2
-come-to-requires-2 c κs = search needs
+go-back-requires : tie.Need-go-back-requires
+go-back-requires c κs = search needs
 
 enum-told-8 : tie.Need-enum-told-8
 enum-told-8 c = search needs
 
-come-to-requires-3 : tie.Need-come-to-requires-3
-come-to-requires-3 c κs = search needs
+go-on-requires : tie.Need-go-on-requires
+go-on-requires c κs = search needs
 
 returns : tie.Need-returns
 returns c = search (ends-offer, needs)
 
-returns-2 : tie.Need-returns-2
-returns-2 c = search (ends-assign, needs)
-
-returns-3 : tie.Need-returns-3
-returns-3 c = search (ends-iterate, needs)
-
-returns-4 : tie.Need-returns-4
-returns-4 c = search (ends-stop, needs)
-
 same-length : tie.Need-same-length
 same-length c = search needs
-
-returns-5 : tie.Need-returns-5
-returns-5 c = search (ends-write, needs)
 
 same-length-2 : tie.Need-same-length-2
 same-length-2 c = search needs
 
-returns-6 : tie.Need-returns-6
-returns-6 c = search (ends-layout, needs)
+returns-2 : tie.Need-returns-2
+returns-2 c = search (ends-assign, needs)
 
 same-length-3 : tie.Need-same-length-3
 same-length-3 c = search needs
 
-returns-7 : tie.Need-returns-7
-returns-7 c = search (ends-save, needs)
-
 same-length-4 : tie.Need-same-length-4
 same-length-4 c = search needs
 
-returns-8 : tie.Need-returns-8
-returns-8 c = search (ends-skip, needs)
+returns-3 : tie.Need-returns-3
+returns-3 c =
+    let passed = c .before .before .before .before in
+    let told = passed .before .before .before .before in
+    let known = told .before .before in
+    let pre = known .before .before .before .before .before .before .pre in
+    ends-iterate (pre .0) (pre .1 .0) (told .ending2 .given .1) (passed .begin-passes .ensures)
+
+returns-4 : tie.Need-returns-4
+returns-4 c = search (ends-stop, needs)
 
 same-length-5 : tie.Need-same-length-5
 same-length-5 c = search needs
 
-returns-9 : tie.Need-returns-9
-returns-9 c = search (ends-text, needs)
+returns-5 : tie.Need-returns-5
+returns-5 c = search (ends-write, needs)
 
 same-length-6 : tie.Need-same-length-6
 same-length-6 c = search needs
 
-returns-10 : tie.Need-returns-10
-returns-10 c = search (ends-value, needs)
-
 same-length-7 : tie.Need-same-length-7
 same-length-7 c = search needs
 
+same-length-8 : tie.Need-same-length-8
+same-length-8 c = search needs
+
+returns-6 : tie.Need-returns-6
+returns-6 c = search (ends-layout, needs)
+
+same-length-9 : tie.Need-same-length-9
+same-length-9 c = search needs
+
+same-length-10 : tie.Need-same-length-10
+same-length-10 c = search needs
+
+same-length-11 : tie.Need-same-length-11
+same-length-11 c = search needs
+
+returns-7 : tie.Need-returns-7
+returns-7 c = search (ends-save, needs)
+
+same-length-12 : tie.Need-same-length-12
+same-length-12 c = search needs
+
+same-length-13 : tie.Need-same-length-13
+same-length-13 c = search needs
+
+same-length-14 : tie.Need-same-length-14
+same-length-14 c = search needs
+
+returns-8 : tie.Need-returns-8
+returns-8 c = search (ends-skip, needs)
+
+same-length-15 : tie.Need-same-length-15
+same-length-15 c = search needs
+
+same-length-16 : tie.Need-same-length-16
+same-length-16 c = search needs
+
+same-length-17 : tie.Need-same-length-17
+same-length-17 c = search needs
+
+returns-9 : tie.Need-returns-9
+returns-9 c = search (ends-text, needs)
+
+same-length-18 : tie.Need-same-length-18
+same-length-18 c = search needs
+
+same-length-19 : tie.Need-same-length-19
+same-length-19 c = search needs
+
+same-length-20 : tie.Need-same-length-20
+same-length-20 c = search needs
+
+returns-10 : tie.Need-returns-10
+returns-10 c = search (ends-value, needs)
+
+same-length-21 : tie.Need-same-length-21
+same-length-21 c = search needs
+
+same-length-22 : tie.Need-same-length-22
+same-length-22 c = search needs
+
 returns-11 : tie.Need-returns-11
 returns-11 c = search (ends-repeat, needs)
+
+same-length-23 : tie.Need-same-length-23
+same-length-23 c = search needs
+
+same-length-24 : tie.Need-same-length-24
+same-length-24 c = search needs
 
 returns-12 : tie.Need-returns-12
 returns-12 c = search (ends-again, needs)
@@ -153,16 +222,16 @@ finish-code-spec =
     tie.close
     (tie.spec
     enum-told
-    enum-known-ending
+    offer-built-requires enum-known-ending
     assign-requires
     enum-known-ending-2
     begin-passes-requires
     enum-told-2
-    come-to-requires
+    end-with-requires
     enum-known-ending-3
     write-to-requires
     enum-known-ending-4
-    lay-out-requires
+    write-layout-line-requires
     enum-told-3
     save-requires
     enum-told-4
@@ -176,27 +245,44 @@ finish-code-spec =
     enum-told-6
     pass-again-requires
     enum-told-7
-    come-to-requires-2
+    go-back-requires
     enum-told-8
-    come-to-requires-3
+    go-on-requires
     returns
+    same-length
+    same-length-2
     returns-2
+    same-length-3
+    same-length-4
     returns-3
     returns-4
-    same-length
-    returns-5
-    same-length-2
-    returns-6
-    same-length-3
-    returns-7
-    same-length-4
-    returns-8
     same-length-5
-    returns-9
+    returns-5
     same-length-6
-    returns-10
     same-length-7
+    same-length-8
+    returns-6
+    same-length-9
+    same-length-10
+    same-length-11
+    returns-7
+    same-length-12
+    same-length-13
+    same-length-14
+    returns-8
+    same-length-15
+    same-length-16
+    same-length-17
+    returns-9
+    same-length-18
+    same-length-19
+    same-length-20
+    returns-10
+    same-length-21
+    same-length-22
     returns-11
+    same-length-23
+    same-length-24
     returns-12
     returns-13
     returns-14)

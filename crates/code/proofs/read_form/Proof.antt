@@ -1,7 +1,7 @@
 -- read_form: its tests are those of form.
+use borrow.Author.Needs.{needs}
 use mathlib.Core.Path.{_∙_}
 use Rattle.code.proofs.Laws.{chain, forms-as, form-by}
-use borrow.Author.Needs.{needs}
 use Rattle.code.proofs.read_form.Statement.{statement}
 use Rattle.code.proofs.read_form.Tie as tie
 
@@ -17,8 +17,8 @@ returns-2 c = record { is = form-by _ _ _ _ _ ∙ search chain; ranged = tt }
 returns-3 : tie.Need-returns-3
 returns-3 c = record { is = form-by _ _ _ _ _ ∙ search chain; ranged = tt }
 
-sub-t14 : tie.Need-sub-t14
-sub-t14 c = search needs
+cast-t14 : tie.Need-cast-t14
+cast-t14 c = search needs
 
 returns-4 : tie.Need-returns-4
 returns-4 c = record { is = form-by _ _ _ _ _ ∙ search chain; ranged = search needs }
@@ -29,8 +29,8 @@ returns-5 c = record { is = form-by _ _ _ _ _ ∙ search chain; ranged = tt }
 returns-6 : tie.Need-returns-6
 returns-6 c = record { is = form-by _ _ _ _ _ ∙ search chain; ranged = tt }
 
-sub-read-conversion : tie.Need-sub-read-conversion
-sub-read-conversion c = search needs
+cast-read-conversion : tie.Need-cast-read-conversion
+cast-read-conversion c = search needs
 
 read-conversion-requires : tie.Need-read-conversion-requires
 read-conversion-requires c κs = search needs
@@ -46,10 +46,10 @@ read-form-spec =
     returns
     returns-2
     returns-3
-    sub-t14
+    cast-t14
     returns-4
     returns-5
     returns-6
-    sub-read-conversion
+    cast-read-conversion
     read-conversion-requires
     returns-7)

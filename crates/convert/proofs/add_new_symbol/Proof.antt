@@ -22,8 +22,8 @@ enum-known-index c = search needs
 add-number-requires : tie.Need-add-number-requires
 add-number-requires c κs = search needs
 
-add-symbol-requires : tie.Need-add-symbol-requires
-add-symbol-requires c κs = search needs
+count-symbol-requires : tie.Need-count-symbol-requires
+count-symbol-requires c κs = search needs
 
 answer-requires : tie.Need-answer-requires
 answer-requires c κs = search needs
@@ -41,7 +41,9 @@ same-length-3 : tie.Need-same-length-3
 same-length-3 c = search needs
 
 returns-2 : tie.Need-returns-2
-returns-2 c = search (symbol-new, c .before .before .before .before .before .before .before .before .before .before .before .before .before .before .before .before .before .pre .1)
+returns-2 c =
+    let given = c .before .before .before .before .before .before .before .before .before .before .before .before .before .before .before .before .before .pre in
+    search (symbol-new, given .1)
 
 pub add-new-symbol-spec : {M : Type 1} → statement M
 add-new-symbol-spec =
@@ -53,7 +55,7 @@ add-new-symbol-spec =
     stop-requires
     enum-known-index
     add-number-requires
-    add-symbol-requires
+    count-symbol-requires
     answer-requires
     same-length
     returns

@@ -7,17 +7,8 @@ use Rattle.convert.proofs.add_symbol.Tie as tie
 seek-requires : tie.Need-seek-requires
 seek-requires c κs = search needs
 
-add-end : tie.Need-add-end
-add-end c = search needs
-
-sub-append : tie.Need-sub-append
-sub-append c = search needs
-
-part-append-start : tie.Need-part-append-start
-part-append-start c = search needs
-
-part-append-end : tie.Need-part-append-end
-part-append-end c = search needs
+bring-requires : tie.Need-bring-requires
+bring-requires c κs = search needs
 
 append-requires : tie.Need-append-requires
 append-requires c κs = search needs
@@ -32,7 +23,7 @@ same-length-2 : tie.Need-same-length-2
 same-length-2 c = search needs
 
 returns : tie.Need-returns
-returns c = search (symbol-there, c .before .before .before .before .before .before .before .before .before .before .before .before .before .before .pre .1 .0)
+returns c = let given = c .before .before .before .before .before .before .before .before .before .before .before .before .before .pre in search (symbol-there, given .1 .0)
 
 add-new-symbol-requires : tie.Need-add-new-symbol-requires
 add-new-symbol-requires c κs = search (missing, needs)
@@ -51,10 +42,7 @@ add-symbol-spec =
     tie.close
     (tie.spec
     seek-requires
-    add-end
-    sub-append
-    part-append-start
-    part-append-end
+    bring-requires
     append-requires
     answer-requires
     same-length

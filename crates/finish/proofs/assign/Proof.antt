@@ -1,13 +1,8 @@
 -- assign sets the parameter, and the call goes on.
-use mathlib.Core.Path.{_≡_}
-use lib.ListN.{length}
-use Rattle.finish.proofs.Iterating.{assigns}
 use borrow.Author.Needs.{needs}
+use Rattle.finish.proofs.Iterating.{assigns}
 use Rattle.finish.proofs.assign.Statement.{statement}
 use Rattle.finish.proofs.assign.Tie as tie
-
-bytes-long : (c : tie.Start) → length (c .args .line .bytes) ≡ 200
-bytes-long c = search needs
 
 sub-set-param : tie.Need-sub-set-param
 sub-set-param c = search needs
@@ -16,13 +11,19 @@ part-set-param-start : tie.Need-part-set-param-start
 part-set-param-start c = search needs
 
 part-set-param-end : tie.Need-part-set-param-end
-part-set-param-end c = let l = bytes-long (c .before .before) in search needs
+part-set-param-end c = search needs
 
 set-param-requires : tie.Need-set-param-requires
 set-param-requires c κs = search needs
 
-come-to-requires : tie.Need-come-to-requires
-come-to-requires c κs = search needs
+go-on-requires : tie.Need-go-on-requires
+go-on-requires c κs = search needs
+
+same-length : tie.Need-same-length
+same-length c = search needs
+
+same-length-2 : tie.Need-same-length-2
+same-length-2 c = search needs
 
 returns : tie.Need-returns
 returns c = search (assigns, needs)
@@ -35,5 +36,7 @@ assign-spec =
     part-set-param-start
     part-set-param-end
     set-param-requires
-    come-to-requires
+    go-on-requires
+    same-length
+    same-length-2
     returns)

@@ -1,21 +1,30 @@
 -- pass_again begins the next pass or ends the iteration, or ends the run with 17.
-use Rattle.finish.proofs.Iterating.{passes-again}
 use borrow.Author.Needs.{needs}
+use Rattle.finish.proofs.Iterating.{passes-again}
 use Rattle.finish.proofs.pass_again.Statement.{statement}
 use Rattle.finish.proofs.pass_again.Tie as tie
 
 end-pass-requires : tie.Need-end-pass-requires
 end-pass-requires c κs = search needs
 
-turn-after-requires : tie.Need-turn-after-requires
-turn-after-requires c κs = search needs
+go-or-end-requires : tie.Need-go-or-end-requires
+go-or-end-requires c κs = search needs
 
-come-to-requires : tie.Need-come-to-requires
-come-to-requires c κs = search needs
+same-length : tie.Need-same-length
+same-length c = search needs
+
+same-length-2 : tie.Need-same-length-2
+same-length-2 c = search needs
 
 returns : tie.Need-returns
 returns c = search (passes-again, needs)
 
 pub pass-again-spec : {M : Type 1} → statement M
 pass-again-spec =
-    tie.close (tie.spec end-pass-requires turn-after-requires come-to-requires returns)
+    tie.close
+    (tie.spec
+    end-pass-requires
+    go-or-end-requires
+    same-length
+    same-length-2
+    returns)

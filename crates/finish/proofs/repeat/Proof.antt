@@ -1,13 +1,8 @@
 -- repeat begins as many passes as the value says, or ends the run with 15.
-use mathlib.Core.Path.{_≡_}
-use lib.ListN.{length}
-use Rattle.finish.proofs.Iterating.{repeats-fault, repeats}
 use borrow.Author.Needs.{needs}
+use Rattle.finish.proofs.Iterating.{repeats-fault, repeats}
 use Rattle.finish.proofs.repeat.Statement.{statement}
 use Rattle.finish.proofs.repeat.Tie as tie
-
-bytes-long : (c : tie.Start) → length (c .args .line .bytes) ≡ 200
-bytes-long c = search needs
 
 sub-value : tie.Need-sub-value
 sub-value c = search needs
@@ -16,7 +11,7 @@ part-value-start : tie.Need-part-value-start
 part-value-start c = search needs
 
 part-value-end : tie.Need-part-value-end
-part-value-end c = let l = bytes-long (c .before .before .before .before) in search needs
+part-value-end c = search needs
 
 value-requires : tie.Need-value-requires
 value-requires c κs = search needs
@@ -27,8 +22,8 @@ enum-known-v c = search needs
 enum-told : tie.Need-enum-told
 enum-told c = search needs
 
-come-to-requires : tie.Need-come-to-requires
-come-to-requires c κs = search needs
+end-with-requires : tie.Need-end-with-requires
+end-with-requires c κs = search needs
 
 returns : tie.Need-returns
 returns c = search (repeats-fault, needs)
@@ -36,8 +31,11 @@ returns c = search (repeats-fault, needs)
 start-repeat-requires : tie.Need-start-repeat-requires
 start-repeat-requires c κs = search needs
 
-come-to-requires-2 : tie.Need-come-to-requires-2
-come-to-requires-2 c κs = search needs
+go-on-requires : tie.Need-go-on-requires
+go-on-requires c κs = search needs
+
+same-length : tie.Need-same-length
+same-length c = search needs
 
 returns-2 : tie.Need-returns-2
 returns-2 c = search (repeats, needs)
@@ -52,8 +50,9 @@ repeat-spec =
     value-requires
     enum-known-v
     enum-told
-    come-to-requires
+    end-with-requires
     returns
     start-repeat-requires
-    come-to-requires-2
+    go-on-requires
+    same-length
     returns-2)

@@ -1,6 +1,6 @@
 -- save stores the text, or ends the run with 19.
-use Rattle.finish.proofs.Storing.{saves, saves-full}
 use borrow.Author.Needs.{needs}
+use Rattle.finish.proofs.Storing.{saves, saves-full}
 use Rattle.finish.proofs.save.Statement.{statement}
 use Rattle.finish.proofs.save.Tie as tie
 
@@ -13,9 +13,6 @@ param-len-requires-2 c κs = search needs
 add-second : tie.Need-add-second
 add-second c = search needs
 
-slice-aggregate-put-part : tie.Need-slice-aggregate-put-part
-slice-aggregate-put-part c = search needs
-
 put-part-requires : tie.Need-put-part-requires
 put-part-requires c κs = search needs
 
@@ -25,23 +22,20 @@ enum-known-index c = search needs
 set-index-requires : tie.Need-set-index-requires
 set-index-requires c κs = search needs
 
-come-to-requires : tie.Need-come-to-requires
-come-to-requires c κs = search needs
+go-on-requires : tie.Need-go-on-requires
+go-on-requires c κs = search needs
 
 enum-told : tie.Need-enum-told
 enum-told c = search needs
 
-come-to-requires-2 : tie.Need-come-to-requires-2
-come-to-requires-2 c κs = search needs
+end-with-requires : tie.Need-end-with-requires
+end-with-requires c κs = search needs
 
 same-length : tie.Need-same-length
 same-length c = search needs
 
 returns : tie.Need-returns
-returns c =
-    let first = c .before .before .before .before .before .before .before .before .before .before .before .param-len .ensures in
-    let second = c .before .before .before .before .before .before .before .before .before .before .param-len2 .ensures in
-    search (saves, needs)
+returns c = search (saves, needs)
 
 same-length-2 : tie.Need-same-length-2
 same-length-2 c = search needs
@@ -56,13 +50,12 @@ save-spec =
     param-len-requires
     param-len-requires-2
     add-second
-    slice-aggregate-put-part
     put-part-requires
     enum-known-index
     set-index-requires
-    come-to-requires
+    go-on-requires
     enum-told
-    come-to-requires-2
+    end-with-requires
     same-length
     returns
     same-length-2

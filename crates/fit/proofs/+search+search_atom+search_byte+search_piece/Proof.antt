@@ -1,4 +1,4 @@
--- The search finds what the functional search finds, each step its own; the node's height and what is left of the line fall.
+-- The search finds what the functional search finds, each step its own. A call's measure is twice the sum of the node's height and the bytes left, and one more for search itself.
 -- Written by tools/walk with the facts of its answers.
 use mathlib.Core.Path.{_≡_, refl, ap, subst}
 use mathlib.Core.Bool.{true, false, not}
@@ -42,10 +42,10 @@ use Prim.Native.Nat.{ℕ, _+_, _-_, _*_, _<_, _≤_, _^_}
 use lib.ListN.{length}
 use Rattle.nodes.specs.Rows.{code}
 use Rattle.fit.specs.Outcome.{Asks}
-use Rattle.walk.proofs.Walk as Walk
+use Rattle.walk_laws.proofs.Walk as Walk
 use borrow.Author.Tests.{not-true, not-false}
 use Rattle.nodes.specs.Rows.{height}
-use Rattle.fit.proofs.Steps.{first-found, second-found, third-found, asks-node, asks-children, asks-byte, asks-piece, asks-atom, byte-less, piece-less, atom-less, below-nine, atom-before, atom-fits}
+use Rattle.fit.proofs.Steps.{first-found, second-found, third-found, asks-node, asks-children, asks-byte, asks-piece, asks-atom, byte-less, piece-less, atom-less, piece-fits, atom-before, atom-fits}
 use Rattle.fit.proofs.Steps.{byte-none, byte-end, byte-below, piece-none, piece-below, atom-not, atom-none, atom-below}
 use Rattle.fit.proofs.Choose.{call}
 use Rattle.fit.proofs.Outcome as Outcome-T
@@ -68,10 +68,10 @@ use Rattle.fit.proofs.no_piece as g-no-piece
 use Rattle.fit.proofs.no_piece.Symbol as g-no-piece-def
 use Rattle.fit.proofs.no_piece.Symbol.{name as #g-no-piece}
 use Rattle.fit.proofs.no_piece.Met as g-no-piece-thm
-use Rattle.fit.proofs.next_atom as g-next-atom
-use Rattle.fit.proofs.next_atom.Symbol as g-next-atom-def
-use Rattle.fit.proofs.next_atom.Symbol.{name as #g-next-atom}
-use Rattle.fit.proofs.next_atom.Met as g-next-atom-thm
+use Rattle.fit.proofs.find_atom as g-find-atom
+use Rattle.fit.proofs.find_atom.Symbol as g-find-atom-def
+use Rattle.fit.proofs.find_atom.Symbol.{name as #g-find-atom}
+use Rattle.fit.proofs.find_atom.Met as g-find-atom-thm
 use Rattle.fit.proofs.pass_atom as g-pass-atom
 use Rattle.fit.proofs.pass_atom.Symbol as g-pass-atom-def
 use Rattle.fit.proofs.pass_atom.Symbol.{name as #g-pass-atom}
@@ -407,8 +407,8 @@ module _ {M : Type 1} (𝓤 : URA M) (H : Heap 𝓤) (A : Atoms 𝓤) (W : Given
   module _ (C : Calls 𝓤 H) (Λ : Loops 𝓤 H) (fm : FmC 𝓤 H (W .laws) C) (known-node-at : Triple 𝓤 (C #g-node-at)
       (Walk.Of 𝓤 H A g-node-at.ended (g-node-at.clauses 𝓤 H A mem run))) (known-has-element : Triple 𝓤 (C #g-has-element)
       (Walk.Of 𝓤 H A g-has-element.ended (g-has-element.clauses 𝓤 H A mem run))) (known-no-piece : Triple 𝓤 (C #g-no-piece)
-      (Walk.Of 𝓤 H A g-no-piece.ended (g-no-piece.clauses 𝓤 H A mem run))) (known-next-atom : Triple 𝓤 (C #g-next-atom)
-      (Walk.Of 𝓤 H A g-next-atom.ended (g-next-atom.clauses 𝓤 H A mem run))) (known-pass-atom : Triple 𝓤 (C #g-pass-atom)
+      (Walk.Of 𝓤 H A g-no-piece.ended (g-no-piece.clauses 𝓤 H A mem run))) (known-find-atom : Triple 𝓤 (C #g-find-atom)
+      (Walk.Of 𝓤 H A g-find-atom.ended (g-find-atom.clauses 𝓤 H A mem run))) (known-pass-atom : Triple 𝓤 (C #g-pass-atom)
       (Walk.Of 𝓤 H A g-pass-atom.ended (g-pass-atom.clauses 𝓤 H A mem run)))
       (known-search : (y : Walk.Of 𝓤 H A f-search.ended (f-search.clauses 𝓤 H A mem run) .Ghost)
       → μ-search 𝓤 H A mem run y < measure-search-atom m nodes line end node at
@@ -548,7 +548,7 @@ module _ {M : Type 1} (𝓤 : URA M) (H : Heap 𝓤) (A : Atoms 𝓤) (W : Given
         (λ h1. let t1 : (not r2) ≡ false = Walk.is-false _ h1 in
         Walk.skips-then ! $
         -- [κ₀; nodes; the locals; their ends; κ₁; line]
-        -- call 4: next_atom (m, line, end, at)
+        -- call 4: find_atom (m, line, end, at)
         Walk.nothing ! $ Kit.use0 W (‵ ((UInt w64) .own at ((vint w64 at) ∷ []))) (uint-makes 𝓤 H A W w64 at _ (refl, fits-at)) $ Kit.fjoin ! $
         Kit.use0 W (‵ ((UInt w64) .own end ((vint w64 end) ∷ []))) (uint-makes 𝓤 H A W w64 end _ (refl, fits-end)) $ Kit.fjoin ! $
         Kit.move ! (18 ∷ []) $
@@ -557,9 +557,9 @@ module _ {M : Type 1} (𝓤 : URA M) (H : Heap 𝓤) (A : Atoms 𝓤) (W : Given
         Kit.move ! (0 ∷ 2 ∷ []) $ Kit.fjoin ! $
         Kit.use0 W (‵ (Marks-T.the-row .own m ((Marks-L.lowered m) ∷ []))) (LL.makes Marks-T.the-type Marks-L.the-plain 𝓤 H A m _ is-m) $
         Kit.fjoin ! $ Walk.nothing-raw ! $ Kit.move ! (19 ∷ 0 ∷ []) $ Kit.join ! $
-        Kit.use1 W (raw (alive 𝓤 H A g-next-atom.signature (κ₁, tt) (q₁, tt))) (id⊢ 𝓤 _) $
-        Walk.asks ! fm g-next-atom.ended (g-next-atom.clauses 𝓤 H A mem run)
-        (((κ₁, tt), (q₁, tt), tt, (m, (line, (end, (at, tt)))), ((Marks-L.lowered m) ∷ [], (v-search-atom-line ∷ [], ((vint w64 end) ∷ [], ((vint w64 at) ∷ [], tt))))), tt) _ (known-next-atom (((κ₁, tt), (q₁, tt), tt, (m, (line, (end, (at, tt)))), ((Marks-L.lowered m) ∷ [], (v-search-atom-line ∷ [], ((vint w64 end) ∷ [], ((vint w64 at) ∷ [], tt))))), tt)) (factI 𝓤 _ (emp 𝓤) ((pre .low, pre .high))) (λ r ws. id⊢ 𝓤 _)
+        Kit.use1 W (raw (alive 𝓤 H A g-find-atom.signature (κ₁, tt) (q₁, tt))) (id⊢ 𝓤 _) $
+        Walk.asks ! fm g-find-atom.ended (g-find-atom.clauses 𝓤 H A mem run)
+        (((κ₁, tt), (q₁, tt), tt, (m, (line, (end, (at, tt)))), ((Marks-L.lowered m) ∷ [], (v-search-atom-line ∷ [], ((vint w64 end) ∷ [], ((vint w64 at) ∷ [], tt))))), tt) _ (known-find-atom (((κ₁, tt), (q₁, tt), tt, (m, (line, (end, (at, tt)))), ((Marks-L.lowered m) ∷ [], (v-search-atom-line ∷ [], ((vint w64 end) ∷ [], ((vint w64 at) ∷ [], tt))))), tt)) (factI 𝓤 _ (emp 𝓤) ((pre .low, pre .high))) (λ r ws. id⊢ 𝓤 _)
         (Run.and-then ! (Run.load ! (Run.from ! (Run.stop !)) (Run.look ! 5 refl)) (Run.and-then ! (Run.load ! (Run.from ! (Run.stop !))
         (Run.look ! 7 refl)) (Run.and-then ! (Run.load ! (Run.from ! (Run.stop !)) (Run.look ! 8 refl))
         (Run.and-then ! (Run.load ! (Run.from ! (Run.stop !)) (Run.look ! 10 refl)) (Run.no-more !))))) (λ u4 r4 is4′ e4.
@@ -1208,7 +1208,7 @@ module _ {M : Type 1} (𝓤 : URA M) (H : Heap 𝓤) (A : Atoms 𝓤) (W : Given
         (LL.makes Outcome-T.the-type Outcome-L.the-plain 𝓤 H A r3 _ is3) $
         Kit.fjoin ! $ Walk.nothing-raw ! $ Kit.use1 W (raw (alive 𝓤 H A g-store-piece.signature tt tt)) (id⊢ 𝓤 _) $
         Walk.asks ! fm g-store-piece.ended (g-store-piece.clauses 𝓤 H A mem run)
-        ((tt, tt, tt, (r3, (r5, (at, tt))), ((LL.val Outcome-T.the-type Outcome-L.the-laws r3) ∷ [], ((vint w64 r5) ∷ [], ((vint w64 at) ∷ [], tt)))), tt) _ (known-store-piece ((tt, tt, tt, (r3, (r5, (at, tt))), ((LL.val Outcome-T.the-type Outcome-L.the-laws r3) ∷ [], ((vint w64 r5) ∷ [], ((vint w64 at) ∷ [], tt)))), tt)) (factI 𝓤 _ (emp 𝓤) (below-nine pre e1 refl (eqb-false r1 0 t1) e4 e5)) (λ r ws. id⊢ 𝓤 _)
+        ((tt, tt, tt, (r3, (r5, (at, tt))), ((LL.val Outcome-T.the-type Outcome-L.the-laws r3) ∷ [], ((vint w64 r5) ∷ [], ((vint w64 at) ∷ [], tt)))), tt) _ (known-store-piece ((tt, tt, tt, (r3, (r5, (at, tt))), ((LL.val Outcome-T.the-type Outcome-L.the-laws r3) ∷ [], ((vint w64 r5) ∷ [], ((vint w64 at) ∷ [], tt)))), tt)) (factI 𝓤 _ (emp 𝓤) (piece-fits pre e1 refl (eqb-false r1 0 t1) e4 e5 e3)) (λ r ws. id⊢ 𝓤 _)
         (Run.and-then ! (Run.load ! (Run.from ! (Run.stop !)) (Run.look ! 13 refl)) (Run.and-then ! (Run.load ! (Run.from ! (Run.stop !))
         (Run.look ! 16 refl)) (Run.and-then ! (Run.load ! (Run.from ! (Run.stop !)) (Run.look ! 11 refl)) (Run.no-more !)))) (λ u6 r6 is6′ e6.
         Kit.use1 W (raw (emp 𝓤)) (id⊢ 𝓤 _) $ Kit.drop ! $ Kit.drop ! $
@@ -1277,8 +1277,8 @@ unfolding code.search-routine code.search-atom-routine code.search-byte-routine 
     (𝓡 .run))) 𝓜 𝓡 code.env #g-has-element g-has-element-def.routine code.calls-nodes·has-element (g-has-element-thm.met 𝓤 H 𝓜 𝓖 𝓡))
     (cited 𝓤 H (Walk.Of 𝓤 H (𝓖 .A) g-no-piece.ended (g-no-piece.clauses 𝓤 H (𝓖 .A) (𝓜 .mem)
     (𝓡 .run))) 𝓜 𝓡 code.env #g-no-piece g-no-piece-def.routine code.calls-fit·no-piece (g-no-piece-thm.met 𝓤 H 𝓜 𝓖 𝓡))
-    (cited 𝓤 H (Walk.Of 𝓤 H (𝓖 .A) g-next-atom.ended (g-next-atom.clauses 𝓤 H (𝓖 .A) (𝓜 .mem)
-    (𝓡 .run))) 𝓜 𝓡 code.env #g-next-atom g-next-atom-def.routine code.calls-fit·next-atom (g-next-atom-thm.met 𝓤 H 𝓜 𝓖 𝓡))
+    (cited 𝓤 H (Walk.Of 𝓤 H (𝓖 .A) g-find-atom.ended (g-find-atom.clauses 𝓤 H (𝓖 .A) (𝓜 .mem)
+    (𝓡 .run))) 𝓜 𝓡 code.env #g-find-atom g-find-atom-def.routine code.calls-fit·find-atom (g-find-atom-thm.met 𝓤 H 𝓜 𝓖 𝓡))
     (cited 𝓤 H (Walk.Of 𝓤 H (𝓖 .A) g-pass-atom.ended (g-pass-atom.clauses 𝓤 H (𝓖 .A) (𝓜 .mem)
     (𝓡 .run))) 𝓜 𝓡 code.env #g-pass-atom g-pass-atom-def.routine code.calls-fit·pass-atom (g-pass-atom-thm.met 𝓤 H 𝓜 𝓖 𝓡))
     (λ z lt. smaller .0 (μ-search 𝓤 H (𝓖 .A) (𝓜 .mem) (𝓡 .run) z) (subst (λ (m : ℕ). μ-search 𝓤 H (𝓖 .A) (𝓜 .mem) (𝓡 .run) z < m) e lt) z refl)

@@ -40,7 +40,7 @@ use Prim.Native.Nat.{ℕ, _<_, _^_}
 use lib.ListN.{length}
 use Rattle.nodes.specs.Rows.{code}
 use Rattle.fit.specs.Outcome.{Asks}
-use Rattle.walk.proofs.Walk as Walk
+use Rattle.walk_laws.proofs.Walk as Walk
 use Rattle.fit.proofs.Choose.{no-call, call, asks-found}
 use Rattle.fit.proofs.Choice as Choice-T
 use Rattle.fit.proofs.Choice.Laws as Choice-L

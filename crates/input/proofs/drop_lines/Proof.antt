@@ -1,4 +1,5 @@
--- drop_lines passes over input lines, at most those that are left.
+-- drop_lines passes over input lines, at most those that are left: the loop keeps `Dropping`, that with `left` more lines dropped from place `at` on
+-- all n are dropped, and the text after `at` falls.
 use Prim.Native.Nat.{_-_}
 use native.Mathlib.Omega.{arith}
 use lib.ListN.{length}

@@ -1,44 +1,74 @@
 -- end_piece takes the next piece, or gives the parameter its old value.
 use borrow.Author.Needs.{needs}
-use Rattle.iterate.proofs.Passes.{measured-short, piece-goes-on, piece-ends}
+use Rattle.iterate.proofs.Passes.{piece-goes-on, piece-ends}
 use Rattle.iterate.proofs.end_piece.Statement.{statement}
 use Rattle.iterate.proofs.end_piece.Tie as tie
 
-held-len-requires : tie.Need-held-len-requires
-held-len-requires c κs = search needs
+mul-x : tie.Need-mul-x
+mul-x c = search needs
 
-sub-take-pass : tie.Need-sub-take-pass
-sub-take-pass c = search needs
+add-x : tie.Need-add-x
+add-x c = search needs
 
-part-take-pass-start : tie.Need-part-take-pass-start
-part-take-pass-start c = search needs
+add-if1 : tie.Need-add-if1
+add-if1 c = search needs
 
-part-take-pass-end : tie.Need-part-take-pass-end
-part-take-pass-end c = search needs
+mul-if1 : tie.Need-mul-if1
+mul-if1 c = search needs
+
+slice-read-if1 : tie.Need-slice-read-if1
+slice-read-if1 c = search needs
+
+add-if1-2 : tie.Need-add-if1-2
+add-if1-2 c = search needs
+
+mul-if1-2 : tie.Need-mul-if1-2
+mul-if1-2 c = search needs
+
+slice-read-if1-2 : tie.Need-slice-read-if1-2
+slice-read-if1-2 c = search needs
 
 take-pass-requires : tie.Need-take-pass-requires
-take-pass-requires c κs = (search needs, ((search needs, search needs), (search needs, measured-short (c .before .before .before .before .held-len .ensures))))
+take-pass-requires c κs = search needs
+
+same-length : tie.Need-same-length
+same-length c = search needs
+
+same-length-2 : tie.Need-same-length-2
+same-length-2 c = search needs
 
 returns : tie.Need-returns
 returns c = search (piece-goes-on, needs)
 
-held-len-requires-2 : tie.Need-held-len-requires-2
-held-len-requires-2 c κs = search needs
+mul-d : tie.Need-mul-d
+mul-d c = search needs
 
-exit-requires : tie.Need-exit-requires
-exit-requires c κs = search needs
+slice-read-d : tie.Need-slice-read-d
+slice-read-d c = search needs
 
-sub-set-param : tie.Need-sub-set-param
-sub-set-param c = search needs
+add-old : tie.Need-add-old
+add-old c = search needs
 
-part-set-param-start : tie.Need-part-set-param-start
-part-set-param-start c = search needs
+mul-old : tie.Need-mul-old
+mul-old c = search needs
 
-part-set-param-end : tie.Need-part-set-param-end
-part-set-param-end c = search needs
+slice-read-old : tie.Need-slice-read-old
+slice-read-old c = search needs
 
-set-param-requires : tie.Need-set-param-requires
-set-param-requires c κs = search needs
+mul-regain : tie.Need-mul-regain
+mul-regain c = search needs
+
+add-regain : tie.Need-add-regain
+add-regain c = search needs
+
+regain-requires : tie.Need-regain-requires
+regain-requires c κs = search needs
+
+same-length-3 : tie.Need-same-length-3
+same-length-3 c = search needs
+
+same-length-4 : tie.Need-same-length-4
+same-length-4 c = search needs
 
 returns-2 : tie.Need-returns-2
 returns-2 c = search (piece-ends, needs)
@@ -47,16 +77,26 @@ pub end-piece-spec : {M : Type 1} → statement M
 end-piece-spec =
     tie.close
     (tie.spec
-    held-len-requires
-    sub-take-pass
-    part-take-pass-start
-    part-take-pass-end
+    mul-x
+    add-x
+    add-if1
+    mul-if1
+    slice-read-if1
+    add-if1-2
+    mul-if1-2
+    slice-read-if1-2
     take-pass-requires
+    same-length
+    same-length-2
     returns
-    held-len-requires-2
-    exit-requires
-    sub-set-param
-    part-set-param-start
-    part-set-param-end
-    set-param-requires
+    mul-d
+    slice-read-d
+    add-old
+    mul-old
+    slice-read-old
+    mul-regain
+    add-regain
+    regain-requires
+    same-length-3
+    same-length-4
     returns-2)

@@ -16,11 +16,17 @@ move-to-requires c κs = search needs
 returns : tie.Need-returns
 returns c = search (repeat-skips, needs)
 
-sub-t10 : tie.Need-sub-t10
-sub-t10 c = search needs
+sub-set-iteration : tie.Need-sub-set-iteration
+sub-set-iteration c = search needs
 
-enter-requires : tie.Need-enter-requires
-enter-requires c κs = search needs
+set-iteration-requires : tie.Need-set-iteration-requires
+set-iteration-requires c κs = search needs
+
+add-t12 : tie.Need-add-t12
+add-t12 c = search needs
+
+same-length : tie.Need-same-length
+same-length c = search needs
 
 returns-2 : tie.Need-returns-2
 returns-2 c = search (repeat-begins, needs)
@@ -33,6 +39,8 @@ start-repeat-spec =
     past-loop-requires
     move-to-requires
     returns
-    sub-t10
-    enter-requires
+    sub-set-iteration
+    set-iteration-requires
+    add-t12
+    same-length
     returns-2)

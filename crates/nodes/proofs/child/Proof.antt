@@ -1,4 +1,4 @@
--- child finds the first child with the element: the loop keeps `Seek`, and the children left fall.
+-- child finds the first child with the element. The loop keeps `Seek`: that child is the first such node from j on before `last`, if any. The measure is `last` less j.
 -- Written by tools/walk with the facts of its answers.
 use mathlib.Core.Path.{_≡_, refl, ap, subst}
 use mathlib.Core.Bool.{true, false}
@@ -39,7 +39,7 @@ use denote.Memory.{pointee}
 use Prim.Native.Nat.{ℕ, _+_, _-_, _<_, _≤_, _^_}
 use lib.ListN.{length}
 use Rattle.nodes.specs.Rows.{firstOf, countOf}
-use Rattle.walk.proofs.Walk as Walk
+use Rattle.walk_laws.proofs.Walk as Walk
 use Rattle.nodes.proofs.Rows.{Seek, seek-start, seek-here, seek-on, seek-none}
 use Rattle.nodes.specs.declared.Node.{Node}
 use Rattle.nodes.proofs.Node as Node-T

@@ -1,8 +1,7 @@
 -- node_at gives the element at its place: a walk of its code, by hand. The borrow is looked into, one element is read, and the borrow is shut as it was.
 -- Nothing is had of the parameters at exit (`stay-dropped`): none is a `&mut`, so nothing is said of one.
--- Assumes nothing.
-use mathlib.Core.Path.{_≡_, refl, sym}
-use Prim.Native.Nat.{ℕ, _<_, _^_, _*_, _+_}
+use mathlib.Core.Path.{refl, sym}
+use Prim.Native.Nat.{ℕ, _<_, _^_, _*_}
 use native.Mathlib.Omega.{arith}
 use mathlib.Core.List.{List, [], _∷_}
 use lib.ListN.{length, getD}
@@ -33,7 +32,7 @@ use denote.Triple.Entry.{onEntry}
 use denote.Triple.Spec.{Meets, tripleOf}
 use denote.Triple.Table.{entered}
 use denote.Triple.Walked.{needs}
-use Rattle.walk.proofs.Walk.{Of, Ends, leave, thin, freed}
+use Rattle.walk_laws.proofs.Walk.{Of, Ends, leave, thin, freed}
 use Rattle.nodes.specs.Rows.{noNode}
 use Rattle.nodes.specs.declared.Node.{Node}
 use Rattle.nodes.proofs.Node as T
@@ -46,7 +45,8 @@ use Rattle.nodes.proofs.node_at.Code as code
 abbrev R : RattleType
 R = T.the-row
 
-module _ {M : Type 1} (𝓤 : URA M) (H : Heap 𝓤) (A : Atoms 𝓤) (W : Given 𝓤 H A) (mem : Memory → SProp 𝓤) (run : Routine → Fun 𝓤) (κ : Lft) (q : Share) (b o : ℕ) (γ : GName) (ys : List Node) (i : ℕ) where
+module _ {M : Type 1} (𝓤 : URA M) (H : Heap 𝓤) (A : Atoms 𝓤) (W : Given 𝓤 H A) (mem : Memory → SProp 𝓤) (run : Routine → Fun 𝓤) (κ : Lft) (q : Share) (b o : ℕ) (γ : GName)
+    (ys : List Node) (i : ℕ) where
   abbrev x : RefT (List Node)
   x = record { ptr = (b, o); name = γ; now = ys }
 
@@ -60,12 +60,14 @@ module _ {M : Type 1} (𝓤 : URA M) (H : Heap 𝓤) (A : Atoms 𝓤) (W : Given
   bound = (((κ, tt), (q, tt), tt, (x, (i, tt)), (v ∷ [], (vint w64 i ∷ [], tt))), tt)
 
   module _ (C : Calls 𝓤 H) (Λ : Loops 𝓤 H) where
-    walk : Room R (length ys) → i < 2 ^ 64 → i < length ys → ent 𝓤 (onEntry 𝓤 H A f.signature (κ, tt) (q, tt) (x, (i, tt)) (v ∷ [], (vint w64 i ∷ [], tt))) (WpFn 𝓤 H C Λ code.function (v ∷ vint w64 i ∷ []) (Ends 𝓤 H A W f.ended (f.clauses 𝓤 H A mem run) bound))
+    walk : Room R (length ys) → i < 2 ^ 64 → i < length ys → ent 𝓤 (onEntry 𝓤 H A f.signature (κ, tt) (q, tt) (x, (i, tt)) (v ∷ [], (vint w64 i ∷ [], tt)))
+        (WpFn 𝓤 H C Λ code.function (v ∷ vint w64 i ∷ []) (Ends 𝓤 H A W f.ended (f.clauses 𝓤 H A mem run) bound))
     walk gn gi l =
         let far : i * 12 < 2 ^ 64 = omega (arith, gn .1) in
         qed W ((‵ (flft κ q) ⊛ ‵ ftrue) ∷ ‵ (owns (ShrSlice (named 0) κ R ∷ usize ∷ []) (x, (i, tt)) (v ∷ [], (vint w64 i ∷ [], tt))) ∷ []) ∵
         -- of what the slice owns the fractured borrow is kept, beside the token
-        move ! (1 ∷ []) $ fsplit ! $ move ! (1 ∷ []) $ drop ! $ fsplit ! $ drop ! $ fsplit ! $ drop ! $ move ! (1 ∷ []) $ split ! $ move ! (2 ∷ 0 ∷ []) $ enter ! C Λ code.function (v ∷ vint w64 i ∷ []) _ $
+        move ! (1 ∷ []) $ fsplit ! $ move ! (1 ∷ []) $ drop ! $ fsplit ! $ drop ! $ fsplit ! $ drop ! $ move ! (1 ∷ []) $ split ! $ move ! (2 ∷ 0 ∷ []) $
+        enter ! C Λ code.function (v ∷ vint w64 i ∷ []) _ $
         alloc1 ! (λ l₀. alloc1 ! (λ l₁. alloc1 ! (λ l₂. alloc1 ! (λ l₃. alloc1 ! (λ l₄. alloc1 ! (λ l₅. alloc0 ! $ params1 ! $
         pass1 ! (init ! 8 refl (tt, (tt, (record { fits = gn .0 }, tt)))) $ pass1 ! (init ! 6 refl (tt, record { fits = gi })) $ pass0 ! $
         assigns ! (bin ! (load ! (from ! (stop !)) (look ! 6 refl)) (lit ! tt) (record { fits = far })) (from ! (stop !)) (init ! 4 refl (tt, record { fits = far })) $

@@ -3,7 +3,7 @@ use mathlib.Core.Path.{refl}
 use lib.Dec.{lit<}
 use lib.IntN.{pos, negℤ, +ℤ-idl}
 use mir.Facts.{toZ-ofZ}
-use Rattle.number.proofs.Signed.{told, widens, wide, sum-fits, difference-fits, product-fits, quotient-fits, by-zero, by-other, divides}
+use Rattle.number.proofs.Signed.{told, widens, wide, sum-fits, difference-fits, product-fits, quotient-fits, by-zero, by-other, divides, gives-value}
 use borrow.Author.Needs.{needs}
 use Rattle.number.proofs.apply.Statement.{statement}
 use Rattle.number.proofs.apply.Tie as tie
@@ -63,7 +63,7 @@ narrow-requires-5 : tie.Need-narrow-requires-5
 narrow-requires-5 c κs = search needs
 
 returns : tie.Need-returns
-returns c = rw (c .enum-told .given .1, told (c .before .before .fits .b)) (record { is = refl; fits = c .before .before .fits .b .sfits })
+returns c = rw (c .enum-told .given .1, told (c .before .before .fits .b)) (gives-value refl (c .before .before .fits .b .sfits))
 
 returns-2 : tie.Need-returns-2
 returns-2 c = rw (c .before .enum-told2 .given .1) (rw (toZ-ofZ (sub-narrow (c .before)), wide (c .before .before .before .fits .b), +ℤ-idl (negℤ (c .before .before .before .args .b))) at (c .narrow .ensures))
@@ -78,7 +78,7 @@ returns-5 : tie.Need-returns-5
 returns-5 c = rw (c .before .enum-told5 .given .1) (rw (toZ-ofZ (mul-narrow (c .before)), wide (c .before .before .before .fits .a), wide (c .before .before .before .fits .b)) at (c .narrow4 .ensures))
 
 returns-6 : tie.Need-returns-6
-returns-6 c = rw (c .before .enum-told6 .given .1, by-zero (c .before .before .before .args .a) (c .before .before .before .args .b) (c .before .before .before .fits .b) (c .if1 .taken)) (record { is = refl; fits = tt })
+returns-6 c = rw (c .before .enum-told6 .given .1, by-zero (c .before .before .before .args .a) (c .before .before .before .args .b) (c .before .before .before .fits .b) (c .if1 .taken)) (gives-value refl tt)
 
 returns-7 : tie.Need-returns-7
 returns-7 c =

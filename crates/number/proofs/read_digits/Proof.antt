@@ -3,13 +3,13 @@ use borrow.Author.Needs.{needs}
 use Prim.Native.Nat.{_-_}
 use native.Mathlib.Omega.{arith}
 use lib.ListN.{length}
-use Rattle.number.specs.Run.{Reading}
+use Rattle.number.specs.Run.{DigitsRead}
 use Rattle.number.proofs.Digits.{reading-none, reading-digit, reading-more, reading-other, reading-ended}
 use Rattle.number.proofs.read_digits.Statement.{statement}
 use Rattle.number.proofs.read_digits.Tie as tie
 
 abbrev Inv-loop : tie.InvT-loop
-Inv-loop s at amount₀ i₀ amount i = Reading s at amount i
+Inv-loop s at amount₀ i₀ amount i = DigitsRead s at amount i
 
 abbrev μ-loop : tie.MeasureT-loop
 μ-loop s at amount₀ i₀ amount i = length s - i

@@ -1,4 +1,5 @@
--- take_atoms takes atom after atom: the loop keeps `Taking`, and what is left of the line falls.
+-- take_atoms takes atom after atom. The loop keeps `Taking`: what the pass takes from `at` on is the bytes from `at` to i and then the
+-- piece from i on. The measure is the length of the line less i.
 use Prim.Native.Nat.{_-_}
 use borrow.Author.Needs.{needs}
 use lib.ListN.{length}

@@ -45,9 +45,10 @@ use denote.Signature.{plain, shrSliceOf}
 use Prim.Native.Nat.{ℕ, _≤_}
 use lib.ListN.{length}
 use Rattle.prepare.specs.Prepares.{LoadsAll}
-use Rattle.walk.proofs.Walk as Walk
-use Rattle.walk.proofs.Again as Again
-use Rattle.walk.proofs.Arrays as Arrays
+use Rattle.model.specs.Limits.{nodesMost}
+use Rattle.walk_laws.proofs.Walk as Walk
+use Rattle.walk_laws.proofs.Again as Again
+use Rattle.walk_laws.proofs.Arrays as Arrays
 use borrow.Author.Tests.{not-true, not-false}
 use Rattle.prepare.proofs.Trees.{can-build, prepared, refused}
 use Rattle.load.proofs.Loading as Loading-T
@@ -101,8 +102,8 @@ module _ {M : Type 1} (𝓤 : URA M) (H : Heap 𝓤) (A : Atoms 𝓤) (W : Given
       (Walk.Of 𝓤 H A g-build.ended (g-build.clauses 𝓤 H A mem run))) where
     walk-build-tree : (is-text : Is T-text text (v-text ∷ [])) → (is-nodes : Is T-nodes nodes (v-nodes ∷ []))
         → (is-t : Is Tables-T.the-row t ((LL.val Tables-T.the-type Tables-L.the-laws t) ∷ []))
-        → (pre : (2048 ≤ length (now nodes)) × LoadsAll (now text) t) → ent 𝓤 (onEntry 𝓤 H A f-build-tree.signature (κ₀, (κ₁, tt)) (q₀, (q₁, tt))
-        (text, (nodes, (t, tt))) (v-text ∷ [], (v-nodes ∷ [], ((LL.val Tables-T.the-type Tables-L.the-laws t) ∷ [], tt))))
+        → (pre : (nodesMost ≤ length (now nodes)) × LoadsAll (now text) t) → ent 𝓤 (onEntry 𝓤 H A f-build-tree.signature (κ₀, (κ₁, tt))
+        (q₀, (q₁, tt)) (text, (nodes, (t, tt))) (v-text ∷ [], (v-nodes ∷ [], ((LL.val Tables-T.the-type Tables-L.the-laws t) ∷ [], tt))))
         (WpFn 𝓤 H C Λ code.function (v-text ∷ v-nodes ∷ (LL.val Tables-T.the-type Tables-L.the-laws t) ∷ []) Post)
     walk-build-tree is-text is-nodes is-t pre =
         Kit.qed W (raw (alive 𝓤 H A f-build-tree.signature (κ₀, (κ₁, tt)) (q₀, (q₁, tt))) ∷ ‵ (owns (T-text ∷ T-nodes ∷ Tables-T.the-row ∷ [])
@@ -111,19 +112,15 @@ module _ {M : Type 1} (𝓤 : URA M) (H : Heap 𝓤) (A : Atoms 𝓤) (W : Given
         Kit.move ! (2 ∷ []) $ Kit.use1 W (‵ (flft κ₀ q₀) ⊛ (‵ (flft κ₁ q₁) ⊛ (raw (emp 𝓤)))) (id⊢ 𝓤 _) $ Kit.split ! $ Kit.move ! (1 ∷ []) $
         Kit.split ! $ Kit.move ! (1 ∷ []) $ Kit.drop ! $
         Run.enter ! C Λ code.function (v-text ∷ v-nodes ∷ (LL.val Tables-T.the-type Tables-L.the-laws t) ∷ []) Post $
-        Run.alloc1 ! (λ l₀. Run.alloc1 ! (λ l₁. Run.alloc1 ! (λ l₂. Run.alloc1 ! (λ l₃. Run.alloc1 ! (λ l₄. Run.alloc1 ! (λ l₅. Run.alloc1 ! (λ l₆. Run.alloc1 ! (λ l₇. Run.alloc1 ! (λ l₈. Run.alloc1 ! (λ l₉. Run.alloc1 ! (λ l₁₀. Run.alloc1 ! (λ l₁₁. Run.alloc1 ! (λ l₁₂. Run.alloc1 ! (λ l₁₃. Run.alloc1 ! (λ l₁₄.
-        let E : Env 𝓤 H = Walk.at-addresses (code.function .locals) (l₀ ∷ l₁ ∷ l₂ ∷ l₃ ∷ l₄ ∷ l₅ ∷ l₆ ∷ l₇ ∷ l₈ ∷ l₉ ∷ l₁₀ ∷ l₁₁ ∷ l₁₂ ∷ l₁₃ ∷ l₁₄ ∷
-        []) in
-        Kit.move ! (28 ∷ 29 ∷ 26 ∷ 27 ∷ 24 ∷ 25 ∷ 22 ∷ 23 ∷ 20 ∷ 21 ∷ 18 ∷ 19 ∷ 16 ∷ 17 ∷ 14 ∷ 15 ∷ 12 ∷ 13 ∷ 10 ∷ 11 ∷ 8 ∷ 9 ∷ 6 ∷ 7 ∷ 4 ∷ 5 ∷ 2 ∷
-        3 ∷ 0 ∷ 1 ∷ []) $
+        Run.alloc1 ! (λ l₀. Run.alloc1 ! (λ l₁. Run.alloc1 ! (λ l₂. Run.alloc1 ! (λ l₃. Run.alloc1 ! (λ l₄. Run.alloc1 ! (λ l₅. Run.alloc1 ! (λ l₆. Run.alloc1 ! (λ l₇. Run.alloc1 ! (λ l₈. Run.alloc1 ! (λ l₉. Run.alloc1 ! (λ l₁₀. Run.alloc1 ! (λ l₁₁.
+        let E : Env 𝓤 H = Walk.at-addresses (code.function .locals) (l₀ ∷ l₁ ∷ l₂ ∷ l₃ ∷ l₄ ∷ l₅ ∷ l₆ ∷ l₇ ∷ l₈ ∷ l₉ ∷ l₁₀ ∷ l₁₁ ∷ []) in
+        Kit.move ! (22 ∷ 23 ∷ 20 ∷ 21 ∷ 18 ∷ 19 ∷ 16 ∷ 17 ∷ 14 ∷ 15 ∷ 12 ∷ 13 ∷ 10 ∷ 11 ∷ 8 ∷ 9 ∷ 6 ∷ 7 ∷ 4 ∷ 5 ∷ 2 ∷ 3 ∷ 0 ∷ 1 ∷ []) $
         Walk.gathers ! (Walk.bare tyUnit l₀ ∷ Walk.bare Y-text l₁ ∷ Walk.bare Y-nodes l₂ ∷ Walk.bare Tables-L.mir l₃ ∷ Walk.bare Loading-L.mir l₄ ∷
-        Walk.bare (tyArray (tyInt w64) 128) l₅ ∷ Walk.bare (tyArray (tyInt w64) 128) l₆ ∷ Walk.bare tyBool l₇ ∷ Walk.bare (tyInt w64) l₈ ∷
-        Walk.bare (tyRef erased imm (pointee (Array (UInt w64) 128 .written))) l₉ ∷
-        Walk.bare (sliceTy (tyRef erased imm (pointee ((UInt w64) .written)))) l₁₀ ∷
-        Walk.bare (tyRef erased imm (pointee (Array (UInt w64) 128 .written))) l₁₁ ∷
-        Walk.bare (sliceTy (tyRef erased imm (pointee ((UInt w64) .written)))) l₁₂ ∷
-        Walk.bare (tyRef erased mut (pointee (Node-T.the-row .written))) l₁₃ ∷
-        Walk.bare (sliceTy (tyRef erased mut (pointee (Node-T.the-row .written)))) l₁₄ ∷ []) (‵ (flft κ₁ q₁) ∷ ‵ (flft κ₀ q₀) ∷
+        Walk.bare (tyArray (tyInt w64) 512) l₅ ∷ Walk.bare tyBool l₆ ∷ Walk.bare (tyInt w64) l₇ ∷
+        Walk.bare (tyRef erased imm (pointee (Array (UInt w64) 512 .written))) l₈ ∷
+        Walk.bare (sliceTy (tyRef erased imm (pointee ((UInt w64) .written)))) l₉ ∷
+        Walk.bare (tyRef erased mut (pointee (Node-T.the-row .written))) l₁₀ ∷
+        Walk.bare (sliceTy (tyRef erased mut (pointee (Node-T.the-row .written)))) l₁₁ ∷ []) (‵ (flft κ₁ q₁) ∷ ‵ (flft κ₀ q₀) ∷
         ‵ (T-nodes .own nodes (sliceVal (nodes .ptr) (length (nodes .now)) ∷ [])) ∷ ‵ (T-text .own text (sliceVal (text .ptr) (length (text .now)) ∷
         [])) ∷ []) (λ Fd ed.
         Run.alloc0 ! $ Run.params1 ! $ Run.pass1 ! (Run.init ! 1 refl (shr-slice-lawful 𝓤 H A W (named 0) κ₀ (UInt w8) .typed text _ is-text .0)) $
@@ -133,22 +130,19 @@ module _ {M : Type 1} (𝓤 : URA M) (H : Heap 𝓤) (A : Atoms 𝓤) (W : Given
         (Run.from ! (Run.stop !))
         (Run.init ! 4 refl (LL.lawful Loading-T.the-type Loading-L.the-laws 𝓤 H A W .typed (t .loading) _ (LL.owed Tables-T.the-type Tables-L.the-laws t _ is-t .0) .0)) $
         Run.assigns ! (Run.bin ! (Run.load ! (Run.from ! (Run.fld ! refl (Run.stop !))) (Part.look-in ! 4 (Part.sub ! 0 refl (Part.whole !))))
-        (Run.lit ! tt) tt) (Run.from ! (Run.stop !)) (Run.init ! 7 refl ((tt, tt))) $
-        Walk.first-then ! $ Run.branches ! (Run.load ! (Run.from ! (Run.stop !)) (Run.look ! 7 refl))
+        (Run.lit ! tt) tt) (Run.from ! (Run.stop !)) (Run.init ! 6 refl ((tt, tt))) $
+        Walk.first-then ! $ Run.branches ! (Run.load ! (Run.from ! (Run.stop !)) (Run.look ! 6 refl))
         (λ h1. let t1 : (not (eqb ((t .loading) .number) 0)) ≡ true = Walk.is-true _ h1 in
         Run.assigns ! (Run.of-opd ! (Run.unit-lit !)) (Run.from ! (Run.stop !)) (Run.init ! 0 refl ((tt, tt))) $
         Run.returns-within ! Post (Walk.through 𝓤 H C Λ E _ _ Post refl) (Run.look ! 0 refl) $
         Walk.frees-gathered ! (Walk.full tyUnit l₀ vunit ∷ Walk.full Y-text l₁ (sliceVal (text .ptr) (length (text .now))) ∷
         Walk.full Y-nodes l₂ (sliceVal (nodes .ptr) (length (nodes .now))) ∷
         Walk.full Tables-L.mir l₃ (LL.val Tables-T.the-type Tables-L.the-laws t) ∷ Walk.full Loading-L.mir l₄ (Loading-L.lowered (t .loading)) ∷
-        Walk.bare (tyArray (tyInt w64) 128) l₅ ∷ Walk.bare (tyArray (tyInt w64) 128) l₆ ∷
-        Walk.full tyBool l₇ (vbool (not (eqb ((t .loading) .number) 0))) ∷ Walk.bare (tyInt w64) l₈ ∷
-        Walk.bare (tyRef erased imm (pointee (Array (UInt w64) 128 .written))) l₉ ∷
-        Walk.bare (sliceTy (tyRef erased imm (pointee ((UInt w64) .written)))) l₁₀ ∷
-        Walk.bare (tyRef erased imm (pointee (Array (UInt w64) 128 .written))) l₁₁ ∷
-        Walk.bare (sliceTy (tyRef erased imm (pointee ((UInt w64) .written)))) l₁₂ ∷
-        Walk.bare (tyRef erased mut (pointee (Node-T.the-row .written))) l₁₃ ∷
-        Walk.bare (sliceTy (tyRef erased mut (pointee (Node-T.the-row .written)))) l₁₄ ∷ []) Fd ed (‵ (flft κ₁ q₁) ∷ ‵ (flft κ₀ q₀) ∷
+        Walk.bare (tyArray (tyInt w64) 512) l₅ ∷ Walk.full tyBool l₆ (vbool (not (eqb ((t .loading) .number) 0))) ∷ Walk.bare (tyInt w64) l₇ ∷
+        Walk.bare (tyRef erased imm (pointee (Array (UInt w64) 512 .written))) l₈ ∷
+        Walk.bare (sliceTy (tyRef erased imm (pointee ((UInt w64) .written)))) l₉ ∷
+        Walk.bare (tyRef erased mut (pointee (Node-T.the-row .written))) l₁₀ ∷
+        Walk.bare (sliceTy (tyRef erased mut (pointee (Node-T.the-row .written)))) l₁₁ ∷ []) Fd ed (‵ (flft κ₁ q₁) ∷ ‵ (flft κ₀ q₀) ∷
         ‵ (T-nodes .own nodes (sliceVal (nodes .ptr) (length (nodes .now)) ∷ [])) ∷ ‵ (T-text .own text (sliceVal (text .ptr) (length (text .now)) ∷
         [])) ∷ []) $
         Kit.use0 W (‵ (Nothing .own tt (vunit ∷ []))) (nothing-makes 𝓤 H A W tt _ refl) $ Kit.move ! (3 ∷ []) $
@@ -160,138 +154,107 @@ module _ {M : Type 1} (𝓤 : URA M) (H : Heap 𝓤) (A : Atoms 𝓤) (W : Given
         Kit.by ! (Walk.leave-by 𝓤 H A W f-build-tree.ended (f-build-tree.clauses 𝓤 H A mem run) stayed-build-tree bound vunit tt (tt, ((nodes .now), (tt, tt))) (tt, (refl, (tt, tt))) (factI 𝓤 _ (emp 𝓤) (refused (pre .1) (eqb-false (t .loading .number) 0 (not-true _ t1))))))
         (λ h1. let t1 : (not (eqb ((t .loading) .number) 0)) ≡ false = Walk.is-false _ h1 in
         Walk.skips-then ! $
-        let isa5 : Is (Array (UInt w64) 128) (t .starts) ((arrayVal (map (λ (x : ℕ). (vint w64 x)) (map (λ (x : ℕ). x) (t .starts)))) ∷
-        []) = subst (λ (xs : List ℕ). Is (Array (UInt w64) 128) xs ((arrayVal (map (λ (x : ℕ). (vint w64 x)) (map (λ (x : ℕ). x) (t .starts)))) ∷
-        [])) (map-id (t .starts)) (LL.owed Tables-T.the-type Tables-L.the-laws t _ is-t .1 .0) in
-        Kit.use0 W (‵ (Array (UInt w64) 128 .own (t .starts) ((arrayVal (map (λ (x : ℕ). (vint w64 x)) (map (λ (x : ℕ). x) (t .starts)))) ∷ [])))
-        (array-makes 𝓤 H A W (UInt w64) (uint-makes 𝓤 H A W w64) 128 (t .starts) _ isa5) $
+        let isa5 : Is (Array (UInt w64) 512) (t .table) ((arrayVal (map (λ (x : ℕ). (vint w64 x)) (map (λ (x : ℕ). x) (t .table)))) ∷
+        []) = subst (λ (xs : List ℕ). Is (Array (UInt w64) 512) xs ((arrayVal (map (λ (x : ℕ). (vint w64 x)) (map (λ (x : ℕ). x) (t .table)))) ∷
+        [])) (map-id (t .table)) (LL.owed Tables-T.the-type Tables-L.the-laws t _ is-t .1 .0) in
+        Kit.use0 W (‵ (Array (UInt w64) 512 .own (t .table) ((arrayVal (map (λ (x : ℕ). (vint w64 x)) (map (λ (x : ℕ). x) (t .table)))) ∷ [])))
+        (array-makes 𝓤 H A W (UInt w64) (uint-makes 𝓤 H A W w64) 512 (t .table) _ isa5) $
         Run.assigns ! (Run.of-opd ! (Run.load ! (Run.from ! (Run.fld ! refl (Run.stop !))) (Part.look-in ! 4 (Part.sub ! 1 refl (Part.whole !)))))
-        (Run.from ! (Run.stop !)) (Run.init ! 6 refl (array-lawful 𝓤 H A W (UInt w64) (uint-lawful 𝓤 H A W w64) 128 .typed (t .starts) _ isa5 .0)) $
-        let isa6 : Is (Array (UInt w64) 128) (t .lens) ((arrayVal (map (λ (x : ℕ). (vint w64 x)) (map (λ (x : ℕ). x) (t .lens)))) ∷
-        []) = subst (λ (xs : List ℕ). Is (Array (UInt w64) 128) xs ((arrayVal (map (λ (x : ℕ). (vint w64 x)) (map (λ (x : ℕ). x) (t .lens)))) ∷ []))
-        (map-id (t .lens)) (LL.owed Tables-T.the-type Tables-L.the-laws t _ is-t .1 .1 .0) in
-        Kit.use0 W (‵ (Array (UInt w64) 128 .own (t .lens) ((arrayVal (map (λ (x : ℕ). (vint w64 x)) (map (λ (x : ℕ). x) (t .lens)))) ∷ [])))
-        (array-makes 𝓤 H A W (UInt w64) (uint-makes 𝓤 H A W w64) 128 (t .lens) _ isa6) $
-        Run.assigns ! (Run.of-opd ! (Run.load ! (Run.from ! (Run.fld ! refl (Run.stop !))) (Part.look-in ! 5 (Part.sub ! 2 refl (Part.whole !)))))
-        (Run.from ! (Run.stop !)) (Run.init ! 8 refl (array-lawful 𝓤 H A W (UInt w64) (uint-lawful 𝓤 H A W w64) 128 .typed (t .lens) _ isa6 .0)) $
-        Run.assigns ! (Run.addr ! (Run.from ! (Run.stop !))) (Run.from ! (Run.stop !)) (Run.init ! 11 refl ((tt, tt))) $
-        Run.assigns ! (Part.agg ! (Run.and-then ! (Run.load ! (Run.from ! (Run.stop !)) (Run.look ! 11 refl)) (Run.and-then ! (Run.lit ! tt)
-        (Run.no-more !)))) (Run.from ! (Run.stop !)) (Run.init ! 12 refl ((tt, (tt, (record { fits = lit< tt }, tt))))) $
-        Kit.rewrite ! 12 (λ (m : ℕ). ‵ (fat fullShare (sliceTy (tyRef erased imm (pointee ((UInt w64) .written)))) l₁₀ 0 (sliceVal (l₅, 0) m)))
+        (Run.from ! (Run.stop !)) (Run.init ! 6 refl (array-lawful 𝓤 H A W (UInt w64) (uint-lawful 𝓤 H A W w64) 512 .typed (t .table) _ isa5 .0)) $
+        Run.assigns ! (Run.addr ! (Run.from ! (Run.stop !))) (Run.from ! (Run.stop !)) (Run.init ! 9 refl ((tt, tt))) $
+        Run.assigns ! (Part.agg ! (Run.and-then ! (Run.load ! (Run.from ! (Run.stop !)) (Run.look ! 9 refl)) (Run.and-then ! (Run.lit ! tt)
+        (Run.no-more !)))) (Run.from ! (Run.stop !)) (Run.init ! 10 refl ((tt, (tt, (record { fits = lit< tt }, tt))))) $
+        Kit.rewrite ! 10 (λ (m : ℕ). ‵ (fat fullShare (sliceTy (tyRef erased imm (pointee ((UInt w64) .written)))) l₉ 0 (sliceVal (l₅, 0) m)))
         (sym (isa5 .1 .0 .1)) refl $
-        Run.assigns ! (Run.addr ! (Run.from ! (Run.stop !))) (Run.from ! (Run.stop !)) (Run.init ! 13 refl ((tt, tt))) $
-        Run.assigns ! (Part.agg ! (Run.and-then ! (Run.load ! (Run.from ! (Run.stop !)) (Run.look ! 13 refl)) (Run.and-then ! (Run.lit ! tt)
-        (Run.no-more !)))) (Run.from ! (Run.stop !)) (Run.init ! 14 refl ((tt, (tt, (record { fits = lit< tt }, tt))))) $
-        Kit.rewrite ! 14 (λ (m : ℕ). ‵ (fat fullShare (sliceTy (tyRef erased imm (pointee ((UInt w64) .written)))) l₁₂ 0 (sliceVal (l₆, 0) m)))
-        (sym (isa6 .1 .0 .1)) refl $
-        Run.assigns ! (Run.addr ! (Run.from ! (Run.fld ! refl (Run.hop ! (Part.look-in ! 4 (Part.sub ! 0 refl (Part.whole !))) (Run.stop !)))))
-        (Run.from ! (Run.stop !)) (Run.init ! 15 refl ((tt, tt))) $
-        Run.assigns ! (Part.agg ! (Run.and-then ! (Run.load ! (Run.from ! (Run.stop !)) (Run.look ! 15 refl))
-        (Run.and-then ! (Run.load ! (Run.from ! (Run.fld ! refl (Run.stop !))) (Part.look-in ! 4 (Part.sub ! 1 refl (Part.whole !))))
-        (Run.no-more !)))) (Run.from ! (Run.stop !)) (Run.init ! 16 refl ((tt, (tt, (record { fits = is-nodes .0 .1 .0 }, tt))))) $
-        -- [the array 6; the array 5; the locals; their ends; κ₁; κ₀; nodes; text]
-        -- call 1: build ((t .loading) .marks, text, the array 5, the array 6, (t .loading) .count, nodes)
+        Run.assigns ! (Run.addr ! (Run.from ! (Run.fld ! refl (Run.hop ! (Part.look-in ! 3 (Part.sub ! 0 refl (Part.whole !))) (Run.stop !)))))
+        (Run.from ! (Run.stop !)) (Run.init ! 11 refl ((tt, tt))) $
+        Run.assigns ! (Part.agg ! (Run.and-then ! (Run.load ! (Run.from ! (Run.stop !)) (Run.look ! 11 refl))
+        (Run.and-then ! (Run.load ! (Run.from ! (Run.fld ! refl (Run.stop !))) (Part.look-in ! 3 (Part.sub ! 1 refl (Part.whole !))))
+        (Run.no-more !)))) (Run.from ! (Run.stop !)) (Run.init ! 12 refl ((tt, (tt, (record { fits = is-nodes .0 .1 .0 }, tt))))) $
+        -- [the array 5; the locals; their ends; κ₁; κ₀; nodes; text]
+        -- call 1: build ((t .loading) .marks, text, the array 5, (t .loading) .count, nodes)
         Tokens.lft-new ! tt (λ ν1.
-        Kit.move ! (8 ∷ 2 ∷ []) $
+        Kit.move ! (7 ∷ 1 ∷ []) $
         Kit.use2 W (later (Kit.some (λ (δ : GName). ‵ (ShrSlice (named 1) (ν1 ∷ [])
-        (UInt w64) .own (record { ptr = (l₅, 0); name = δ; now = (t .starts) }) ((sliceVal (l₅, 0) (length (t .starts))) ∷ [])) ⊛ ‵ (flent (ν1 ∷ [])
-        (arr-parts (shares (UInt w64)) (length (t .starts)) .part fullShare (t .starts) l₅ 0)))))
-        (Arrays.shares-local 𝓤 H A W (UInt w64) tt 128 l₅ (named 1) (ν1 ∷ []) (t .starts) (arrayVal (map (λ (x : ℕ). (vint w64 x))
-        (map (λ (x : ℕ). x) (t .starts)))) (subst (Slice.Room (UInt w64)) (sym (isa5 .1 .0 .1))
+        (UInt w64) .own (record { ptr = (l₅, 0); name = δ; now = (t .table) }) ((sliceVal (l₅, 0) (length (t .table))) ∷ [])) ⊛ ‵ (flent (ν1 ∷ [])
+        (arr-parts (shares (UInt w64)) (length (t .table)) .part fullShare (t .table) l₅ 0)))))
+        (Arrays.shares-local 𝓤 H A W (UInt w64) tt 512 l₅ (named 1) (ν1 ∷ []) (t .table) (arrayVal (map (λ (x : ℕ). (vint w64 x))
+        (map (λ (x : ℕ). x) (t .table)))) (subst (Slice.Room (UInt w64)) (sym (isa5 .1 .0 .1))
         (lit< tt, lit< tt))) $ Kit.await ! tt $ Kit.pick ! (λ δ1. Kit.split ! $
         Tokens.lft-new ! tt (λ ν2.
-        Kit.move ! (10 ∷ 4 ∷ []) $
-        Kit.use2 W (later (Kit.some (λ (δ : GName). ‵ (ShrSlice (named 2) (ν2 ∷ [])
-        (UInt w64) .own (record { ptr = (l₆, 0); name = δ; now = (t .lens) }) ((sliceVal (l₆, 0) (length (t .lens))) ∷ [])) ⊛ ‵ (flent (ν2 ∷ [])
-        (arr-parts (shares (UInt w64)) (length (t .lens)) .part fullShare (t .lens) l₆ 0)))))
-        (Arrays.shares-local 𝓤 H A W (UInt w64) tt 128 l₆ (named 2) (ν2 ∷ []) (t .lens) (arrayVal (map (λ (x : ℕ). (vint w64 x)) (map (λ (x : ℕ). x)
-        (t .lens)))) (subst (Slice.Room (UInt w64)) (sym (isa6 .1 .0 .1)) (lit< tt, lit< tt))) $ Kit.await ! tt $ Kit.pick ! (λ δ2. Kit.split ! $
-        Tokens.lft-new ! tt (λ ν3.
-        Kit.move ! (23 ∷ 21 ∷ []) $
-        Kit.use2 W (later (Kit.some (λ (δ : GName). ‵ (MutSlice (named 3) (ν3 ∷
+        Kit.move ! (18 ∷ 16 ∷ []) $
+        Kit.use2 W (later (Kit.some (λ (δ : GName). ‵ (MutSlice (named 2) (ν2 ∷
         []) Node-T.the-row .own (record { ptr = nodes .ptr; name = δ; now = (nodes .now) }) ((sliceVal (nodes .ptr) (length (nodes .now))) ∷
-        [])) ⊛ ‵ (Again.LentAgain Node-T.the-row κ₁ (ν3 ∷ []) q₁ (nodes .name) (nodes .ptr .0) (nodes .ptr .1) δ (nodes .now)))))
-        (Again.lends-again Node-T.the-row κ₁ (ν3 ∷ []) q₁ (nodes .name) (nodes .ptr .0) (nodes .ptr .1) 𝓤 H A W (named 1) (named 3)
-        (nodes .now)) $ Kit.await ! tt $ Kit.pick ! (λ δ3. Kit.split ! $
+        [])) ⊛ ‵ (Again.LentAgain Node-T.the-row κ₁ (ν2 ∷ []) q₁ (nodes .name) (nodes .ptr .0) (nodes .ptr .1) δ (nodes .now)))))
+        (Again.lends-again Node-T.the-row κ₁ (ν2 ∷ []) q₁ (nodes .name) (nodes .ptr .0) (nodes .ptr .1) 𝓤 H A W (named 1) (named 2)
+        (nodes .now)) $ Kit.await ! tt $ Kit.pick ! (λ δ2. Kit.split ! $
         Walk.nothing ! $ Kit.move ! (1 ∷ 0 ∷ []) $ Kit.fjoin ! $
         Kit.use0 W (‵ ((UInt w64) .own ((t .loading) .count) ((vint w64 ((t .loading) .count)) ∷ [])))
         (uint-makes 𝓤 H A W w64 ((t .loading) .count) _ (refl, LL.owed Loading-T.the-type Loading-L.the-laws (t .loading) _ (LL.owed Tables-T.the-type Tables-L.the-laws t _ is-t .0) .1 .1 .1 .0 .1)) $
-        Kit.fjoin ! $ Kit.move ! (3 ∷ 0 ∷ []) $ Kit.fjoin ! $ Kit.move ! (5 ∷ 0 ∷ []) $ Kit.fjoin ! $ Kit.move ! (22 ∷ []) $
+        Kit.fjoin ! $ Kit.move ! (3 ∷ 0 ∷ []) $ Kit.fjoin ! $ Kit.move ! (18 ∷ []) $
         Kit.use1 W (‵ (T-text .own text (v-text ∷ [])) ⊛ ‵ (T-text .own text (v-text ∷ [])))
         (shr-slice-copy 𝓤 H A W (named 0) κ₀ (UInt w8) .twice text _) $ Kit.split ! $
         Kit.move ! (0 ∷ 2 ∷ []) $ Kit.fjoin ! $
         Kit.use0 W (‵ (Marks-T.the-row .own ((t .loading) .marks) ((Marks-L.lowered ((t .loading) .marks)) ∷ [])))
         (LL.makes Marks-T.the-type Marks-L.the-plain 𝓤 H A ((t .loading) .marks) _ (LL.owed Loading-T.the-type Loading-L.the-laws (t .loading) _ (LL.owed Tables-T.the-type Tables-L.the-laws t _ is-t .0) .1 .1 .0)) $
-        Kit.fjoin ! $ Walk.nothing-raw ! $ Kit.move ! (4 ∷ 0 ∷ []) $ Kit.join ! $ Kit.move ! (5 ∷ 0 ∷ []) $ Kit.join ! $ Kit.move ! (6 ∷ 0 ∷ []) $
-        Kit.join ! $ Kit.move ! (20 ∷ 0 ∷ []) $ Kit.join ! $
-        Kit.use1 W (raw (alive 𝓤 H A g-build.signature (κ₀, ((ν1 ∷ []), ((ν2 ∷ []), ((ν3 ∷ []), tt))))
-        (q₀, (fullShare, (fullShare, (fullShare, tt)))))) (id⊢ 𝓤 _) $
+        Kit.fjoin ! $ Walk.nothing-raw ! $ Kit.move ! (4 ∷ 0 ∷ []) $ Kit.join ! $ Kit.move ! (5 ∷ 0 ∷ []) $ Kit.join ! $ Kit.move ! (17 ∷ 0 ∷ []) $
+        Kit.join ! $
+        Kit.use1 W (raw (alive 𝓤 H A g-build.signature (κ₀, ((ν1 ∷ []), ((ν2 ∷ []), tt))) (q₀, (fullShare, (fullShare, tt))))) (id⊢ 𝓤 _) $
         Walk.asksˡ ! fm g-build.ended (g-build.clauses 𝓤 H A mem run)
-        (((κ₀, ((ν1 ∷ []), ((ν2 ∷ []), ((ν3 ∷ []), tt)))), (q₀, (fullShare, (fullShare, (fullShare, tt)))), tt, (((t .loading) .marks), (text, ((record { ptr = (l₅, 0); name = δ1; now = (t .starts) }), ((record { ptr = (l₆, 0); name = δ2; now = (t .lens) }), (((t .loading) .count), ((record { ptr = nodes .ptr; name = δ3; now = (nodes .now) }), tt)))))), ((Marks-L.lowered ((t .loading) .marks)) ∷ [], (v-text ∷ [], ((sliceVal (l₅, 0) (length (t .starts))) ∷ [], ((sliceVal (l₆, 0) (length (t .lens))) ∷ [], ((vint w64 ((t .loading) .count)) ∷ [], ((sliceVal (nodes .ptr) (length (nodes .now))) ∷ [], tt))))))), tt) _ (known-build (((κ₀, ((ν1 ∷ []), ((ν2 ∷ []), ((ν3 ∷ []), tt)))), (q₀, (fullShare, (fullShare, (fullShare, tt)))), tt, (((t .loading) .marks), (text, ((record { ptr = (l₅, 0); name = δ1; now = (t .starts) }), ((record { ptr = (l₆, 0); name = δ2; now = (t .lens) }), (((t .loading) .count), ((record { ptr = nodes .ptr; name = δ3; now = (nodes .now) }), tt)))))), ((Marks-L.lowered ((t .loading) .marks)) ∷ [], (v-text ∷ [], ((sliceVal (l₅, 0) (length (t .starts))) ∷ [], ((sliceVal (l₆, 0) (length (t .lens))) ∷ [], ((vint w64 ((t .loading) .count)) ∷ [], ((sliceVal (nodes .ptr) (length (nodes .now))) ∷ [], tt))))))), tt)) (factI 𝓤 _ (emp 𝓤) (can-build (pre .1) (eqb-true (t .loading .number) 0 (not-false _ t1)) (pre .0))) (λ r ws. id⊢ 𝓤 _)
-        (Run.and-then ! (Run.load ! (Run.from ! (Run.fld ! refl (Run.stop !))) (Part.look-in ! 9 (Part.sub ! 2 refl (Part.whole !))))
-        (Run.and-then ! (Run.load ! (Run.from ! (Run.stop !)) (Run.look ! 6 refl)) (Run.and-then ! (Run.load ! (Run.from ! (Run.stop !))
-        (Run.look ! 13 refl)) (Run.and-then ! (Run.load ! (Run.from ! (Run.stop !)) (Run.look ! 15 refl))
-        (Run.and-then ! (Run.load ! (Run.from ! (Run.fld ! refl (Run.stop !))) (Part.look-in ! 9 (Part.sub ! 3 refl (Part.whole !))))
-        (Run.and-then ! (Run.load ! (Run.from ! (Run.stop !)) (Run.look ! 17 refl)) (Run.no-more !))))))) (λ u1 r1 ws1 is1′ e1.
-        Kit.use1 W (‵ (flft κ₀ q₀) ⊛ (‵ (flft (ν1 ∷ []) fullShare) ⊛ (‵ (flft (ν2 ∷ []) fullShare) ⊛ (‵ (flft (ν3 ∷
-        []) fullShare) ⊛ (raw (emp 𝓤)))))) (id⊢ 𝓤 _) $
-        Kit.split ! $ Kit.move ! (1 ∷ []) $ Kit.split ! $ Kit.move ! (1 ∷ []) $ Kit.split ! $ Kit.move ! (1 ∷ []) $ Kit.split ! $
-        Kit.move ! (1 ∷ []) $ Kit.drop ! $ Kit.move ! (4 ∷ []) $ Kit.drop ! $ Kit.move ! (4 ∷ []) $ Kit.fsplit ! $ Kit.drop ! $ Kit.fsplit ! $
-        Kit.drop ! $ Kit.fsplit ! $ Kit.drop ! $ Kit.fsplit ! $ Kit.drop ! $ Kit.fsplit ! $ Kit.drop ! $ Kit.fsplit ! $ Kit.fsplit ! $
-        Kit.move ! (1 ∷ []) $ Kit.feqL ! (λ len3.
-        Kit.move ! (1 ∷ []) $ Kit.drop ! $ Kit.move ! (3 ∷ []) $ Tokens.lft-end ! tt $ Kit.move ! (0 ∷ 8 ∷ []) $
-        Kit.use2 W (later (Kit.some (λ (w : Val). ‵ (fat fullShare (Arrays.τ 𝓤 H A W (UInt w64) tt 128 l₅) l₅ 0 w) ⊛ ‵ (Array (UInt w64) 128 .own (t .starts) (w ∷ []))))) (Arrays.shared-local-back 𝓤 H A W (UInt w64) tt 128 l₅ (ν1 ∷ []) (t .starts) (isa5 .1 .0 .1)) $ Kit.await ! tt $ Kit.pick ! (λ w1. Kit.split ! $
-        Kit.move ! (4 ∷ []) $ Tokens.lft-end ! tt $ Kit.move ! (0 ∷ 8 ∷ []) $
-        Kit.use2 W (later (Kit.some (λ (w : Val). ‵ (fat fullShare (Arrays.τ 𝓤 H A W (UInt w64) tt 128 l₆) l₆ 0 w) ⊛ ‵ (Array (UInt w64) 128 .own (t .lens) (w ∷ []))))) (Arrays.shared-local-back 𝓤 H A W (UInt w64) tt 128 l₆ (ν2 ∷ []) (t .lens) (isa6 .1 .0 .1)) $ Kit.await ! tt $ Kit.pick ! (λ w2. Kit.split ! $
-        Kit.move ! (5 ∷ []) $ Tokens.lft-end ! tt $ Kit.move ! (0 ∷ 8 ∷ 5 ∷ []) $
-        Kit.use3 W (later (‵ (MutSlice (named 1) κ₁ Node-T.the-row .own (at-last nodes (ws1 .1 .1 .1 .1 .1 .0)) ((sliceVal (nodes .ptr)
-        (length (nodes .now))) ∷ [])) ⊛ ‵ (flft κ₁ q₁))) (Again.comes-back Node-T.the-row κ₁ (ν3 ∷ []) q₁ (nodes .name) (nodes .ptr .0)
-        (nodes .ptr .1) 𝓤 H A W (named 1) (named 3) (nodes .now) δ3 (ws1 .1 .1 .1 .1 .1 .0) (is-nodes .0 .1) len3) $ Kit.await ! tt $ Kit.split ! $
-        Kit.rewrite ! 0 (λ (m : ℕ). ‵ (MutSlice (named 1) κ₁ Node-T.the-row .own (at-last nodes (ws1 .1 .1 .1 .1 .1 .0)) (sliceVal (nodes .ptr) m ∷
-        []))) (sym len3) refl $
-        Kit.rewrite ! 10 (λ (m : ℕ). ‵ (fat fullShare (sliceTy (tyRef (named 1) mut (pointee (Node-T.the-row .written)))) l₂ 0 (sliceVal (nodes .ptr) m))) (sym len3) refl $
-        Run.land ! (Run.from ! (Run.stop !)) (Run.init ! 14 refl (uint-lawful 𝓤 H A W w64 .typed r1 _ is1′ .0)) $
-        Kit.rewrite ! 14 (λ (w : Val). ‵ (fat fullShare (tyInt w64) l₈ 0 w)) (ap only (uint-tells w64 r1 _ is1′)) refl $
+        (((κ₀, ((ν1 ∷ []), ((ν2 ∷ []), tt))), (q₀, (fullShare, (fullShare, tt))), tt, (((t .loading) .marks), (text, ((record { ptr = (l₅, 0); name = δ1; now = (t .table) }), (((t .loading) .count), ((record { ptr = nodes .ptr; name = δ2; now = (nodes .now) }), tt))))), ((Marks-L.lowered ((t .loading) .marks)) ∷ [], (v-text ∷ [], ((sliceVal (l₅, 0) (length (t .table))) ∷ [], ((vint w64 ((t .loading) .count)) ∷ [], ((sliceVal (nodes .ptr) (length (nodes .now))) ∷ [], tt)))))), tt) _ (known-build (((κ₀, ((ν1 ∷ []), ((ν2 ∷ []), tt))), (q₀, (fullShare, (fullShare, tt))), tt, (((t .loading) .marks), (text, ((record { ptr = (l₅, 0); name = δ1; now = (t .table) }), (((t .loading) .count), ((record { ptr = nodes .ptr; name = δ2; now = (nodes .now) }), tt))))), ((Marks-L.lowered ((t .loading) .marks)) ∷ [], (v-text ∷ [], ((sliceVal (l₅, 0) (length (t .table))) ∷ [], ((vint w64 ((t .loading) .count)) ∷ [], ((sliceVal (nodes .ptr) (length (nodes .now))) ∷ [], tt)))))), tt)) (factI 𝓤 _ (emp 𝓤) (can-build (pre .1) (eqb-true (t .loading .number) 0 (not-false _ t1)) (pre .0))) (λ r ws. id⊢ 𝓤 _)
+        (Run.and-then ! (Run.load ! (Run.from ! (Run.fld ! refl (Run.stop !))) (Part.look-in ! 8 (Part.sub ! 2 refl (Part.whole !))))
+        (Run.and-then ! (Run.load ! (Run.from ! (Run.stop !)) (Run.look ! 5 refl)) (Run.and-then ! (Run.load ! (Run.from ! (Run.stop !))
+        (Run.look ! 12 refl)) (Run.and-then ! (Run.load ! (Run.from ! (Run.fld ! refl (Run.stop !)))
+        (Part.look-in ! 8 (Part.sub ! 3 refl (Part.whole !)))) (Run.and-then ! (Run.load ! (Run.from ! (Run.stop !)) (Run.look ! 14 refl))
+        (Run.no-more !)))))) (λ u1 r1 ws1 is1′ e1.
+        Kit.use1 W (‵ (flft κ₀ q₀) ⊛ (‵ (flft (ν1 ∷ []) fullShare) ⊛ (‵ (flft (ν2 ∷ []) fullShare) ⊛ (raw (emp 𝓤))))) (id⊢ 𝓤 _) $ Kit.split ! $
+        Kit.move ! (1 ∷ []) $ Kit.split ! $ Kit.move ! (1 ∷ []) $ Kit.split ! $ Kit.move ! (1 ∷ []) $ Kit.drop ! $ Kit.move ! (3 ∷ []) $ Kit.drop ! $
+        Kit.move ! (3 ∷ []) $ Kit.fsplit ! $ Kit.drop ! $ Kit.fsplit ! $ Kit.drop ! $ Kit.fsplit ! $ Kit.drop ! $ Kit.fsplit ! $ Kit.drop ! $
+        Kit.fsplit ! $ Kit.fsplit ! $ Kit.move ! (1 ∷ []) $ Kit.feqL ! (λ len2.
+        Kit.move ! (1 ∷ []) $ Kit.drop ! $ Kit.move ! (2 ∷ []) $ Tokens.lft-end ! tt $ Kit.move ! (0 ∷ 6 ∷ []) $
+        Kit.use2 W (later (Kit.some (λ (w : Val). ‵ (fat fullShare (Arrays.τ 𝓤 H A W (UInt w64) tt 512 l₅) l₅ 0 w) ⊛ ‵ (Array (UInt w64) 512 .own (t .table) (w ∷ []))))) (Arrays.shared-local-back 𝓤 H A W (UInt w64) tt 512 l₅ (ν1 ∷ []) (t .table) (isa5 .1 .0 .1)) $ Kit.await ! tt $ Kit.pick ! (λ cell1. Kit.split ! $
+        Kit.move ! (3 ∷ []) $ Tokens.lft-end ! tt $ Kit.move ! (0 ∷ 6 ∷ 3 ∷ []) $
+        Kit.use3 W (later (‵ (MutSlice (named 1) κ₁ Node-T.the-row .own (at-last nodes (ws1 .1 .1 .1 .1 .0)) ((sliceVal (nodes .ptr)
+        (length (nodes .now))) ∷ [])) ⊛ ‵ (flft κ₁ q₁))) (Again.comes-back Node-T.the-row κ₁ (ν2 ∷ []) q₁ (nodes .name) (nodes .ptr .0)
+        (nodes .ptr .1) 𝓤 H A W (named 1) (named 2) (nodes .now) δ2 (ws1 .1 .1 .1 .1 .0) (is-nodes .0 .1) len2) $ Kit.await ! tt $ Kit.split ! $
+        Kit.rewrite ! 0 (λ (m : ℕ). ‵ (MutSlice (named 1) κ₁ Node-T.the-row .own (at-last nodes (ws1 .1 .1 .1 .1 .0)) (sliceVal (nodes .ptr) m ∷
+        []))) (sym len2) refl $
+        Kit.rewrite ! 8 (λ (m : ℕ). ‵ (fat fullShare (sliceTy (tyRef (named 1) mut (pointee (Node-T.the-row .written)))) l₂ 0 (sliceVal (nodes .ptr) m))) (sym len2) refl $
+        Run.land ! (Run.from ! (Run.stop !)) (Run.init ! 12 refl (uint-lawful 𝓤 H A W w64 .typed r1 _ is1′ .0)) $
+        Kit.rewrite ! 12 (λ (w : Val). ‵ (fat fullShare (tyInt w64) l₇ 0 w)) (ap only (uint-tells w64 r1 _ is1′)) refl $
         let is1 : Is (UInt w64) r1 ((vint w64 r1) ∷ []) = subst (λ (vs : List Val). Is (UInt w64) r1 vs) (uint-tells w64 r1 _ is1′) is1′ in
-        Walk.written-out ! (‵ (T-nodes .own (at-last nodes (ws1 .1 .1 .1 .1 .1 .0)) (sliceVal (nodes .ptr) (length (ws1 .1 .1 .1 .1 .1 .0)) ∷ [])) ∷
-        ‵ (flft κ₁ q₁) ∷ ‵ (fat fullShare (tyArray (tyInt w64) 128) l₆ 0 w2) ∷ ‵ (Array (UInt w64) 128 .own (t .lens) (w2 ∷ [])) ∷
-        ‵ (fat fullShare (tyArray (tyInt w64) 128) l₅ 0 w1) ∷ ‵ (Array (UInt w64) 128 .own (t .starts) (w1 ∷ [])) ∷ ‵ (flft κ₀ q₀) ∷
-        ‵ (T-text .own text (sliceVal (text .ptr) (length (text .now)) ∷ [])) ∷ ‵ (froom tyUnit l₀ 0) ∷
+        Walk.written-out ! (‵ (T-nodes .own (at-last nodes (ws1 .1 .1 .1 .1 .0)) (sliceVal (nodes .ptr) (length (ws1 .1 .1 .1 .1 .0)) ∷ [])) ∷
+        ‵ (flft κ₁ q₁) ∷ ‵ (fat fullShare (tyArray (tyInt w64) 512) l₅ 0 cell1) ∷ ‵ (Array (UInt w64) 512 .own (t .table) (cell1 ∷ [])) ∷
+        ‵ (flft κ₀ q₀) ∷ ‵ (T-text .own text (sliceVal (text .ptr) (length (text .now)) ∷ [])) ∷ ‵ (froom tyUnit l₀ 0) ∷
         ‵ (fat fullShare Y-text l₁ 0 (sliceVal (text .ptr) (length (text .now)))) ∷ ‵ (fat fullShare Y-nodes l₂ 0 (sliceVal (nodes .ptr)
-        (length (ws1 .1 .1 .1 .1 .1 .0)))) ∷ ‵ (fat fullShare Tables-L.mir l₃ 0 (LL.val Tables-T.the-type Tables-L.the-laws t)) ∷
+        (length (ws1 .1 .1 .1 .1 .0)))) ∷ ‵ (fat fullShare Tables-L.mir l₃ 0 (LL.val Tables-T.the-type Tables-L.the-laws t)) ∷
         ‵ (fat fullShare Loading-L.mir l₄ 0 (Loading-L.lowered (t .loading))) ∷
-        ‵ (fat fullShare tyBool l₇ 0 (vbool (not (eqb ((t .loading) .number) 0)))) ∷ ‵ (fat fullShare (tyInt w64) l₈ 0 (vint w64 r1)) ∷
-        ‵ (fat fullShare (tyRef erased imm (pointee (Array (UInt w64) 128 .written))) l₉ 0 (vptr l₅ 0)) ∷
-        ‵ (fat fullShare (sliceTy (tyRef erased imm (pointee ((UInt w64) .written)))) l₁₀ 0 (sliceVal (l₅, 0) (length (t .starts)))) ∷
-        ‵ (fat fullShare (tyRef erased imm (pointee (Array (UInt w64) 128 .written))) l₁₁ 0 (vptr l₆ 0)) ∷
-        ‵ (fat fullShare (sliceTy (tyRef erased imm (pointee ((UInt w64) .written)))) l₁₂ 0 (sliceVal (l₆, 0) (length (t .lens)))) ∷
-        ‵ (fat fullShare (tyRef erased mut (pointee (Node-T.the-row .written))) l₁₃ 0 (vptr (nodes .ptr .0) (nodes .ptr .1))) ∷
-        ‵ (fat fullShare (sliceTy (tyRef erased mut (pointee (Node-T.the-row .written)))) l₁₄ 0 (sliceVal (nodes .ptr) (length (nodes .now)))) ∷
+        ‵ (fat fullShare tyBool l₆ 0 (vbool (not (eqb ((t .loading) .number) 0)))) ∷ ‵ (fat fullShare (tyInt w64) l₇ 0 (vint w64 r1)) ∷
+        ‵ (fat fullShare (tyRef erased imm (pointee (Array (UInt w64) 512 .written))) l₈ 0 (vptr l₅ 0)) ∷
+        ‵ (fat fullShare (sliceTy (tyRef erased imm (pointee ((UInt w64) .written)))) l₉ 0 (sliceVal (l₅, 0) (length (t .table)))) ∷
+        ‵ (fat fullShare (tyRef erased mut (pointee (Node-T.the-row .written))) l₁₀ 0 (vptr (nodes .ptr .0) (nodes .ptr .1))) ∷
+        ‵ (fat fullShare (sliceTy (tyRef erased mut (pointee (Node-T.the-row .written)))) l₁₁ 0 (sliceVal (nodes .ptr) (length (nodes .now)))) ∷
         ‵ Fd ∷ []) refl $
-        Run.assigns ! (Run.of-opd ! (Run.unit-lit !)) (Run.from ! (Run.stop !)) (Run.init ! 8 refl ((tt, tt))) $
-        Run.returns-within ! Post refl (Run.look ! 8 refl) $
-        Kit.move ! (8 ∷ 9 ∷ 10 ∷ 11 ∷ 12 ∷ 4 ∷ 2 ∷ 13 ∷ 14 ∷ 15 ∷ 16 ∷ 17 ∷ 18 ∷ 19 ∷ 20 ∷ 21 ∷ []) $
+        Run.assigns ! (Run.of-opd ! (Run.unit-lit !)) (Run.from ! (Run.stop !)) (Run.init ! 6 refl ((tt, tt))) $
+        Run.returns-within ! Post refl (Run.look ! 6 refl) $ Kit.move ! (6 ∷ 7 ∷ 8 ∷ 9 ∷ 10 ∷ 2 ∷ 11 ∷ 12 ∷ 13 ∷ 14 ∷ 15 ∷ 16 ∷ 17 ∷ []) $
         Walk.frees-gathered ! (Walk.full tyUnit l₀ vunit ∷ Walk.full Y-text l₁ (sliceVal (text .ptr) (length (text .now))) ∷
-        Walk.full Y-nodes l₂ (sliceVal (nodes .ptr) (length (ws1 .1 .1 .1 .1 .1 .0))) ∷
+        Walk.full Y-nodes l₂ (sliceVal (nodes .ptr) (length (ws1 .1 .1 .1 .1 .0))) ∷
         Walk.full Tables-L.mir l₃ (LL.val Tables-T.the-type Tables-L.the-laws t) ∷ Walk.full Loading-L.mir l₄ (Loading-L.lowered (t .loading)) ∷
-        Walk.full (tyArray (tyInt w64) 128) l₅ w1 ∷ Walk.full (tyArray (tyInt w64) 128) l₆ w2 ∷
-        Walk.full tyBool l₇ (vbool (not (eqb ((t .loading) .number) 0))) ∷ Walk.full (tyInt w64) l₈ (vint w64 r1) ∷
-        Walk.full (tyRef erased imm (pointee (Array (UInt w64) 128 .written))) l₉ (vptr l₅ 0) ∷
-        Walk.full (sliceTy (tyRef erased imm (pointee ((UInt w64) .written)))) l₁₀ (sliceVal (l₅, 0) (length (t .starts))) ∷
-        Walk.full (tyRef erased imm (pointee (Array (UInt w64) 128 .written))) l₁₁ (vptr l₆ 0) ∷
-        Walk.full (sliceTy (tyRef erased imm (pointee ((UInt w64) .written)))) l₁₂ (sliceVal (l₆, 0) (length (t .lens))) ∷
-        Walk.full (tyRef erased mut (pointee (Node-T.the-row .written))) l₁₃ (vptr (nodes .ptr .0) (nodes .ptr .1)) ∷
-        Walk.full (sliceTy (tyRef erased mut (pointee (Node-T.the-row .written)))) l₁₄ (sliceVal (nodes .ptr) (length (nodes .now))) ∷
-        []) Fd ed (‵ (T-nodes .own (at-last nodes (ws1 .1 .1 .1 .1 .1 .0)) (sliceVal (nodes .ptr) (length (ws1 .1 .1 .1 .1 .1 .0)) ∷ [])) ∷
-        ‵ (flft κ₁ q₁) ∷ ‵ (Array (UInt w64) 128 .own (t .lens) (w2 ∷ [])) ∷ ‵ (Array (UInt w64) 128 .own (t .starts) (w1 ∷ [])) ∷ ‵ (flft κ₀ q₀) ∷
-        ‵ (T-text .own text (sliceVal (text .ptr) (length (text .now)) ∷ [])) ∷ []) $
+        Walk.full (tyArray (tyInt w64) 512) l₅ cell1 ∷ Walk.full tyBool l₆ (vbool (not (eqb ((t .loading) .number) 0))) ∷
+        Walk.full (tyInt w64) l₇ (vint w64 r1) ∷ Walk.full (tyRef erased imm (pointee (Array (UInt w64) 512 .written))) l₈ (vptr l₅ 0) ∷
+        Walk.full (sliceTy (tyRef erased imm (pointee ((UInt w64) .written)))) l₉ (sliceVal (l₅, 0) (length (t .table))) ∷
+        Walk.full (tyRef erased mut (pointee (Node-T.the-row .written))) l₁₀ (vptr (nodes .ptr .0) (nodes .ptr .1)) ∷
+        Walk.full (sliceTy (tyRef erased mut (pointee (Node-T.the-row .written)))) l₁₁ (sliceVal (nodes .ptr) (length (nodes .now))) ∷
+        []) Fd ed (‵ (T-nodes .own (at-last nodes (ws1 .1 .1 .1 .1 .0)) (sliceVal (nodes .ptr) (length (ws1 .1 .1 .1 .1 .0)) ∷ [])) ∷
+        ‵ (flft κ₁ q₁) ∷ ‵ (Array (UInt w64) 512 .own (t .table) (cell1 ∷ [])) ∷ ‵ (flft κ₀ q₀) ∷ ‵ (T-text .own text (sliceVal (text .ptr)
+        (length (text .now)) ∷ [])) ∷ []) $
         Kit.use0 W (‵ (Nothing .own tt (vunit ∷ []))) (nothing-makes 𝓤 H A W tt _ refl) $ Kit.move ! (1 ∷ []) $
-        Kit.use1 W (‵ (finally Node-T.the-row (nodes .name) (ws1 .1 .1 .1 .1 .1 .0)))
-        (Walk.ended-slice 𝓤 H A W (named 1) κ₁ Node-T.the-row nodes (ws1 .1 .1 .1 .1 .1 .0) _) $
+        Kit.use1 W (‵ (finally Node-T.the-row (nodes .name) (ws1 .1 .1 .1 .1 .0)))
+        (Walk.ended-slice 𝓤 H A W (named 1) κ₁ Node-T.the-row nodes (ws1 .1 .1 .1 .1 .0) _) $
         Walk.nothing ! $ Walk.nothing ! $ Kit.fjoin ! $ Kit.move ! (1 ∷ 0 ∷ []) $ Kit.fjoin ! $ Walk.nothing ! $ Kit.fjoin ! $ Walk.nothing-raw ! $
-        Kit.move ! (3 ∷ 0 ∷ []) $ Kit.join ! $ Kit.move ! (5 ∷ 0 ∷ []) $ Kit.join ! $
+        Kit.move ! (3 ∷ 0 ∷ []) $ Kit.join ! $ Kit.move ! (4 ∷ 0 ∷ []) $ Kit.join ! $
         Kit.use1 W (raw (alive 𝓤 H A f-build-tree.signature (κ₀, (κ₁, tt)) (q₀, (q₁, tt)))) (id⊢ 𝓤 _) $ Kit.keep ! (0 ∷ 1 ∷ 2 ∷ []) $
-        Kit.by ! (Walk.leave-by 𝓤 H A W f-build-tree.ended (f-build-tree.clauses 𝓤 H A mem run) stayed-build-tree bound vunit tt (tt, ((ws1 .1 .1 .1 .1 .1 .0), (tt, tt))) (tt, ((len3 ∙ refl), (tt, tt))) (factI 𝓤 _ (emp 𝓤) (prepared (pre .1) (eqb-true (t .loading .number) 0 (not-false _ t1)) e1))))))))))))))))))))))))))))))
+        Kit.by ! (Walk.leave-by 𝓤 H A W f-build-tree.ended (f-build-tree.clauses 𝓤 H A mem run) stayed-build-tree bound vunit tt (tt, ((ws1 .1 .1 .1 .1 .0), (tt, tt))) (tt, ((len2 ∙ refl), (tt, tt))) (factI 𝓤 _ (emp 𝓤) (prepared (pre .1) (eqb-true (t .loading .number) 0 (not-false _ t1)) e1))))))))))))))))))))))))
 
 pub build-tree-spec : {M : Type 1} → stated.statement M
 unfolding code.routine tablesOf

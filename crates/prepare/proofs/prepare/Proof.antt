@@ -38,8 +38,9 @@ use denote.Memory.{pointee}
 use denote.Signature.{plain, shrSliceOf}
 use Prim.Native.Nat.{ℕ, _≤_}
 use lib.ListN.{length}
-use Rattle.walk.proofs.Walk as Walk
-use Rattle.walk.proofs.Again as Again
+use Rattle.model.specs.Limits.{nodesMost}
+use Rattle.walk_laws.proofs.Walk as Walk
+use Rattle.walk_laws.proofs.Again as Again
 use Rattle.nodes.specs.declared.Node.{Node}
 use Rattle.nodes.proofs.Node as Node-T
 use Rattle.prepare.specs.declared.Tables.{Tables}
@@ -90,7 +91,7 @@ module _ {M : Type 1} (𝓤 : URA M) (H : Heap 𝓤) (A : Atoms 𝓤) (W : Given
   module _ (C : Calls 𝓤 H) (Λ : Loops 𝓤 H) (fm : FmC 𝓤 H (W .laws) C) (known-load-tables : Triple 𝓤 (C #g-load-tables)
       (Walk.Of 𝓤 H A g-load-tables.ended (g-load-tables.clauses 𝓤 H A mem run))) (known-build-tree : Triple 𝓤 (C #g-build-tree)
       (Walk.Of 𝓤 H A g-build-tree.ended (g-build-tree.clauses 𝓤 H A mem run))) where
-    walk-prepare : (is-text : Is T-text text (v-text ∷ [])) → (is-nodes : Is T-nodes nodes (v-nodes ∷ [])) → (pre : 2048 ≤ length (now nodes))
+    walk-prepare : (is-text : Is T-text text (v-text ∷ [])) → (is-nodes : Is T-nodes nodes (v-nodes ∷ [])) → (pre : nodesMost ≤ length (now nodes))
         → ent 𝓤 (onEntry 𝓤 H A f-prepare.signature (κ₀, (κ₁, tt)) (q₀, (q₁, tt)) (text, (nodes, tt)) (v-text ∷ [], (v-nodes ∷ [], tt)))
         (WpFn 𝓤 H C Λ code.function (v-text ∷ v-nodes ∷ []) Post)
     walk-prepare is-text is-nodes pre =

@@ -7,6 +7,9 @@ use Rattle.run.proofs.end.Tie as tie
 listing-requires : tie.Need-listing-requires
 listing-requires c κs = search needs
 
+end-number-requires : tie.Need-end-number-requires
+end-number-requires c κs = search needs
+
 widen-requires : tie.Need-widen-requires
 widen-requires c κs = search needs
 
@@ -33,6 +36,7 @@ end-spec =
     tie.close
     (tie.spec
     listing-requires
+    end-number-requires
     widen-requires
     widen-requires-2
     widen-requires-3

@@ -40,10 +40,13 @@ use denote.Signature.{plain, shrSliceOf}
 use Prim.Native.Nat.{ℕ, _<_, _≤_, _^_}
 use lib.ListN.{length}
 use Rattle.store.specs.Memory.{Holds}
-use Rattle.run.specs.Inner.{Ready}
-use Rattle.walk.proofs.Walk as Walk
-use Rattle.walk.proofs.Again as Again
+use Rattle.run.specs.Inner.{ReadyToRun}
+use Rattle.model.specs.Limits.{storeLeast, fuelMost}
+use Rattle.walk_laws.proofs.Walk as Walk
+use Rattle.walk_laws.proofs.Again as Again
 use Rattle.run.proofs.Running.{prepared, starts-sound, starts-within, loaded-runs}
+use Rattle.answer.proofs.Answer as Answer-T
+use Rattle.answer.proofs.Answer.Laws as Answer-L
 use Rattle.load.specs.declared.Loading.{Loading}
 use Rattle.load.proofs.Loading as Loading-T
 use Rattle.load.proofs.Loading.Laws as Loading-L
@@ -53,8 +56,6 @@ use Rattle.model.proofs.Ran as Ran-T
 use Rattle.model.proofs.Ran.Laws as Ran-L
 use Rattle.nodes.specs.declared.Node.{Node}
 use Rattle.nodes.proofs.Node as Node-T
-use Rattle.resume.proofs.Res as Res-T
-use Rattle.resume.proofs.Res.Laws as Res-L
 use Rattle.state.proofs.State as State-T
 use Rattle.state.proofs.State.Laws as State-L
 use Rattle.store.specs.declared.Index.{Index}
@@ -64,10 +65,10 @@ use Rattle.run.proofs.start as g-start
 use Rattle.run.proofs.start.Symbol as g-start-def
 use Rattle.run.proofs.start.Symbol.{name as #g-start}
 use Rattle.run.proofs.start.Met as g-start-thm
-use Rattle.input.proofs.expand as g-expand
-use Rattle.input.proofs.expand.Symbol as g-expand-def
-use Rattle.input.proofs.expand.Symbol.{name as #g-expand}
-use Rattle.input.proofs.expand.Met as g-expand-thm
+use Rattle.input.proofs.expand_input as g-expand-input
+use Rattle.input.proofs.expand_input.Symbol as g-expand-input-def
+use Rattle.input.proofs.expand_input.Symbol.{name as #g-expand-input}
+use Rattle.input.proofs.expand_input.Met as g-expand-input-thm
 use Rattle.run.proofs.end as g-end
 use Rattle.run.proofs.end.Symbol as g-end-def
 use Rattle.run.proofs.end.Symbol.{name as #g-end}
@@ -145,14 +146,15 @@ module _ {M : Type 1} (𝓤 : URA M) (H : Heap 𝓤) (A : Atoms 𝓤) (W : Given
   Post = walkOf 𝓤 H A f-run-loaded.ended stayed-run-loaded (f-run-loaded.clauses 𝓤 H A mem run) .post bound
 
   module _ (C : Calls 𝓤 H) (Λ : Loops 𝓤 H) (fm : FmC 𝓤 H (W .laws) C) (known-start : Triple 𝓤 (C #g-start)
-      (Walk.Of 𝓤 H A g-start.ended (g-start.clauses 𝓤 H A mem run))) (known-expand : Triple 𝓤 (C #g-expand)
-      (Walk.Of 𝓤 H A g-expand.ended (g-expand.clauses 𝓤 H A mem run))) (known-end : Triple 𝓤 (C #g-end)
+      (Walk.Of 𝓤 H A g-start.ended (g-start.clauses 𝓤 H A mem run))) (known-expand-input : Triple 𝓤 (C #g-expand-input)
+      (Walk.Of 𝓤 H A g-expand-input.ended (g-expand-input.clauses 𝓤 H A mem run))) (known-end : Triple 𝓤 (C #g-end)
       (Walk.Of 𝓤 H A g-end.ended (g-end.clauses 𝓤 H A mem run))) where
     walk-run-loaded : (is-text : Is T-text text (v-text ∷ [])) → (is-nodes : Is T-nodes nodes (v-nodes ∷ []))
         → (is-bodies : Is T-bodies bodies (v-bodies ∷ [])) → (is-loading : Is Loading-T.the-row loading ((Loading-L.lowered loading) ∷ []))
         → (fits-fuel : fuel < 2 ^ 64) → (is-output : Is T-output output (v-output ∷ [])) → (is-memory : Is T-memory memory (v-memory ∷ []))
         → (is-index : Is Index-T.the-row index ((Index-L.lowered index) ∷ [])) → (is-store : Is T-store store (v-store ∷ []))
-        → (pre : Ready (now text) (now nodes) (now bodies) loading × Holds (now memory) index [] × (fuel ≤ 1000000) × (8704 ≤ length (now store)))
+        → (pre : ReadyToRun (now text) (now nodes) (now bodies) loading
+        × Holds (now memory) index [] × (fuel ≤ fuelMost) × (storeLeast ≤ length (now store)))
         → ent 𝓤 (onEntry 𝓤 H A f-run-loaded.signature (κ₀, (κ₁, (κ₂, (κ₃, (κ₄, (κ₅, tt)))))) (q₀, (q₁, (q₂, (q₃, (q₄, (q₅, tt))))))
         (text, (nodes, (bodies, (loading, (fuel, (output, (memory, (index, (store, tt)))))))))
         (v-text ∷ [], (v-nodes ∷ [], (v-bodies ∷ [], ((Loading-L.lowered loading) ∷ [], ((vint w64 fuel) ∷ [], (v-output ∷ [], (v-memory ∷ [], ((Index-L.lowered index) ∷ [], (v-store ∷ [], tt)))))))))) (WpFn 𝓤 H C Λ code.function (v-text ∷ v-nodes ∷ v-bodies ∷ (Loading-L.lowered loading) ∷ (vint w64 fuel) ∷ v-output ∷ v-memory ∷ (Index-L.lowered index) ∷ v-store ∷ []) Post)
@@ -177,7 +179,7 @@ module _ {M : Type 1} (𝓤 : URA M) (H : Heap 𝓤) (A : Atoms 𝓤) (W : Given
         15 ∷ 12 ∷ 13 ∷ 10 ∷ 11 ∷ 8 ∷ 9 ∷ 6 ∷ 7 ∷ 4 ∷ 5 ∷ 2 ∷ 3 ∷ 0 ∷ 1 ∷ []) $
         Walk.gathers ! (Walk.bare Ran-L.mir l₀ ∷ Walk.bare Y-text l₁ ∷ Walk.bare Y-nodes l₂ ∷ Walk.bare Y-bodies l₃ ∷ Walk.bare Loading-L.mir l₄ ∷
         Walk.bare (tyInt w64) l₅ ∷ Walk.bare Y-output l₆ ∷ Walk.bare Y-memory l₇ ∷ Walk.bare Index-L.mir l₈ ∷ Walk.bare Y-store l₉ ∷
-        Walk.bare State-L.mir l₁₀ ∷ Walk.bare Res-L.mir l₁₁ ∷ Walk.bare (tyRef erased mut (pointee ((UInt w8) .written))) l₁₂ ∷
+        Walk.bare State-L.mir l₁₀ ∷ Walk.bare Answer-L.mir l₁₁ ∷ Walk.bare (tyRef erased mut (pointee ((UInt w8) .written))) l₁₂ ∷
         Walk.bare (sliceTy (tyRef erased mut (pointee ((UInt w8) .written)))) l₁₃ ∷
         Walk.bare (tyRef erased mut (pointee ((UInt w8) .written))) l₁₄ ∷
         Walk.bare (sliceTy (tyRef erased mut (pointee ((UInt w8) .written)))) l₁₅ ∷
@@ -224,7 +226,7 @@ module _ {M : Type 1} (𝓤 : URA M) (H : Heap 𝓤) (A : Atoms 𝓤) (W : Given
         ‵ (fat fullShare (tyInt w64) l₅ 0 (vint w64 fuel)) ∷ ‵ (fat fullShare Y-output l₆ 0 (sliceVal (output .ptr) (length (output .now)))) ∷
         ‵ (fat fullShare Y-memory l₇ 0 (sliceVal (memory .ptr) (length (memory .now)))) ∷
         ‵ (fat fullShare Index-L.mir l₈ 0 (Index-L.lowered index)) ∷ ‵ (fat fullShare Y-store l₉ 0 (sliceVal (store .ptr) (length (store .now)))) ∷
-        ‵ (fat fullShare State-L.mir l₁₀ 0 (State-L.lowered r1)) ∷ ‵ (froom Res-L.mir l₁₁ 0) ∷
+        ‵ (fat fullShare State-L.mir l₁₀ 0 (State-L.lowered r1)) ∷ ‵ (froom Answer-L.mir l₁₁ 0) ∷
         ‵ (froom (tyRef erased mut (pointee ((UInt w8) .written))) l₁₂ 0) ∷
         ‵ (froom (sliceTy (tyRef erased mut (pointee ((UInt w8) .written)))) l₁₃ 0) ∷
         ‵ (froom (tyRef erased mut (pointee ((UInt w8) .written))) l₁₄ 0) ∷
@@ -249,7 +251,7 @@ module _ {M : Type 1} (𝓤 : URA M) (H : Heap 𝓤) (A : Atoms 𝓤) (W : Given
         (Run.and-then ! (Run.load ! (Run.from ! (Run.fld ! refl (Run.stop !))) (Part.look-in ! 7 (Part.sub ! 1 refl (Part.whole !))))
         (Run.no-more !)))) (Run.from ! (Run.stop !)) (Run.init ! 15 refl ((tt, (tt, (record { fits = is-memory .0 .1 .0 }, tt))))) $
         -- [the locals; their ends; κ₅; κ₄; κ₃; κ₂; κ₁; κ₀; store; memory; output; bodies; nodes; text]
-        -- call 2: expand (loading .marks, text, nodes, bodies, output, memory, r1)
+        -- call 2: expand_input (loading .marks, text, nodes, bodies, output, memory, r1)
         Tokens.lft-new ! tt (λ ν1.
         Kit.move ! (30 ∷ 24 ∷ []) $
         Kit.use2 W (later (Kit.some (λ (δ : GName). ‵ (MutSlice (named 3) (ν1 ∷ [])
@@ -280,10 +282,10 @@ module _ {M : Type 1} (𝓤 : URA M) (H : Heap 𝓤) (A : Atoms 𝓤) (W : Given
         (LL.makes Marks-T.the-type Marks-L.the-plain 𝓤 H A (loading .marks) _ (LL.owed Loading-T.the-type Loading-L.the-laws loading _ is-loading .1 .1 .0)) $
         Kit.fjoin ! $ Walk.nothing-raw ! $ Kit.move ! (6 ∷ 0 ∷ []) $ Kit.join ! $ Kit.move ! (7 ∷ 0 ∷ []) $ Kit.join ! $ Kit.move ! (29 ∷ 0 ∷ []) $
         Kit.join ! $ Kit.move ! (29 ∷ 0 ∷ []) $ Kit.join ! $ Kit.move ! (29 ∷ 0 ∷ []) $ Kit.join ! $
-        Kit.use1 W (raw (alive 𝓤 H A g-expand.signature (κ₀, (κ₁, (κ₂, ((ν1 ∷ []), ((ν2 ∷ []), tt)))))
+        Kit.use1 W (raw (alive 𝓤 H A g-expand-input.signature (κ₀, (κ₁, (κ₂, ((ν1 ∷ []), ((ν2 ∷ []), tt)))))
         (q₀, (q₁, (q₂, (fullShare, (fullShare, tt))))))) (id⊢ 𝓤 _) $
-        Walk.asksˡ ! fm g-expand.ended (g-expand.clauses 𝓤 H A mem run)
-        (((κ₀, (κ₁, (κ₂, ((ν1 ∷ []), ((ν2 ∷ []), tt))))), (q₀, (q₁, (q₂, (fullShare, (fullShare, tt))))), tt, ((loading .marks), (text, (nodes, (bodies, ((record { ptr = output .ptr; name = δ1; now = (output .now) }), ((record { ptr = memory .ptr; name = δ2; now = (memory .now) }), (r1, tt))))))), ((Marks-L.lowered (loading .marks)) ∷ [], (v-text ∷ [], (v-nodes ∷ [], (v-bodies ∷ [], ((sliceVal (output .ptr) (length (output .now))) ∷ [], ((sliceVal (memory .ptr) (length (memory .now))) ∷ [], ((State-L.lowered r1) ∷ [], tt)))))))), tt) _ (known-expand (((κ₀, (κ₁, (κ₂, ((ν1 ∷ []), ((ν2 ∷ []), tt))))), (q₀, (q₁, (q₂, (fullShare, (fullShare, tt))))), tt, ((loading .marks), (text, (nodes, (bodies, ((record { ptr = output .ptr; name = δ1; now = (output .now) }), ((record { ptr = memory .ptr; name = δ2; now = (memory .now) }), (r1, tt))))))), ((Marks-L.lowered (loading .marks)) ∷ [], (v-text ∷ [], (v-nodes ∷ [], (v-bodies ∷ [], ((sliceVal (output .ptr) (length (output .now))) ∷ [], ((sliceVal (memory .ptr) (length (memory .now))) ∷ [], ((State-L.lowered r1) ∷ [], tt)))))))), tt)) (factI 𝓤 _ (emp 𝓤) ((prepared (pre .0), starts-sound (pre .0) e1 (pre .1) (pre .2), starts-within (pre .0) e1 .0, starts-within (pre .0) e1 .1))) (λ r ws. id⊢ 𝓤 _)
+        Walk.asksˡ ! fm g-expand-input.ended (g-expand-input.clauses 𝓤 H A mem run)
+        (((κ₀, (κ₁, (κ₂, ((ν1 ∷ []), ((ν2 ∷ []), tt))))), (q₀, (q₁, (q₂, (fullShare, (fullShare, tt))))), tt, ((loading .marks), (text, (nodes, (bodies, ((record { ptr = output .ptr; name = δ1; now = (output .now) }), ((record { ptr = memory .ptr; name = δ2; now = (memory .now) }), (r1, tt))))))), ((Marks-L.lowered (loading .marks)) ∷ [], (v-text ∷ [], (v-nodes ∷ [], (v-bodies ∷ [], ((sliceVal (output .ptr) (length (output .now))) ∷ [], ((sliceVal (memory .ptr) (length (memory .now))) ∷ [], ((State-L.lowered r1) ∷ [], tt)))))))), tt) _ (known-expand-input (((κ₀, (κ₁, (κ₂, ((ν1 ∷ []), ((ν2 ∷ []), tt))))), (q₀, (q₁, (q₂, (fullShare, (fullShare, tt))))), tt, ((loading .marks), (text, (nodes, (bodies, ((record { ptr = output .ptr; name = δ1; now = (output .now) }), ((record { ptr = memory .ptr; name = δ2; now = (memory .now) }), (r1, tt))))))), ((Marks-L.lowered (loading .marks)) ∷ [], (v-text ∷ [], (v-nodes ∷ [], (v-bodies ∷ [], ((sliceVal (output .ptr) (length (output .now))) ∷ [], ((sliceVal (memory .ptr) (length (memory .now))) ∷ [], ((State-L.lowered r1) ∷ [], tt)))))))), tt)) (factI 𝓤 _ (emp 𝓤) ((prepared (pre .0), starts-sound (pre .0) e1 (pre .1) (pre .2), starts-within (pre .0) e1 .0, starts-within (pre .0) e1 .1))) (λ r ws. id⊢ 𝓤 _)
         (Run.and-then ! (Run.load ! (Run.from ! (Run.fld ! refl (Run.stop !))) (Part.look-in ! 10 (Part.sub ! 2 refl (Part.whole !))))
         (Run.and-then ! (Run.load ! (Run.from ! (Run.stop !)) (Run.look ! 7 refl)) (Run.and-then ! (Run.load ! (Run.from ! (Run.stop !))
         (Run.look ! 8 refl)) (Run.and-then ! (Run.load ! (Run.from ! (Run.stop !)) (Run.look ! 9 refl))
@@ -310,10 +312,11 @@ module _ {M : Type 1} (𝓤 : URA M) (H : Heap 𝓤) (A : Atoms 𝓤) (W : Given
         Kit.rewrite ! 0 (λ (m : ℕ). ‵ (MutSlice (named 4) κ₄ (UInt w8) .own (at-last memory (ws2 .1 .1 .1 .1 .1 .0)) (sliceVal (memory .ptr) m ∷
         []))) (sym len2) refl $
         Kit.rewrite ! 17 (λ (m : ℕ). ‵ (fat fullShare (sliceTy (tyRef (named 4) mut (pointee ((UInt w8) .written)))) l₇ 0 (sliceVal (memory .ptr) m))) (sym len2) refl $
-        Run.land ! (Run.from ! (Run.stop !)) (Run.init ! 21 refl (LL.lawful Res-T.the-type Res-L.the-laws 𝓤 H A W .typed r2 _ is2′ .0)) $
-        Kit.rewrite ! 21 (λ (w : Val). ‵ (fat fullShare Res-L.mir l₁₁ 0 w)) (ap only (LL.tells Res-T.the-type Res-L.the-laws r2 _ is2′)) refl $
-        let is2 : Is Res-T.the-row r2 ((Res-L.lowered r2) ∷ []) = subst (λ (vs : List Val). Is Res-T.the-row r2 vs)
-        (LL.tells Res-T.the-type Res-L.the-laws r2 _ is2′) is2′ in
+        Run.land ! (Run.from ! (Run.stop !)) (Run.init ! 21 refl (LL.lawful Answer-T.the-type Answer-L.the-laws 𝓤 H A W .typed r2 _ is2′ .0)) $
+        Kit.rewrite ! 21 (λ (w : Val). ‵ (fat fullShare Answer-L.mir l₁₁ 0 w))
+        (ap only (LL.tells Answer-T.the-type Answer-L.the-laws r2 _ is2′)) refl $
+        let is2 : Is Answer-T.the-row r2 ((LL.val Answer-T.the-type Answer-L.the-laws r2) ∷
+        []) = subst (λ (vs : List Val). Is Answer-T.the-row r2 vs) (LL.tells Answer-T.the-type Answer-L.the-laws r2 _ is2′) is2′ in
         Walk.written-out ! (‵ (T-memory .own (at-last memory (ws2 .1 .1 .1 .1 .1 .0)) (sliceVal (memory .ptr) (length (ws2 .1 .1 .1 .1 .1 .0)) ∷
         [])) ∷ ‵ (flft κ₄ q₄) ∷ ‵ (T-output .own (at-last output (ws2 .1 .1 .1 .1 .0)) (sliceVal (output .ptr) (length (ws2 .1 .1 .1 .1 .0)) ∷
         [])) ∷ ‵ (flft κ₃ q₃) ∷ ‵ (flft κ₂ q₂) ∷ ‵ (flft κ₁ q₁) ∷ ‵ (flft κ₀ q₀) ∷ ‵ (T-text .own text (sliceVal (text .ptr) (length (text .now)) ∷
@@ -324,7 +327,8 @@ module _ {M : Type 1} (𝓤 : URA M) (H : Heap 𝓤) (A : Atoms 𝓤) (W : Given
         ‵ (fat fullShare (tyInt w64) l₅ 0 (vint w64 fuel)) ∷ ‵ (fat fullShare Y-output l₆ 0 (sliceVal (output .ptr)
         (length (ws2 .1 .1 .1 .1 .0)))) ∷ ‵ (fat fullShare Y-memory l₇ 0 (sliceVal (memory .ptr) (length (ws2 .1 .1 .1 .1 .1 .0)))) ∷
         ‵ (fat fullShare Index-L.mir l₈ 0 (Index-L.lowered index)) ∷ ‵ (fat fullShare Y-store l₉ 0 (sliceVal (store .ptr) (length (store .now)))) ∷
-        ‵ (fat fullShare State-L.mir l₁₀ 0 (State-L.lowered r1)) ∷ ‵ (fat fullShare Res-L.mir l₁₁ 0 (Res-L.lowered r2)) ∷
+        ‵ (fat fullShare State-L.mir l₁₀ 0 (State-L.lowered r1)) ∷
+        ‵ (fat fullShare Answer-L.mir l₁₁ 0 (LL.val Answer-T.the-type Answer-L.the-laws r2)) ∷
         ‵ (fat fullShare (tyRef erased mut (pointee ((UInt w8) .written))) l₁₂ 0 (vptr (output .ptr .0) (output .ptr .1))) ∷
         ‵ (fat fullShare (sliceTy (tyRef erased mut (pointee ((UInt w8) .written)))) l₁₃ 0 (sliceVal (output .ptr) (length (output .now)))) ∷
         ‵ (fat fullShare (tyRef erased mut (pointee ((UInt w8) .written))) l₁₄ 0 (vptr (memory .ptr .0) (memory .ptr .1))) ∷
@@ -362,11 +366,12 @@ module _ {M : Type 1} (𝓤 : URA M) (H : Heap 𝓤) (A : Atoms 𝓤) (W : Given
         (Again.lends-again (UInt w8) κ₅ (ν4 ∷ []) q₅ (store .name) (store .ptr .0) (store .ptr .1) 𝓤 H A W (named 5) (named 1)
         (store .now)) $ Kit.await ! tt $ Kit.pick ! (λ δ4. Kit.split ! $
         Walk.nothing ! $ Kit.move ! (1 ∷ 0 ∷ []) $ Kit.fjoin ! $ Kit.move ! (3 ∷ 0 ∷ []) $ Kit.fjoin ! $
-        Kit.use0 W (‵ (Res-T.the-row .own r2 ((Res-L.lowered r2) ∷ []))) (LL.makes Res-T.the-type Res-L.the-plain 𝓤 H A r2 _ is2) $ Kit.fjoin ! $
-        Walk.nothing-raw ! $ Kit.move ! (3 ∷ 0 ∷ []) $ Kit.join ! $ Kit.move ! (4 ∷ 0 ∷ []) $ Kit.join ! $
+        Kit.use0 W (‵ (Answer-T.the-row .own r2 ((LL.val Answer-T.the-type Answer-L.the-laws r2) ∷ [])))
+        (LL.makes Answer-T.the-type Answer-L.the-plain 𝓤 H A r2 _ is2) $
+        Kit.fjoin ! $ Walk.nothing-raw ! $ Kit.move ! (3 ∷ 0 ∷ []) $ Kit.join ! $ Kit.move ! (4 ∷ 0 ∷ []) $ Kit.join ! $
         Kit.use1 W (raw (alive 𝓤 H A g-end.signature ((ν3 ∷ []), ((ν4 ∷ []), tt)) (fullShare, (fullShare, tt)))) (id⊢ 𝓤 _) $
         Walk.asksˡ ! fm g-end.ended (g-end.clauses 𝓤 H A mem run)
-        ((((ν3 ∷ []), ((ν4 ∷ []), tt)), (fullShare, (fullShare, tt)), tt, (r2, ((record { ptr = memory .ptr; name = δ3; now = (ws2 .1 .1 .1 .1 .1 .0) }), ((record { ptr = store .ptr; name = δ4; now = (store .now) }), tt))), ((Res-L.lowered r2) ∷ [], ((sliceVal (memory .ptr) (length (ws2 .1 .1 .1 .1 .1 .0))) ∷ [], ((sliceVal (store .ptr) (length (store .now))) ∷ [], tt)))), tt) _ (known-end ((((ν3 ∷ []), ((ν4 ∷ []), tt)), (fullShare, (fullShare, tt)), tt, (r2, ((record { ptr = memory .ptr; name = δ3; now = (ws2 .1 .1 .1 .1 .1 .0) }), ((record { ptr = store .ptr; name = δ4; now = (store .now) }), tt))), ((Res-L.lowered r2) ∷ [], ((sliceVal (memory .ptr) (length (ws2 .1 .1 .1 .1 .1 .0))) ∷ [], ((sliceVal (store .ptr) (length (store .now))) ∷ [], tt)))), tt)) (factI 𝓤 _ (emp 𝓤) ((e2 .sound .kept, pre .3))) (λ r ws. id⊢ 𝓤 _)
+        ((((ν3 ∷ []), ((ν4 ∷ []), tt)), (fullShare, (fullShare, tt)), tt, (r2, ((record { ptr = memory .ptr; name = δ3; now = (ws2 .1 .1 .1 .1 .1 .0) }), ((record { ptr = store .ptr; name = δ4; now = (store .now) }), tt))), ((LL.val Answer-T.the-type Answer-L.the-laws r2) ∷ [], ((sliceVal (memory .ptr) (length (ws2 .1 .1 .1 .1 .1 .0))) ∷ [], ((sliceVal (store .ptr) (length (store .now))) ∷ [], tt)))), tt) _ (known-end ((((ν3 ∷ []), ((ν4 ∷ []), tt)), (fullShare, (fullShare, tt)), tt, (r2, ((record { ptr = memory .ptr; name = δ3; now = (ws2 .1 .1 .1 .1 .1 .0) }), ((record { ptr = store .ptr; name = δ4; now = (store .now) }), tt))), ((LL.val Answer-T.the-type Answer-L.the-laws r2) ∷ [], ((sliceVal (memory .ptr) (length (ws2 .1 .1 .1 .1 .1 .0))) ∷ [], ((sliceVal (store .ptr) (length (store .now))) ∷ [], tt)))), tt)) (factI 𝓤 _ (emp 𝓤) ((e2 .sound .kept, pre .3))) (λ r ws. id⊢ 𝓤 _)
         (Run.and-then ! (Run.load ! (Run.from ! (Run.stop !)) (Run.look ! 22 refl)) (Run.and-then ! (Run.load ! (Run.from ! (Run.stop !))
         (Run.look ! 28 refl)) (Run.and-then ! (Run.load ! (Run.from ! (Run.stop !)) (Run.look ! 30 refl)) (Run.no-more !)))) (λ u3 r3 ws3 is3′ e3.
         Kit.use1 W (‵ (flft (ν3 ∷ []) fullShare) ⊛ (‵ (flft (ν4 ∷ []) fullShare) ⊛ (raw (emp 𝓤)))) (id⊢ 𝓤 _) $ Kit.split ! $ Kit.move ! (1 ∷ []) $
@@ -401,7 +406,7 @@ module _ {M : Type 1} (𝓤 : URA M) (H : Heap 𝓤) (A : Atoms 𝓤) (W : Given
         ‵ (fat fullShare Y-memory l₇ 0 (sliceVal (memory .ptr) (length (ws2 .1 .1 .1 .1 .1 .0)))) ∷
         ‵ (fat fullShare Index-L.mir l₈ 0 (Index-L.lowered index)) ∷ ‵ (fat fullShare Y-store l₉ 0 (sliceVal (store .ptr)
         (length (ws3 .1 .1 .0)))) ∷ ‵ (fat fullShare State-L.mir l₁₀ 0 (State-L.lowered r1)) ∷
-        ‵ (fat fullShare Res-L.mir l₁₁ 0 (Res-L.lowered r2)) ∷
+        ‵ (fat fullShare Answer-L.mir l₁₁ 0 (LL.val Answer-T.the-type Answer-L.the-laws r2)) ∷
         ‵ (fat fullShare (tyRef erased mut (pointee ((UInt w8) .written))) l₁₂ 0 (vptr (output .ptr .0) (output .ptr .1))) ∷
         ‵ (fat fullShare (sliceTy (tyRef erased mut (pointee ((UInt w8) .written)))) l₁₃ 0 (sliceVal (output .ptr) (length (output .now)))) ∷
         ‵ (fat fullShare (tyRef erased mut (pointee ((UInt w8) .written))) l₁₄ 0 (vptr (memory .ptr .0) (memory .ptr .1))) ∷
@@ -418,7 +423,8 @@ module _ {M : Type 1} (𝓤 : URA M) (H : Heap 𝓤) (A : Atoms 𝓤) (W : Given
         Walk.full Loading-L.mir l₄ (Loading-L.lowered loading) ∷ Walk.full (tyInt w64) l₅ (vint w64 fuel) ∷
         Walk.full Y-output l₆ (sliceVal (output .ptr) (length (ws2 .1 .1 .1 .1 .0))) ∷ Walk.full Y-memory l₇ (sliceVal (memory .ptr)
         (length (ws2 .1 .1 .1 .1 .1 .0))) ∷ Walk.full Index-L.mir l₈ (Index-L.lowered index) ∷ Walk.full Y-store l₉ (sliceVal (store .ptr)
-        (length (ws3 .1 .1 .0))) ∷ Walk.full State-L.mir l₁₀ (State-L.lowered r1) ∷ Walk.full Res-L.mir l₁₁ (Res-L.lowered r2) ∷
+        (length (ws3 .1 .1 .0))) ∷ Walk.full State-L.mir l₁₀ (State-L.lowered r1) ∷
+        Walk.full Answer-L.mir l₁₁ (LL.val Answer-T.the-type Answer-L.the-laws r2) ∷
         Walk.full (tyRef erased mut (pointee ((UInt w8) .written))) l₁₂ (vptr (output .ptr .0) (output .ptr .1)) ∷
         Walk.full (sliceTy (tyRef erased mut (pointee ((UInt w8) .written)))) l₁₃ (sliceVal (output .ptr) (length (output .now))) ∷
         Walk.full (tyRef erased mut (pointee ((UInt w8) .written))) l₁₄ (vptr (memory .ptr .0) (memory .ptr .1)) ∷
@@ -467,8 +473,8 @@ run-loaded-spec 𝓤 H 𝓜 𝓖 𝓡 =
     (a .1 .0) (a .1 .1 .0) (a .1 .1 .1 .0) (a .1 .1 .1 .1 .0) (a .1 .1 .1 .1 .1 .0) (a .1 .1 .1 .1 .1 .1 .0) (a .1 .1 .1 .1 .1 .1 .1 .0)
     (a .1 .1 .1 .1 .1 .1 .1 .1 .0) (𝓣 .C) (𝓣 .Λ) (fmOf 𝓤 H (W .laws) 𝓣) (cited 𝓤 H (Walk.Of 𝓤 H (𝓖 .A) g-start.ended (g-start.clauses 𝓤 H (𝓖 .A)
     (𝓜 .mem) (𝓡 .run))) 𝓜 𝓡 code.env #g-start g-start-def.routine code.calls-run·start (g-start-thm.met 𝓤 H 𝓜 𝓖 𝓡))
-    (cited 𝓤 H (Walk.Of 𝓤 H (𝓖 .A) g-expand.ended (g-expand.clauses 𝓤 H (𝓖 .A) (𝓜 .mem)
-    (𝓡 .run))) 𝓜 𝓡 code.env #g-expand g-expand-def.routine code.calls-input·expand (g-expand-thm.met 𝓤 H 𝓜 𝓖 𝓡))
+    (cited 𝓤 H (Walk.Of 𝓤 H (𝓖 .A) g-expand-input.ended (g-expand-input.clauses 𝓤 H (𝓖 .A) (𝓜 .mem)
+    (𝓡 .run))) 𝓜 𝓡 code.env #g-expand-input g-expand-input-def.routine code.calls-input·expand-input (g-expand-input-thm.met 𝓤 H 𝓜 𝓖 𝓡))
     (cited 𝓤 H (Walk.Of 𝓤 H (𝓖 .A) g-end.ended (g-end.clauses 𝓤 H (𝓖 .A) (𝓜 .mem)
     (𝓡 .run))) 𝓜 𝓡 code.env #g-end g-end-def.routine code.calls-run·end (g-end-thm.met 𝓤 H 𝓜 𝓖 𝓡)) (are .0) (are .1 .0) (are .1 .1 .0)
     (are .1 .1 .1 .0) (are .1 .1 .1 .1 .0 .1) (are .1 .1 .1 .1 .1 .0) (are .1 .1 .1 .1 .1 .1 .0) (are .1 .1 .1 .1 .1 .1 .1 .0)

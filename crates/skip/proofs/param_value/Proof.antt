@@ -1,6 +1,6 @@
 -- param_value values the parameter in the call's bytes.
-use Rattle.skip.proofs.Skipping.{param-values}
 use borrow.Author.Needs.{needs}
+use Rattle.skip.proofs.Skipping.{param-values}
 use Rattle.skip.proofs.param_value.Statement.{statement}
 use Rattle.skip.proofs.param_value.Tie as tie
 

@@ -1,6 +1,6 @@
 -- params_agree compares the two parameters.
-use Rattle.skip.proofs.Skipping.{params-agree}
 use borrow.Author.Needs.{needs}
+use Rattle.skip.proofs.Skipping.{params-agree}
 use Rattle.skip.proofs.params_agree.Statement.{statement}
 use Rattle.skip.proofs.params_agree.Tie as tie
 
@@ -13,9 +13,6 @@ param-len-requires-2 c κs = search needs
 add-second : tie.Need-add-second
 add-second c = search needs
 
-slice-aggregate-parts-agree : tie.Need-slice-aggregate-parts-agree
-slice-aggregate-parts-agree c = search needs
-
 parts-agree-requires : tie.Need-parts-agree-requires
 parts-agree-requires c κs = search needs
 
@@ -25,10 +22,4 @@ returns c = search (params-agree, needs)
 pub params-agree-spec : {M : Type 1} → statement M
 params-agree-spec =
     tie.close
-    (tie.spec
-    param-len-requires
-    param-len-requires-2
-    add-second
-    slice-aggregate-parts-agree
-    parts-agree-requires
-    returns)
+    (tie.spec param-len-requires param-len-requires-2 add-second parts-agree-requires returns)

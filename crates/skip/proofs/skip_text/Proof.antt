@@ -1,6 +1,6 @@
 -- skip_text skips where the texts are as wanted.
-use Rattle.skip.proofs.Skipping.{skips-text}
 use borrow.Author.Needs.{needs}
+use Rattle.skip.proofs.Skipping.{skips-text}
 use Rattle.skip.proofs.skip_text.Statement.{statement}
 use Rattle.skip.proofs.skip_text.Tie as tie
 

@@ -1,6 +1,6 @@
 -- skip_value values both parameters, then compares.
-use Rattle.skip.proofs.Skipping.{no-first, no-second, skips-value}
 use borrow.Author.Needs.{needs}
+use Rattle.skip.proofs.Skipping.{no-first, no-second, skips-value}
 use Rattle.skip.proofs.skip_value.Statement.{statement}
 use Rattle.skip.proofs.skip_value.Tie as tie
 
@@ -13,8 +13,8 @@ enum-known-a c = search needs
 enum-told : tie.Need-enum-told
 enum-told c = search needs
 
-come-to-requires : tie.Need-come-to-requires
-come-to-requires c κs = search needs
+end-with-requires : tie.Need-end-with-requires
+end-with-requires c κs = search needs
 
 returns : tie.Need-returns
 returns c = search (no-first, needs)
@@ -28,8 +28,8 @@ enum-known-b c = search needs
 enum-told-2 : tie.Need-enum-told-2
 enum-told-2 c = search needs
 
-come-to-requires-2 : tie.Need-come-to-requires-2
-come-to-requires-2 c κs = search needs
+end-with-requires-2 : tie.Need-end-with-requires-2
+end-with-requires-2 c κs = search needs
 
 returns-2 : tie.Need-returns-2
 returns-2 c = search (no-second, needs)
@@ -53,12 +53,12 @@ skip-value-spec =
     param-value-requires
     enum-known-a
     enum-told
-    come-to-requires
+    end-with-requires
     returns
     param-value-requires-2
     enum-known-b
     enum-told-2
-    come-to-requires-2
+    end-with-requires-2
     returns-2
     compare-requires
     skip-if-requires

@@ -18,8 +18,8 @@ loop-holds c = search needs
 read-some-requires : tie.Need-read-some-requires Inv-loop μ-loop
 read-some-requires c κs = search needs
 
-failed-requires : tie.Need-failed-requires Inv-loop μ-loop
-failed-requires c κs = search needs
+fail-read-requires : tie.Need-fail-read-requires Inv-loop μ-loop
+fail-read-requires c κs = search needs
 
 same-length : tie.Need-same-length Inv-loop μ-loop
 same-length c = search needs
@@ -56,7 +56,7 @@ read-all-spec =
     μ-loop
     loop-holds
     read-some-requires
-    failed-requires
+    fail-read-requires
     same-length
     returns
     add-done

@@ -1,18 +1,18 @@
 -- answer_choice makes the answer of a choice; the template lies in the table.
 use borrow.Author.Needs.{needs}
+use native.Mathlib.Omega.{arith}
 use Rattle.stage2.proofs.Results.{answer-none, answer-call}
 use Rattle.stage2.proofs.answer_choice.Statement.{statement}
 use Rattle.stage2.proofs.answer_choice.Tie as tie
 
-mul-widen : tie.Need-mul-widen
-mul-widen c =
-    let h = c .before .before .before .before .pre (c .before .before .before .if1 .taken) in
-    search needs
+slice-aggregate-line-of : tie.Need-slice-aggregate-line-of
+slice-aggregate-line-of c = search needs
 
-array-read-widen : tie.Need-array-read-widen
-array-read-widen c =
-    let h = c .before .before .before .before .pre (c .before .before .before .if1 .taken) in
-    search needs
+line-of-requires : tie.Need-line-of-requires
+line-of-requires c κs =
+    let then = c .before .before .before .before in
+    let h = slice-aggregate-line-of c in
+    record { whole = omega arith; few = then .before .pre (then .if1 .taken) }
 
 widen-requires : tie.Need-widen-requires
 widen-requires c κs = search needs
@@ -36,8 +36,8 @@ pub answer-choice-spec : {M : Type 1} → statement M
 answer-choice-spec =
     tie.close
     (tie.spec
-    mul-widen
-    array-read-widen
+    slice-aggregate-line-of
+    line-of-requires
     widen-requires
     widen-nine-requires
     widen-nine-requires-2

@@ -39,7 +39,7 @@ use denote.Memory.{pointee}
 use denote.Signature.{plain, shrSliceOf}
 use Prim.Native.Nat.{ℕ}
 use lib.ListN.{length}
-use Rattle.walk.proofs.Walk as Walk
+use Rattle.walk_laws.proofs.Walk as Walk
 use Rattle.stage2.proofs.Results.{check-short, check-legal}
 use Rattle.model.specs.declared.Checked.{Checked}
 use Rattle.model.proofs.Checked as Checked-T

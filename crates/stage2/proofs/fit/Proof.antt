@@ -41,8 +41,8 @@ use denote.Memory.{pointee}
 use denote.Signature.{plain, shrSliceOf}
 use Prim.Native.Nat.{ℕ}
 use lib.ListN.{length}
-use Rattle.walk.proofs.Walk as Walk
-use Rattle.walk.proofs.Again as Again
+use Rattle.walk_laws.proofs.Walk as Walk
+use Rattle.walk_laws.proofs.Again as Again
 use Rattle.stage2.proofs.Results.{row-legal, fit-short, fit-legal, first-rule}
 use Rattle.model.proofs.Fitted as Fitted-T
 use Rattle.model.proofs.Fitted.Laws as Fitted-L

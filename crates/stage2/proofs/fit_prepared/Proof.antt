@@ -39,7 +39,7 @@ use denote.Memory.{pointee}
 use Prim.Native.Nat.{ℕ}
 use lib.ListN.{length}
 use Rattle.prepare.specs.Prepares.{Prepares}
-use Rattle.walk.proofs.Walk as Walk
+use Rattle.walk_laws.proofs.Walk as Walk
 use borrow.Author.Tests.{not-true, not-false}
 use Rattle.stage2.proofs.Results.{fit-refused, fit-long, asks-whole, template-within, fit-chosen}
 use Rattle.fit.proofs.Choice as Choice-T
@@ -247,7 +247,7 @@ module _ {M : Type 1} (𝓤 : URA M) (H : Heap 𝓤) (A : Atoms 𝓤) (W : Given
         Kit.fjoin ! $ Walk.nothing-raw ! $ Kit.move ! (14 ∷ 0 ∷ []) $ Kit.join ! $ Kit.move ! (14 ∷ 0 ∷ []) $ Kit.join ! $
         Kit.use1 W (raw (alive 𝓤 H A g-first-reading.signature (κ₁, (κ₂, tt)) (q₁, (q₂, tt)))) (id⊢ 𝓤 _) $
         Walk.asks ! fm g-first-reading.ended (g-first-reading.clauses 𝓤 H A mem run)
-        (((κ₁, (κ₂, tt)), (q₁, (q₂, tt)), tt, (((t .loading) .marks), (nodes, (line, ((length (line .now)), tt)))), ((Marks-L.lowered ((t .loading) .marks)) ∷ [], (v-nodes ∷ [], (v-line ∷ [], ((vint w64 (length (line .now))) ∷ [], tt))))), tt) _ (known-first-reading (((κ₁, (κ₂, tt)), (q₁, (q₂, tt)), tt, (((t .loading) .marks), (nodes, (line, ((length (line .now)), tt)))), ((Marks-L.lowered ((t .loading) .marks)) ∷ [], (v-nodes ∷ [], (v-line ∷ [], ((vint w64 (length (line .now))) ∷ [], tt))))), tt)) (factI 𝓤 _ (emp 𝓤) (asks-whole _ pre (eqb-true _ _ (not-false _ t1)))) (λ r ws. id⊢ 𝓤 _)
+        (((κ₁, (κ₂, tt)), (q₁, (q₂, tt)), tt, (((t .loading) .marks), (nodes, (line, ((length (line .now)), tt)))), ((Marks-L.lowered ((t .loading) .marks)) ∷ [], (v-nodes ∷ [], (v-line ∷ [], ((vint w64 (length (line .now))) ∷ [], tt))))), tt) _ (known-first-reading (((κ₁, (κ₂, tt)), (q₁, (q₂, tt)), tt, (((t .loading) .marks), (nodes, (line, ((length (line .now)), tt)))), ((Marks-L.lowered ((t .loading) .marks)) ∷ [], (v-nodes ∷ [], (v-line ∷ [], ((vint w64 (length (line .now))) ∷ [], tt))))), tt)) (factI 𝓤 _ (emp 𝓤) (asks-whole _ pre (eqb-true _ _ (not-false _ t1)) (ltb-false _ _ t2))) (λ r ws. id⊢ 𝓤 _)
         (Run.and-then ! (Run.load ! (Run.from ! (Run.fld ! refl (Run.stop !))) (Part.look-in ! 8 (Part.sub ! 2 refl (Part.whole !))))
         (Run.and-then ! (Run.load ! (Run.from ! (Run.stop !)) (Run.look ! 5 refl)) (Run.and-then ! (Run.load ! (Run.from ! (Run.stop !))
         (Run.look ! 7 refl)) (Run.and-then ! (Run.load ! (Run.from ! (Run.stop !)) (Run.look ! 9 refl)) (Run.no-more !))))) (λ u3 r3 is3′ e3.

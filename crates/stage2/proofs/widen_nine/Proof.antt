@@ -1,6 +1,6 @@
 -- widen_nine keeps the nine numbers.
 use borrow.Author.Needs.{needs}
-use Rattle.stage2.proofs.Results.{all-nine}
+use Rattle.fit.proofs.Nine.{nine-kept}
 use Rattle.stage2.proofs.widen_nine.Statement.{statement}
 use Rattle.stage2.proofs.widen_nine.Tie as tie
 
@@ -59,7 +59,7 @@ widen-requires-9 : tie.Need-widen-requires-9
 widen-requires-9 c κs = search needs
 
 returns : tie.Need-returns
-returns c = cc (all-nine (c .before .before .before .before .before .before .before .before .before .args .t1) (search needs))
+returns c = search (nine-kept, needs)
 
 pub widen-nine-spec : {M : Type 1} → statement M
 widen-nine-spec =

@@ -14,8 +14,8 @@ abbrev μ-loop : tie.MeasureT-loop
 loop-holds : tie.Need-loop-holds Inv-loop μ-loop
 loop-holds c = search seek-begins
 
-read-head-requires : tie.Need-read-head-requires Inv-loop μ-loop
-read-head-requires c κs = search walk-ahead
+read-entry-requires : tie.Need-read-entry-requires Inv-loop μ-loop
+read-entry-requires c κs = search walk-ahead
 
 sub-same-bytes : tie.Need-sub-same-bytes Inv-loop μ-loop
 sub-same-bytes c = search needs
@@ -51,7 +51,7 @@ locate-spec =
     Inv-loop
     μ-loop
     loop-holds
-    read-head-requires
+    read-entry-requires
     sub-same-bytes
     part-same-bytes-start
     part-same-bytes-end

@@ -16,8 +16,8 @@ replace-requires c κs = search placed-as
 enum-told : tie.Need-enum-told
 enum-told c = search needs
 
-append-requires : tie.Need-append-requires
-append-requires c κs = search placed-as
+append-entry-requires : tie.Need-append-entry-requires
+append-entry-requires c κs = search placed-as
 
 same-length : tie.Need-same-length
 same-length c = search needs
@@ -39,7 +39,7 @@ put-spec =
     enum-known-at
     replace-requires
     enum-told
-    append-requires
+    append-entry-requires
     same-length
     returns
     same-length-2

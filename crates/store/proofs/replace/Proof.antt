@@ -7,8 +7,8 @@ use Rattle.store.proofs.Replaced.{too-long, replaces}
 use Rattle.store.proofs.replace.Statement.{statement}
 use Rattle.store.proofs.replace.Tie as tie
 
-read-head-requires : tie.Need-read-head-requires
-read-head-requires c κs = search entry-within
+read-entry-requires : tie.Need-read-entry-requires
+read-entry-requires c κs = search entry-within
 
 add-end : tie.Need-add-end
 add-end c = search needs
@@ -59,7 +59,7 @@ pub replace-spec : {M : Type 1} → statement M
 replace-spec =
     tie.close
     (tie.spec
-    read-head-requires
+    read-entry-requires
     add-end
     sub-tail
     mul-if1

@@ -10,8 +10,8 @@ locate-requires c κs = search needs
 enum-known-at : tie.Need-enum-known-at
 enum-known-at c = search needs
 
-read-head-requires : tie.Need-read-head-requires
-read-head-requires c κs = search entry-within
+read-entry-requires : tie.Need-read-entry-requires
+read-entry-requires c κs = search entry-within
 
 sub-t10 : tie.Need-sub-t10
 sub-t10 c = search needs
@@ -28,4 +28,4 @@ returns-2 c = search sees-none
 pub seek-spec : {M : Type 1} → statement M
 seek-spec =
     tie.close
-    (tie.spec locate-requires enum-known-at read-head-requires sub-t10 enum-told returns returns-2)
+    (tie.spec locate-requires enum-known-at read-entry-requires sub-t10 enum-told returns returns-2)

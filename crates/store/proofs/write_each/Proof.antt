@@ -14,8 +14,8 @@ abbrev μ-loop : tie.MeasureT-loop
 loop-holds : tie.Need-loop-holds Inv-loop μ-loop
 loop-holds c = search write-begins
 
-read-head-requires : tie.Need-read-head-requires Inv-loop μ-loop
-read-head-requires c κs = search walk-ahead
+read-entry-requires : tie.Need-read-entry-requires Inv-loop μ-loop
+read-entry-requires c κs = search walk-ahead
 
 part-of-requires : tie.Need-part-of-requires Inv-loop μ-loop
 part-of-requires c κs = search needs
@@ -54,7 +54,7 @@ write-each-spec =
     Inv-loop
     μ-loop
     loop-holds
-    read-head-requires
+    read-entry-requires
     part-of-requires
     sub-write-marked
     part-write-marked-start

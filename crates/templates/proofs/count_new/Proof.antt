@@ -1,31 +1,26 @@
--- count_new answers how many beginnings are new: all but the most that the template has in common with those passed.
+-- count_new answers how many beginnings are new: all but the most that the template has in common with another. The loop's invariant: `most`
+-- is the most that it has in common with one of the first m. The measure: the templates left.
 use borrow.Author.Needs.{needs}
 use Prim.Native.Nat.{_-_}
-use Rattle.templates.proofs.Table.{entry-inside}
+use Rattle.macros.proofs.Table.{entry-inside}
 use Rattle.templates.proofs.Matching.{Passed, passed-none, passed-more, passed-within, passed-all}
 use Rattle.templates.proofs.count_new.Statement.{statement}
 use Rattle.templates.proofs.count_new.Tie as tie
 
 abbrev Inv-loop : tie.InvT-loop
-Inv-loop text starts lens k start len most₀ m₀ most m = Passed text starts lens k start len m most
+Inv-loop text table k start len most₀ m₀ most m = Passed text table k start len m most
 
 abbrev μ-loop : tie.MeasureT-loop
-μ-loop text starts lens k start len most₀ m₀ most m = k - m
+μ-loop text table k start len most₀ m₀ most m = k - m
 
 loop-holds : tie.Need-loop-holds Inv-loop μ-loop
-loop-holds c = passed-none _ _ _ _ _ _
+loop-holds c = passed-none _ _ _ _ _
 
-mul-match-both : tie.Need-mul-match-both Inv-loop μ-loop
-mul-match-both c = search needs
+start-of-requires : tie.Need-start-of-requires Inv-loop μ-loop
+start-of-requires c κs = search needs
 
-shared-slice-read-match-both : tie.Need-shared-slice-read-match-both Inv-loop μ-loop
-shared-slice-read-match-both c = search needs
-
-mul-match-both-2 : tie.Need-mul-match-both-2 Inv-loop μ-loop
-mul-match-both-2 c = search needs
-
-shared-slice-read-match-both-2 : tie.Need-shared-slice-read-match-both-2 Inv-loop μ-loop
-shared-slice-read-match-both-2 c = search needs
+len-of-requires : tie.Need-len-of-requires Inv-loop μ-loop
+len-of-requires c κs = search needs
 
 match-both-requires : tie.Need-match-both-requires Inv-loop μ-loop
 match-both-requires c κs = search (entry-inside, needs)
@@ -58,10 +53,8 @@ count-new-spec =
     Inv-loop
     μ-loop
     loop-holds
-    mul-match-both
-    shared-slice-read-match-both
-    mul-match-both-2
-    shared-slice-read-match-both-2
+    start-of-requires
+    len-of-requires
     match-both-requires
     larger-requires
     add-m

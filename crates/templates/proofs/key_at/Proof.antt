@@ -16,10 +16,14 @@ returns : tie.Need-returns
 returns c = search (key-hole, needs)
 
 cast-result : tie.Need-cast-result
-cast-result c = omega (arith, c .before .shared-slice-known .given (c .before .before .before .args .start + c .before .before .before .args .x))
+cast-result c =
+    let a = c .before .before .before .args in
+    omega (arith, c .before .shared-slice-known .given (a .start + a .x))
 
 returns-2 : tie.Need-returns-2
-returns-2 c = key-byte _ _ _ _ _ (c .before .before .before .pre) (search needs) (c .if2 .left) (omega (arith, c .before .shared-slice-known .given (c .before .before .before .args .start + c .before .before .before .args .x)))
+returns-2 c =
+    let a = c .before .before .before .args in
+    key-byte _ _ _ _ _ (c .before .before .before .pre) (search needs) (c .if2 .left) (omega (arith, c .before .shared-slice-known .given (a .start + a .x)))
 
 returns-3 : tie.Need-returns-3
 returns-3 c = search (key-end, needs)

@@ -1,4 +1,5 @@
--- match_both answers how many elements two templates have in common: x of them are the same.
+-- match_both answers how many elements two templates have in common. The loop's invariant: their first x elements are the same. The measure:
+-- the elements left of the first template.
 use borrow.Author.Needs.{needs}
 use Prim.Native.Nat.{_-_}
 use Rattle.templates.proofs.Matching.{Matching, match-none, match-short, match-differ, match-more, match-longer, match-all}

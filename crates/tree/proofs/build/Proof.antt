@@ -44,14 +44,14 @@ use denote.Memory.{pointee}
 use denote.Signature.{plain, shrSliceOf}
 use Prim.Native.Nat.{ℕ, _<_, _^_}
 use lib.ListN.{length, replicate, length-replicate, getD}
-use Rattle.templates.specs.Table.{table, Entries}
-use Rattle.tree.specs.Built.{Ready}
-use Rattle.walk.proofs.Walk as Walk
-use Rattle.walk.proofs.Again as Again
-use Rattle.walk.proofs.Numbers as Numbers
-use Rattle.walk.proofs.Arrays as Arrays
+use Rattle.macros.specs.Table.{templatesIn, Entries}
+use Rattle.tree.specs.Built.{ReadyToBuild}
+use Rattle.walk_laws.proofs.Walk as Walk
+use Rattle.walk_laws.proofs.Again as Again
+use Rattle.walk_laws.proofs.Numbers as Numbers
+use Rattle.walk_laws.proofs.Arrays as Arrays
 use Rattle.tree.proofs.Filling.{no-more, root-alone}
-use Rattle.templates.proofs.Table.{table-length}
+use Rattle.macros.proofs.Table.{templates-in-length}
 use Rattle.tree.proofs.Known.{table-small}
 use Rattle.tree.proofs.Built.{ready-kept, built-in-row}
 use Rattle.model.specs.declared.Marks.{Marks}
@@ -68,21 +68,21 @@ use Rattle.nodes.proofs.set_node as g-set-node
 use Rattle.nodes.proofs.set_node.Symbol as g-set-node-def
 use Rattle.nodes.proofs.set_node.Symbol.{name as #g-set-node}
 use Rattle.nodes.proofs.set_node.Met as g-set-node-thm
-use Rattle.tree.proofs.grow as g-grow
-use Rattle.tree.proofs.grow.Symbol as g-grow-def
-use Rattle.tree.proofs.grow.Symbol.{name as #g-grow}
-use Rattle.tree.proofs.grow.Met as g-grow-thm
+use Rattle.tree.proofs.grow_tree as g-grow-tree
+use Rattle.tree.proofs.grow_tree.Symbol as g-grow-tree-def
+use Rattle.tree.proofs.grow_tree.Symbol.{name as #g-grow-tree}
+use Rattle.tree.proofs.grow_tree.Met as g-grow-tree-thm
 use Rattle.tree.proofs.build as f-build
 use Rattle.tree.proofs.build.Key.{name as #build}
 use Rattle.tree.proofs.build.Statement as stated
 use Rattle.tree.proofs.build.Code as code
 
 abbrev stayed-build : Stays (f-build.ended .signature .params) (f-build.ended .kept)
-stayed-build = (stay-dropped (plain (λ _. Marks-T.the-row)) yes, (stay-dropped (shrSliceOf (0 ∷ []) tt (plain (λ _. (UInt w8)))) yes, (stay-dropped (shrSliceOf (1 ∷ []) tt (plain (λ _. (UInt w64)))) yes, (stay-dropped (shrSliceOf (2 ∷ []) tt (plain (λ _. (UInt w64)))) yes, (stay-dropped (plain (λ _. (UInt w64))) yes, (gave-slice (3 ∷ []) tt (plain (λ _. Node-T.the-row)), tt))))))
+stayed-build = (stay-dropped (plain (λ _. Marks-T.the-row)) yes, (stay-dropped (shrSliceOf (0 ∷ []) tt (plain (λ _. (UInt w8)))) yes, (stay-dropped (shrSliceOf (1 ∷ []) tt (plain (λ _. (UInt w64)))) yes, (stay-dropped (plain (λ _. (UInt w64))) yes, (gave-slice (2 ∷ []) tt (plain (λ _. Node-T.the-row)), tt)))))
 
 module _ {M : Type 1} (𝓤 : URA M) (H : Heap 𝓤) (A : Atoms 𝓤) (W : Given 𝓤 H A) (mem : Memory → SProp 𝓤) (run : Routine → Fun 𝓤) (κ₀ : Lft)
-    (q₀ : Share) (κ₁ : Lft) (q₁ : Share) (κ₂ : Lft) (q₂ : Share) (κ₃ : Lft) (q₃ : Share) (m : Marks) (text : RefT (List ℕ)) (starts : RefT (List ℕ))
-    (lens : RefT (List ℕ)) (n : ℕ) (nodes : RefT (List Node)) where
+    (q₀ : Share) (κ₁ : Lft) (q₁ : Share) (κ₂ : Lft) (q₂ : Share) (m : Marks) (text : RefT (List ℕ)) (table : RefT (List ℕ)) (n : ℕ)
+    (nodes : RefT (List Node)) where
   abbrev T-text : RattleType
   T-text = ShrSlice (named 0) κ₀ (UInt w8)
 
@@ -92,82 +92,70 @@ module _ {M : Type 1} (𝓤 : URA M) (H : Heap 𝓤) (A : Atoms 𝓤) (W : Given
   abbrev v-text : Val
   v-text = sliceVal (text .ptr) (length (text .now))
 
-  abbrev T-starts : RattleType
-  T-starts = ShrSlice (named 1) κ₁ (UInt w64)
+  abbrev T-table : RattleType
+  T-table = ShrSlice (named 1) κ₁ (UInt w64)
 
-  abbrev Y-starts : Ty
-  Y-starts = sliceTy (tyRef (named 1) imm (pointee ((UInt w64) .written)))
+  abbrev Y-table : Ty
+  Y-table = sliceTy (tyRef (named 1) imm (pointee ((UInt w64) .written)))
 
-  abbrev v-starts : Val
-  v-starts = sliceVal (starts .ptr) (length (starts .now))
-
-  abbrev T-lens : RattleType
-  T-lens = ShrSlice (named 2) κ₂ (UInt w64)
-
-  abbrev Y-lens : Ty
-  Y-lens = sliceTy (tyRef (named 2) imm (pointee ((UInt w64) .written)))
-
-  abbrev v-lens : Val
-  v-lens = sliceVal (lens .ptr) (length (lens .now))
+  abbrev v-table : Val
+  v-table = sliceVal (table .ptr) (length (table .now))
 
   abbrev T-nodes : RattleType
-  T-nodes = MutSlice (named 3) κ₃ Node-T.the-row
+  T-nodes = MutSlice (named 2) κ₂ Node-T.the-row
 
   abbrev Y-nodes : Ty
-  Y-nodes = sliceTy (tyRef (named 3) mut (pointee (Node-T.the-row .written)))
+  Y-nodes = sliceTy (tyRef (named 2) mut (pointee (Node-T.the-row .written)))
 
   abbrev v-nodes : Val
   v-nodes = sliceVal (nodes .ptr) (length (nodes .now))
 
   abbrev bound : Walk.Of 𝓤 H A f-build.ended (f-build.clauses 𝓤 H A mem run) .Ghost
-  bound = (((κ₀, (κ₁, (κ₂, (κ₃, tt)))), (q₀, (q₁, (q₂, (q₃, tt)))), tt, (m, (text, (starts, (lens, (n, (nodes, tt)))))), ((Marks-L.lowered m) ∷ [], (v-text ∷ [], (v-starts ∷ [], (v-lens ∷ [], ((vint w64 n) ∷ [], (v-nodes ∷ [], tt))))))), tt)
+  bound = (((κ₀, (κ₁, (κ₂, tt))), (q₀, (q₁, (q₂, tt))), tt, (m, (text, (table, (n, (nodes, tt))))), ((Marks-L.lowered m) ∷ [], (v-text ∷ [], (v-table ∷ [], ((vint w64 n) ∷ [], (v-nodes ∷ [], tt)))))), tt)
 
   abbrev Post : Val → SProp 𝓤
   Post = walkOf 𝓤 H A f-build.ended stayed-build (f-build.clauses 𝓤 H A mem run) .post bound
 
   module _ (C : Calls 𝓤 H) (Λ : Loops 𝓤 H) (fm : FmC 𝓤 H (W .laws) C) (known-make-root : Triple 𝓤 (C #g-make-root)
       (Walk.Of 𝓤 H A g-make-root.ended (g-make-root.clauses 𝓤 H A mem run))) (known-set-node : Triple 𝓤 (C #g-set-node)
-      (Walk.Of 𝓤 H A g-set-node.ended (g-set-node.clauses 𝓤 H A mem run))) (known-grow : Triple 𝓤 (C #g-grow)
-      (Walk.Of 𝓤 H A g-grow.ended (g-grow.clauses 𝓤 H A mem run))) where
+      (Walk.Of 𝓤 H A g-set-node.ended (g-set-node.clauses 𝓤 H A mem run))) (known-grow-tree : Triple 𝓤 (C #g-grow-tree)
+      (Walk.Of 𝓤 H A g-grow-tree.ended (g-grow-tree.clauses 𝓤 H A mem run))) where
     walk-build : (is-m : Is Marks-T.the-row m ((Marks-L.lowered m) ∷ [])) → (is-text : Is T-text text (v-text ∷ []))
-        → (is-starts : Is T-starts starts (v-starts ∷ [])) → (is-lens : Is T-lens lens (v-lens ∷ [])) → (fits-n : n < 2 ^ 64)
-        → (is-nodes : Is T-nodes nodes (v-nodes ∷ [])) → (pre : Entries (now text) (now starts) (now lens) n × Ready (m .placeholder)
-        (table (now text) (now starts) (now lens) n) (now nodes)) → ent 𝓤 (onEntry 𝓤 H A f-build.signature (κ₀, (κ₁, (κ₂, (κ₃, tt))))
-        (q₀, (q₁, (q₂, (q₃, tt)))) (m, (text, (starts, (lens, (n, (nodes, tt))))))
-        ((Marks-L.lowered m) ∷ [], (v-text ∷ [], (v-starts ∷ [], (v-lens ∷ [], ((vint w64 n) ∷ [], (v-nodes ∷ [], tt)))))))
-        (WpFn 𝓤 H C Λ code.function ((Marks-L.lowered m) ∷ v-text ∷ v-starts ∷ v-lens ∷ (vint w64 n) ∷ v-nodes ∷ []) Post)
-    walk-build is-m is-text is-starts is-lens fits-n is-nodes pre =
-        Kit.qed W (raw (alive 𝓤 H A f-build.signature (κ₀, (κ₁, (κ₂, (κ₃, tt)))) (q₀, (q₁, (q₂, (q₃, tt))))) ∷ ‵ (owns (Marks-T.the-row ∷ T-text ∷
-        T-starts ∷ T-lens ∷ (UInt w64) ∷ T-nodes ∷ []) (m, (text, (starts, (lens, (n, (nodes, tt))))))
-        ((Marks-L.lowered m) ∷ [], (v-text ∷ [], (v-starts ∷ [], (v-lens ∷ [], ((vint w64 n) ∷ [], (v-nodes ∷ [], tt))))))) ∷ []) ∵
+        → (is-table : Is T-table table (v-table ∷ [])) → (fits-n : n < 2 ^ 64) → (is-nodes : Is T-nodes nodes (v-nodes ∷ []))
+        → (pre : Entries (now text) (now table) n × ReadyToBuild (m .placeholder) (templatesIn (now text) (now table) n) (now nodes))
+        → ent 𝓤 (onEntry 𝓤 H A f-build.signature (κ₀, (κ₁, (κ₂, tt))) (q₀, (q₁, (q₂, tt))) (m, (text, (table, (n, (nodes, tt)))))
+        ((Marks-L.lowered m) ∷ [], (v-text ∷ [], (v-table ∷ [], ((vint w64 n) ∷ [], (v-nodes ∷ [], tt))))))
+        (WpFn 𝓤 H C Λ code.function ((Marks-L.lowered m) ∷ v-text ∷ v-table ∷ (vint w64 n) ∷ v-nodes ∷ []) Post)
+    walk-build is-m is-text is-table fits-n is-nodes pre =
+        Kit.qed W (raw (alive 𝓤 H A f-build.signature (κ₀, (κ₁, (κ₂, tt))) (q₀, (q₁, (q₂, tt)))) ∷ ‵ (owns (Marks-T.the-row ∷ T-text ∷ T-table ∷
+        (UInt w64) ∷ T-nodes ∷ []) (m, (text, (table, (n, (nodes, tt)))))
+        ((Marks-L.lowered m) ∷ [], (v-text ∷ [], (v-table ∷ [], ((vint w64 n) ∷ [], (v-nodes ∷ [], tt)))))) ∷ []) ∵
         Kit.move ! (1 ∷ []) $ Kit.fsplit ! $ Kit.drop ! $ Kit.fsplit ! $ Kit.move ! (1 ∷ []) $ Kit.fsplit ! $ Kit.move ! (1 ∷ []) $ Kit.fsplit ! $
-        Kit.move ! (1 ∷ []) $ Kit.fsplit ! $ Kit.drop ! $ Kit.fsplit ! $ Kit.move ! (1 ∷ []) $ Kit.drop ! $ Kit.move ! (4 ∷ []) $
-        Kit.use1 W (‵ (flft κ₀ q₀) ⊛ (‵ (flft κ₁ q₁) ⊛ (‵ (flft κ₂ q₂) ⊛ (‵ (flft κ₃ q₃) ⊛ (raw (emp 𝓤)))))) (id⊢ 𝓤 _) $ Kit.split ! $
-        Kit.move ! (1 ∷ []) $ Kit.split ! $ Kit.move ! (1 ∷ []) $ Kit.split ! $ Kit.move ! (1 ∷ []) $ Kit.split ! $ Kit.move ! (1 ∷ []) $ Kit.drop ! $
-        Run.enter ! C Λ code.function ((Marks-L.lowered m) ∷ v-text ∷ v-starts ∷ v-lens ∷ (vint w64 n) ∷ v-nodes ∷ []) Post $
-        Run.alloc1 ! (λ l₀. Run.alloc1 ! (λ l₁. Run.alloc1 ! (λ l₂. Run.alloc1 ! (λ l₃. Run.alloc1 ! (λ l₄. Run.alloc1 ! (λ l₅. Run.alloc1 ! (λ l₆. Run.alloc1 ! (λ l₇. Run.alloc1 ! (λ l₈. Run.alloc1 ! (λ l₉. Run.alloc1 ! (λ l₁₀. Run.alloc1 ! (λ l₁₁. Run.alloc1 ! (λ l₁₂. Run.alloc1 ! (λ l₁₃. Run.alloc1 ! (λ l₁₄. Run.alloc1 ! (λ l₁₅.
+        Kit.drop ! $ Kit.fsplit ! $ Kit.move ! (1 ∷ []) $ Kit.drop ! $ Kit.move ! (3 ∷ []) $
+        Kit.use1 W (‵ (flft κ₀ q₀) ⊛ (‵ (flft κ₁ q₁) ⊛ (‵ (flft κ₂ q₂) ⊛ (raw (emp 𝓤))))) (id⊢ 𝓤 _) $ Kit.split ! $ Kit.move ! (1 ∷ []) $
+        Kit.split ! $ Kit.move ! (1 ∷ []) $ Kit.split ! $ Kit.move ! (1 ∷ []) $ Kit.drop ! $
+        Run.enter ! C Λ code.function ((Marks-L.lowered m) ∷ v-text ∷ v-table ∷ (vint w64 n) ∷ v-nodes ∷ []) Post $
+        Run.alloc1 ! (λ l₀. Run.alloc1 ! (λ l₁. Run.alloc1 ! (λ l₂. Run.alloc1 ! (λ l₃. Run.alloc1 ! (λ l₄. Run.alloc1 ! (λ l₅. Run.alloc1 ! (λ l₆. Run.alloc1 ! (λ l₇. Run.alloc1 ! (λ l₈. Run.alloc1 ! (λ l₉. Run.alloc1 ! (λ l₁₀. Run.alloc1 ! (λ l₁₁. Run.alloc1 ! (λ l₁₂. Run.alloc1 ! (λ l₁₃. Run.alloc1 ! (λ l₁₄.
         let E : Env 𝓤 H = Walk.at-addresses (code.function .locals) (l₀ ∷ l₁ ∷ l₂ ∷ l₃ ∷ l₄ ∷ l₅ ∷ l₆ ∷ l₇ ∷ l₈ ∷ l₉ ∷ l₁₀ ∷ l₁₁ ∷ l₁₂ ∷ l₁₃ ∷ l₁₄ ∷
-        l₁₅ ∷ []) in
-        Kit.move ! (30 ∷ 31 ∷ 28 ∷ 29 ∷ 26 ∷ 27 ∷ 24 ∷ 25 ∷ 22 ∷ 23 ∷ 20 ∷ 21 ∷ 18 ∷ 19 ∷ 16 ∷ 17 ∷ 14 ∷ 15 ∷ 12 ∷ 13 ∷ 10 ∷ 11 ∷ 8 ∷ 9 ∷ 6 ∷ 7 ∷
-        4 ∷ 5 ∷ 2 ∷ 3 ∷ 0 ∷ 1 ∷ []) $
-        Walk.gathers ! (Walk.bare (tyInt w64) l₀ ∷ Walk.bare Marks-L.mir l₁ ∷ Walk.bare Y-text l₂ ∷ Walk.bare Y-starts l₃ ∷ Walk.bare Y-lens l₄ ∷
-        Walk.bare (tyInt w64) l₅ ∷ Walk.bare Y-nodes l₆ ∷ Walk.bare (tyArray (tyInt w64) 128) l₇ ∷ Walk.bare tyUnit l₈ ∷
-        Walk.bare (tyRef erased mut (pointee (Node-T.the-row .written))) l₉ ∷
-        Walk.bare (sliceTy (tyRef erased mut (pointee (Node-T.the-row .written)))) l₁₀ ∷ Walk.bare Node-L.mir l₁₁ ∷
-        Walk.bare (tyRef erased mut (pointee (Node-T.the-row .written))) l₁₂ ∷
-        Walk.bare (sliceTy (tyRef erased mut (pointee (Node-T.the-row .written)))) l₁₃ ∷
-        Walk.bare (tyRef erased mut (pointee (Array (UInt w64) 128 .written))) l₁₄ ∷
-        Walk.bare (sliceTy (tyRef erased mut (pointee ((UInt w64) .written)))) l₁₅ ∷ []) (‵ (flft κ₃ q₃) ∷ ‵ (flft κ₂ q₂) ∷ ‵ (flft κ₁ q₁) ∷
-        ‵ (flft κ₀ q₀) ∷ ‵ (T-nodes .own nodes (sliceVal (nodes .ptr) (length (nodes .now)) ∷ [])) ∷ ‵ (T-lens .own lens (sliceVal (lens .ptr)
-        (length (lens .now)) ∷ [])) ∷ ‵ (T-starts .own starts (sliceVal (starts .ptr) (length (starts .now)) ∷ [])) ∷
-        ‵ (T-text .own text (sliceVal (text .ptr) (length (text .now)) ∷ [])) ∷ []) (λ Fd ed.
+        []) in
+        Kit.move ! (28 ∷ 29 ∷ 26 ∷ 27 ∷ 24 ∷ 25 ∷ 22 ∷ 23 ∷ 20 ∷ 21 ∷ 18 ∷ 19 ∷ 16 ∷ 17 ∷ 14 ∷ 15 ∷ 12 ∷ 13 ∷ 10 ∷ 11 ∷ 8 ∷ 9 ∷ 6 ∷ 7 ∷ 4 ∷ 5 ∷ 2 ∷
+        3 ∷ 0 ∷ 1 ∷ []) $
+        Walk.gathers ! (Walk.bare (tyInt w64) l₀ ∷ Walk.bare Marks-L.mir l₁ ∷ Walk.bare Y-text l₂ ∷ Walk.bare Y-table l₃ ∷
+        Walk.bare (tyInt w64) l₄ ∷ Walk.bare Y-nodes l₅ ∷ Walk.bare (tyArray (tyInt w64) 128) l₆ ∷ Walk.bare tyUnit l₇ ∷
+        Walk.bare (tyRef erased mut (pointee (Node-T.the-row .written))) l₈ ∷
+        Walk.bare (sliceTy (tyRef erased mut (pointee (Node-T.the-row .written)))) l₉ ∷ Walk.bare Node-L.mir l₁₀ ∷
+        Walk.bare (tyRef erased mut (pointee (Node-T.the-row .written))) l₁₁ ∷
+        Walk.bare (sliceTy (tyRef erased mut (pointee (Node-T.the-row .written)))) l₁₂ ∷
+        Walk.bare (tyRef erased mut (pointee (Array (UInt w64) 128 .written))) l₁₃ ∷
+        Walk.bare (sliceTy (tyRef erased mut (pointee ((UInt w64) .written)))) l₁₄ ∷ []) (‵ (flft κ₂ q₂) ∷ ‵ (flft κ₁ q₁) ∷ ‵ (flft κ₀ q₀) ∷
+        ‵ (T-nodes .own nodes (sliceVal (nodes .ptr) (length (nodes .now)) ∷ [])) ∷ ‵ (T-table .own table (sliceVal (table .ptr)
+        (length (table .now)) ∷ [])) ∷ ‵ (T-text .own text (sliceVal (text .ptr) (length (text .now)) ∷ [])) ∷ []) (λ Fd ed.
         Run.alloc0 ! $ Run.params1 ! $ Run.pass1 ! (Run.init ! 1 refl (LL.lawful Marks-T.the-type Marks-L.the-laws 𝓤 H A W .typed m _ is-m .0)) $
         Run.pass1 ! (Run.init ! 2 refl (shr-slice-lawful 𝓤 H A W (named 0) κ₀ (UInt w8) .typed text _ is-text .0)) $
-        Run.pass1 ! (Run.init ! 3 refl (shr-slice-lawful 𝓤 H A W (named 1) κ₁ (UInt w64) .typed starts _ is-starts .0)) $
-        Run.pass1 ! (Run.init ! 4 refl (shr-slice-lawful 𝓤 H A W (named 2) κ₂ (UInt w64) .typed lens _ is-lens .0)) $
-        Run.pass1 ! (Run.init ! 5 refl ((tt, record { fits = fits-n }))) $
-        Run.pass1 ! (Run.init ! 6 refl (mut-slice-lawful 𝓤 H A W (named 3) κ₃ Node-T.the-row .typed nodes _ is-nodes .0)) $ Run.pass0 ! $
-        Kit.move ! (24 ∷ 20 ∷ []) $
+        Run.pass1 ! (Run.init ! 3 refl (shr-slice-lawful 𝓤 H A W (named 1) κ₁ (UInt w64) .typed table _ is-table .0)) $
+        Run.pass1 ! (Run.init ! 4 refl ((tt, record { fits = fits-n }))) $
+        Run.pass1 ! (Run.init ! 5 refl (mut-slice-lawful 𝓤 H A W (named 2) κ₂ Node-T.the-row .typed nodes _ is-nodes .0)) $ Run.pass0 ! $
+        Kit.move ! (21 ∷ 18 ∷ []) $
         Kit.use2 W (later (Kit.given ((i : ℕ) → getD (text .now) i 0 < 2 ^ 8) (‵ (T-text .own text (v-text ∷ [])) ⊛ ‵ (flft κ₀ q₀))))
         (Numbers.numbers-fit 𝓤 H A W (named 0) κ₀ q₀ w8 text) $
         Kit.await ! tt $ Kit.learn ! (λ fits-text. Kit.split ! $
@@ -175,47 +163,47 @@ module _ {M : Type 1} (𝓤 : URA M) (H : Heap 𝓤) (A : Atoms 𝓤) (W : Given
         Kit.use1 W (‵ (Array (UInt w64) 128 .own (replicate {A = ℕ} 128 0) (arrayVal (replicate 128 (vint w64 0)) ∷ [])))
         (array-repeat 𝓤 H A W (UInt w64) (uint-copy 𝓤 H A W w64) 128 0 (vint w64 0)) $
         Steps.peeks ! (Array (UInt w64) 128) (Is (Array (UInt w64) 128)) (shows 𝓤 H A (Array (UInt w64) 128)) (replicate {A = ℕ} 128 0)
-        (arrayVal (replicate 128 (vint w64 0)) ∷ []) (λ isa7.
-        Run.assigns ! (Part.rep ! 128 (Run.lit ! tt)) (Run.from ! (Run.stop !)) (Run.init ! 10 refl (array-lawful 𝓤 H A W (UInt w64)
-        (uint-lawful 𝓤 H A W w64) 128 .typed (replicate {A = ℕ} 128 0) _ isa7 .0)) $
-        Run.assigns ! (Run.addr ! (Run.from ! (Run.fld ! refl (Run.hop ! (Part.look-in ! 9 (Part.sub ! 0 refl (Part.whole !))) (Run.stop !)))))
-        (Run.from ! (Run.stop !)) (Run.init ! 12 refl ((tt, tt))) $
-        Run.assigns ! (Part.agg ! (Run.and-then ! (Run.load ! (Run.from ! (Run.stop !)) (Run.look ! 12 refl))
-        (Run.and-then ! (Run.load ! (Run.from ! (Run.fld ! refl (Run.stop !))) (Part.look-in ! 9 (Part.sub ! 1 refl (Part.whole !))))
-        (Run.no-more !)))) (Run.from ! (Run.stop !)) (Run.init ! 13 refl ((tt, (tt, (record { fits = is-nodes .0 .1 .0 }, tt))))) $
-        -- [the array 7; text; κ₀; the locals; their ends; κ₃; κ₂; κ₁; nodes; lens; starts]
+        (arrayVal (replicate 128 (vint w64 0)) ∷ []) (λ isa6.
+        Run.assigns ! (Part.rep ! 128 (Run.lit ! tt)) (Run.from ! (Run.stop !)) (Run.init ! 9 refl (array-lawful 𝓤 H A W (UInt w64)
+        (uint-lawful 𝓤 H A W w64) 128 .typed (replicate {A = ℕ} 128 0) _ isa6 .0)) $
+        Run.assigns ! (Run.addr ! (Run.from ! (Run.fld ! refl (Run.hop ! (Part.look-in ! 8 (Part.sub ! 0 refl (Part.whole !))) (Run.stop !)))))
+        (Run.from ! (Run.stop !)) (Run.init ! 11 refl ((tt, tt))) $
+        Run.assigns ! (Part.agg ! (Run.and-then ! (Run.load ! (Run.from ! (Run.stop !)) (Run.look ! 11 refl))
+        (Run.and-then ! (Run.load ! (Run.from ! (Run.fld ! refl (Run.stop !))) (Part.look-in ! 8 (Part.sub ! 1 refl (Part.whole !))))
+        (Run.no-more !)))) (Run.from ! (Run.stop !)) (Run.init ! 12 refl ((tt, (tt, (record { fits = is-nodes .0 .1 .0 }, tt))))) $
+        -- [the array 6; text; κ₀; the locals; their ends; κ₂; κ₁; nodes; table]
         -- call 1: make_root ()
         Walk.nothing ! $ Walk.nothing-raw ! $ Kit.use1 W (raw (alive 𝓤 H A g-make-root.signature tt tt)) (id⊢ 𝓤 _) $
         Walk.asks ! fm g-make-root.ended (g-make-root.clauses 𝓤 H A mem run)
         ((tt, tt, tt, tt, tt), tt) _ (known-make-root ((tt, tt, tt, tt, tt), tt)) (id⊢ 𝓤 (emp 𝓤)) (λ r ws. id⊢ 𝓤 _)
         (Run.no-more !) (λ u1 r1 is1′ e1.
         Kit.use1 W (raw (emp 𝓤)) (id⊢ 𝓤 _) $ Kit.drop ! $ Kit.drop ! $
-        Run.land ! (Run.from ! (Run.stop !)) (Run.init ! 14 refl (LL.lawful Node-T.the-type Node-L.the-laws 𝓤 H A W .typed r1 _ is1′ .0)) $
-        Kit.rewrite ! 14 (λ (w : Val). ‵ (fat fullShare Node-L.mir l₁₁ 0 w)) (ap only (LL.tells Node-T.the-type Node-L.the-laws r1 _ is1′)) refl $
+        Run.land ! (Run.from ! (Run.stop !)) (Run.init ! 13 refl (LL.lawful Node-T.the-type Node-L.the-laws 𝓤 H A W .typed r1 _ is1′ .0)) $
+        Kit.rewrite ! 13 (λ (w : Val). ‵ (fat fullShare Node-L.mir l₁₀ 0 w)) (ap only (LL.tells Node-T.the-type Node-L.the-laws r1 _ is1′)) refl $
         let is1 : Is Node-T.the-row r1 ((Node-L.lowered r1) ∷ []) = subst (λ (vs : List Val). Is Node-T.the-row r1 vs)
         (LL.tells Node-T.the-type Node-L.the-laws r1 _ is1′) is1′ in
         Walk.written-out ! (‵ (Array (UInt w64) 128 .own (replicate {A = ℕ} 128 0) ((arrayVal (replicate 128 (vint w64 0))) ∷ [])) ∷
         ‵ (T-text .own text (sliceVal (text .ptr) (length (text .now)) ∷ [])) ∷ ‵ (flft κ₀ q₀) ∷ ‵ (froom (tyInt w64) l₀ 0) ∷
         ‵ (fat fullShare Marks-L.mir l₁ 0 (Marks-L.lowered m)) ∷ ‵ (fat fullShare Y-text l₂ 0 (sliceVal (text .ptr) (length (text .now)))) ∷
-        ‵ (fat fullShare Y-starts l₃ 0 (sliceVal (starts .ptr) (length (starts .now)))) ∷ ‵ (fat fullShare Y-lens l₄ 0 (sliceVal (lens .ptr)
-        (length (lens .now)))) ∷ ‵ (fat fullShare (tyInt w64) l₅ 0 (vint w64 n)) ∷ ‵ (fat fullShare Y-nodes l₆ 0 (sliceVal (nodes .ptr)
-        (length (nodes .now)))) ∷ ‵ (fat fullShare (tyArray (tyInt w64) 128) l₇ 0 (arrayVal (replicate 128 (vint w64 0)))) ∷ ‵ (froom tyUnit l₈ 0) ∷
-        ‵ (fat fullShare (tyRef erased mut (pointee (Node-T.the-row .written))) l₉ 0 (vptr (nodes .ptr .0) (nodes .ptr .1))) ∷
-        ‵ (fat fullShare (sliceTy (tyRef erased mut (pointee (Node-T.the-row .written)))) l₁₀ 0 (sliceVal (nodes .ptr) (length (nodes .now)))) ∷
-        ‵ (fat fullShare Node-L.mir l₁₁ 0 (Node-L.lowered r1)) ∷ ‵ (froom (tyRef erased mut (pointee (Node-T.the-row .written))) l₁₂ 0) ∷
-        ‵ (froom (sliceTy (tyRef erased mut (pointee (Node-T.the-row .written)))) l₁₃ 0) ∷
-        ‵ (froom (tyRef erased mut (pointee (Array (UInt w64) 128 .written))) l₁₄ 0) ∷
-        ‵ (froom (sliceTy (tyRef erased mut (pointee ((UInt w64) .written)))) l₁₅ 0) ∷ ‵ Fd ∷ ‵ (flft κ₃ q₃) ∷ ‵ (flft κ₂ q₂) ∷ ‵ (flft κ₁ q₁) ∷
-        ‵ (T-nodes .own nodes (sliceVal (nodes .ptr) (length (nodes .now)) ∷ [])) ∷ ‵ (T-lens .own lens (sliceVal (lens .ptr) (length (lens .now)) ∷
-        [])) ∷ ‵ (T-starts .own starts (sliceVal (starts .ptr) (length (starts .now)) ∷ [])) ∷ []) refl $
-        -- [the array 7; text; κ₀; the locals; their ends; κ₃; κ₂; κ₁; nodes; lens; starts]
+        ‵ (fat fullShare Y-table l₃ 0 (sliceVal (table .ptr) (length (table .now)))) ∷ ‵ (fat fullShare (tyInt w64) l₄ 0 (vint w64 n)) ∷
+        ‵ (fat fullShare Y-nodes l₅ 0 (sliceVal (nodes .ptr) (length (nodes .now)))) ∷
+        ‵ (fat fullShare (tyArray (tyInt w64) 128) l₆ 0 (arrayVal (replicate 128 (vint w64 0)))) ∷ ‵ (froom tyUnit l₇ 0) ∷
+        ‵ (fat fullShare (tyRef erased mut (pointee (Node-T.the-row .written))) l₈ 0 (vptr (nodes .ptr .0) (nodes .ptr .1))) ∷
+        ‵ (fat fullShare (sliceTy (tyRef erased mut (pointee (Node-T.the-row .written)))) l₉ 0 (sliceVal (nodes .ptr) (length (nodes .now)))) ∷
+        ‵ (fat fullShare Node-L.mir l₁₀ 0 (Node-L.lowered r1)) ∷ ‵ (froom (tyRef erased mut (pointee (Node-T.the-row .written))) l₁₁ 0) ∷
+        ‵ (froom (sliceTy (tyRef erased mut (pointee (Node-T.the-row .written)))) l₁₂ 0) ∷
+        ‵ (froom (tyRef erased mut (pointee (Array (UInt w64) 128 .written))) l₁₃ 0) ∷
+        ‵ (froom (sliceTy (tyRef erased mut (pointee ((UInt w64) .written)))) l₁₄ 0) ∷ ‵ Fd ∷ ‵ (flft κ₂ q₂) ∷ ‵ (flft κ₁ q₁) ∷
+        ‵ (T-nodes .own nodes (sliceVal (nodes .ptr) (length (nodes .now)) ∷ [])) ∷ ‵ (T-table .own table (sliceVal (table .ptr)
+        (length (table .now)) ∷ [])) ∷ []) refl $
+        -- [the array 6; text; κ₀; the locals; their ends; κ₂; κ₁; nodes; table]
         -- call 2: set_node (nodes, 0, r1)
         Tokens.lft-new ! tt (λ ν1.
-        Kit.move ! (24 ∷ 21 ∷ []) $
+        Kit.move ! (22 ∷ 20 ∷ []) $
         Kit.use2 W (later (Kit.some (λ (δ : GName). ‵ (MutSlice (named 0) (ν1 ∷
         []) Node-T.the-row .own (record { ptr = nodes .ptr; name = δ; now = (nodes .now) }) ((sliceVal (nodes .ptr) (length (nodes .now))) ∷
-        [])) ⊛ ‵ (Again.LentAgain Node-T.the-row κ₃ (ν1 ∷ []) q₃ (nodes .name) (nodes .ptr .0) (nodes .ptr .1) δ (nodes .now)))))
-        (Again.lends-again Node-T.the-row κ₃ (ν1 ∷ []) q₃ (nodes .name) (nodes .ptr .0) (nodes .ptr .1) 𝓤 H A W (named 3) (named 0)
+        [])) ⊛ ‵ (Again.LentAgain Node-T.the-row κ₂ (ν1 ∷ []) q₂ (nodes .name) (nodes .ptr .0) (nodes .ptr .1) δ (nodes .now)))))
+        (Again.lends-again Node-T.the-row κ₂ (ν1 ∷ []) q₂ (nodes .name) (nodes .ptr .0) (nodes .ptr .1) 𝓤 H A W (named 2) (named 0)
         (nodes .now)) $ Kit.await ! tt $ Kit.pick ! (λ δ1. Kit.split ! $
         Walk.nothing ! $
         Kit.use0 W (‵ (Node-T.the-row .own r1 ((Node-L.lowered r1) ∷ []))) (LL.makes Node-T.the-type Node-L.the-plain 𝓤 H A r1 _ is1) $ Kit.fjoin ! $
@@ -224,149 +212,140 @@ module _ {M : Type 1} (𝓤 : URA M) (H : Heap 𝓤) (A : Atoms 𝓤) (W : Given
         Kit.use1 W (raw (alive 𝓤 H A g-set-node.signature ((ν1 ∷ []), tt) (fullShare, tt))) (id⊢ 𝓤 _) $
         Walk.asksˡ ! fm g-set-node.ended (g-set-node.clauses 𝓤 H A mem run)
         ((((ν1 ∷ []), tt), (fullShare, tt), tt, ((record { ptr = nodes .ptr; name = δ1; now = (nodes .now) }), (0, (r1, tt))), ((sliceVal (nodes .ptr) (length (nodes .now))) ∷ [], ((vint w64 0) ∷ [], ((Node-L.lowered r1) ∷ [], tt)))), tt) _ (known-set-node ((((ν1 ∷ []), tt), (fullShare, tt), tt, ((record { ptr = nodes .ptr; name = δ1; now = (nodes .now) }), (0, (r1, tt))), ((sliceVal (nodes .ptr) (length (nodes .now))) ∷ [], ((vint w64 0) ∷ [], ((Node-L.lowered r1) ∷ [], tt)))), tt)) (factI 𝓤 _ (emp 𝓤) (omega (arith, pre .1 .room))) (λ r ws. id⊢ 𝓤 _)
-        (Run.and-then ! (Run.load ! (Run.from ! (Run.stop !)) (Run.look ! 15 refl)) (Run.and-then ! (Run.lit ! tt)
-        (Run.and-then ! (Run.load ! (Run.from ! (Run.stop !)) (Run.look ! 16 refl)) (Run.no-more !)))) (λ u2 r2 ws2 is2′ e2.
+        (Run.and-then ! (Run.load ! (Run.from ! (Run.stop !)) (Run.look ! 14 refl)) (Run.and-then ! (Run.lit ! tt)
+        (Run.and-then ! (Run.load ! (Run.from ! (Run.stop !)) (Run.look ! 15 refl)) (Run.no-more !)))) (λ u2 r2 ws2 is2′ e2.
         Kit.use1 W (‵ (flft (ν1 ∷ []) fullShare) ⊛ (raw (emp 𝓤))) (id⊢ 𝓤 _) $ Kit.split ! $ Kit.move ! (1 ∷ []) $ Kit.drop ! $ Kit.move ! (1 ∷ []) $
         Kit.drop ! $ Kit.move ! (1 ∷ []) $ Kit.fsplit ! $ Kit.fsplit ! $ Kit.move ! (1 ∷ []) $ Kit.feqL ! (λ len1.
         Kit.move ! (1 ∷ []) $ Kit.fsplit ! $ Kit.drop ! $ Kit.fsplit ! $ Kit.drop ! $ Kit.drop ! $ Kit.move ! (1 ∷ []) $ Tokens.lft-end ! tt $
         Kit.move ! (0 ∷ 2 ∷ 1 ∷ []) $
-        Kit.use3 W (later (‵ (MutSlice (named 3) κ₃ Node-T.the-row .own (at-last nodes (ws2 .0)) ((sliceVal (nodes .ptr) (length (nodes .now))) ∷
-        [])) ⊛ ‵ (flft κ₃ q₃))) (Again.comes-back Node-T.the-row κ₃ (ν1 ∷ []) q₃ (nodes .name) (nodes .ptr .0) (nodes .ptr .1) 𝓤 H A W (named 3)
+        Kit.use3 W (later (‵ (MutSlice (named 2) κ₂ Node-T.the-row .own (at-last nodes (ws2 .0)) ((sliceVal (nodes .ptr) (length (nodes .now))) ∷
+        [])) ⊛ ‵ (flft κ₂ q₂))) (Again.comes-back Node-T.the-row κ₂ (ν1 ∷ []) q₂ (nodes .name) (nodes .ptr .0) (nodes .ptr .1) 𝓤 H A W (named 2)
         (named 0) (nodes .now) δ1 (ws2 .0) (is-nodes .0 .1) len1) $ Kit.await ! tt $ Kit.split ! $
-        Kit.rewrite ! 0 (λ (m : ℕ). ‵ (MutSlice (named 3) κ₃ Node-T.the-row .own (at-last nodes (ws2 .0)) (sliceVal (nodes .ptr) m ∷ [])))
+        Kit.rewrite ! 0 (λ (m : ℕ). ‵ (MutSlice (named 2) κ₂ Node-T.the-row .own (at-last nodes (ws2 .0)) (sliceVal (nodes .ptr) m ∷ [])))
         (sym len1) refl $
-        Kit.rewrite ! 11 (λ (m : ℕ). ‵ (fat fullShare (sliceTy (tyRef (named 3) mut (pointee (Node-T.the-row .written)))) l₆ 0 (sliceVal (nodes .ptr) m))) (sym len1) refl $
-        Run.land ! (Run.from ! (Run.stop !)) (Run.init ! 13 refl (nothing-lawful 𝓤 H A W .typed r2 _ is2′ .0)) $
-        Kit.rewrite ! 13 (λ (w : Val). ‵ (fat fullShare tyUnit l₈ 0 w)) (ap only (nothing-tells r2 _ is2′)) refl $
+        Kit.rewrite ! 10 (λ (m : ℕ). ‵ (fat fullShare (sliceTy (tyRef (named 2) mut (pointee (Node-T.the-row .written)))) l₅ 0 (sliceVal (nodes .ptr) m))) (sym len1) refl $
+        Run.land ! (Run.from ! (Run.stop !)) (Run.init ! 12 refl (nothing-lawful 𝓤 H A W .typed r2 _ is2′ .0)) $
+        Kit.rewrite ! 12 (λ (w : Val). ‵ (fat fullShare tyUnit l₇ 0 w)) (ap only (nothing-tells r2 _ is2′)) refl $
         let is2 : Is Nothing r2 (vunit ∷ []) = subst (λ (vs : List Val). Is Nothing r2 vs) (nothing-tells r2 _ is2′) is2′ in
-        Walk.written-out ! (‵ (T-nodes .own (at-last nodes (ws2 .0)) (sliceVal (nodes .ptr) (length (ws2 .0)) ∷ [])) ∷ ‵ (flft κ₃ q₃) ∷
+        Walk.written-out ! (‵ (T-nodes .own (at-last nodes (ws2 .0)) (sliceVal (nodes .ptr) (length (ws2 .0)) ∷ [])) ∷ ‵ (flft κ₂ q₂) ∷
         ‵ (Array (UInt w64) 128 .own (replicate {A = ℕ} 128 0) ((arrayVal (replicate 128 (vint w64 0))) ∷ [])) ∷
         ‵ (T-text .own text (sliceVal (text .ptr) (length (text .now)) ∷ [])) ∷ ‵ (flft κ₀ q₀) ∷ ‵ (froom (tyInt w64) l₀ 0) ∷
         ‵ (fat fullShare Marks-L.mir l₁ 0 (Marks-L.lowered m)) ∷ ‵ (fat fullShare Y-text l₂ 0 (sliceVal (text .ptr) (length (text .now)))) ∷
-        ‵ (fat fullShare Y-starts l₃ 0 (sliceVal (starts .ptr) (length (starts .now)))) ∷ ‵ (fat fullShare Y-lens l₄ 0 (sliceVal (lens .ptr)
-        (length (lens .now)))) ∷ ‵ (fat fullShare (tyInt w64) l₅ 0 (vint w64 n)) ∷ ‵ (fat fullShare Y-nodes l₆ 0 (sliceVal (nodes .ptr)
-        (length (ws2 .0)))) ∷ ‵ (fat fullShare (tyArray (tyInt w64) 128) l₇ 0 (arrayVal (replicate 128 (vint w64 0)))) ∷
-        ‵ (fat fullShare tyUnit l₈ 0 vunit) ∷ ‵ (fat fullShare (tyRef erased mut (pointee (Node-T.the-row .written))) l₉ 0 (vptr (nodes .ptr .0)
-        (nodes .ptr .1))) ∷ ‵ (fat fullShare (sliceTy (tyRef erased mut (pointee (Node-T.the-row .written)))) l₁₀ 0 (sliceVal (nodes .ptr)
-        (length (nodes .now)))) ∷ ‵ (fat fullShare Node-L.mir l₁₁ 0 (Node-L.lowered r1)) ∷
-        ‵ (froom (tyRef erased mut (pointee (Node-T.the-row .written))) l₁₂ 0) ∷
-        ‵ (froom (sliceTy (tyRef erased mut (pointee (Node-T.the-row .written)))) l₁₃ 0) ∷
-        ‵ (froom (tyRef erased mut (pointee (Array (UInt w64) 128 .written))) l₁₄ 0) ∷
-        ‵ (froom (sliceTy (tyRef erased mut (pointee ((UInt w64) .written)))) l₁₅ 0) ∷ ‵ Fd ∷ ‵ (flft κ₂ q₂) ∷ ‵ (flft κ₁ q₁) ∷
-        ‵ (T-lens .own lens (sliceVal (lens .ptr) (length (lens .now)) ∷ [])) ∷ ‵ (T-starts .own starts (sliceVal (starts .ptr)
-        (length (starts .now)) ∷ [])) ∷ []) refl $
-        Run.assigns ! (Run.addr ! (Run.from ! (Run.fld ! refl (Run.hop ! (Part.look-in ! 11 (Part.sub ! 0 refl (Part.whole !))) (Run.stop !)))))
-        (Run.from ! (Run.stop !)) (Run.init ! 17 refl ((tt, tt))) $
-        Run.assigns ! (Part.agg ! (Run.and-then ! (Run.load ! (Run.from ! (Run.stop !)) (Run.look ! 17 refl))
-        (Run.and-then ! (Run.load ! (Run.from ! (Run.fld ! refl (Run.stop !))) (Part.look-in ! 11 (Part.sub ! 1 refl (Part.whole !))))
+        ‵ (fat fullShare Y-table l₃ 0 (sliceVal (table .ptr) (length (table .now)))) ∷ ‵ (fat fullShare (tyInt w64) l₄ 0 (vint w64 n)) ∷
+        ‵ (fat fullShare Y-nodes l₅ 0 (sliceVal (nodes .ptr) (length (ws2 .0)))) ∷
+        ‵ (fat fullShare (tyArray (tyInt w64) 128) l₆ 0 (arrayVal (replicate 128 (vint w64 0)))) ∷ ‵ (fat fullShare tyUnit l₇ 0 vunit) ∷
+        ‵ (fat fullShare (tyRef erased mut (pointee (Node-T.the-row .written))) l₈ 0 (vptr (nodes .ptr .0) (nodes .ptr .1))) ∷
+        ‵ (fat fullShare (sliceTy (tyRef erased mut (pointee (Node-T.the-row .written)))) l₉ 0 (sliceVal (nodes .ptr) (length (nodes .now)))) ∷
+        ‵ (fat fullShare Node-L.mir l₁₀ 0 (Node-L.lowered r1)) ∷ ‵ (froom (tyRef erased mut (pointee (Node-T.the-row .written))) l₁₁ 0) ∷
+        ‵ (froom (sliceTy (tyRef erased mut (pointee (Node-T.the-row .written)))) l₁₂ 0) ∷
+        ‵ (froom (tyRef erased mut (pointee (Array (UInt w64) 128 .written))) l₁₃ 0) ∷
+        ‵ (froom (sliceTy (tyRef erased mut (pointee ((UInt w64) .written)))) l₁₄ 0) ∷ ‵ Fd ∷ ‵ (flft κ₁ q₁) ∷
+        ‵ (T-table .own table (sliceVal (table .ptr) (length (table .now)) ∷ [])) ∷ []) refl $
+        Run.assigns ! (Run.addr ! (Run.from ! (Run.fld ! refl (Run.hop ! (Part.look-in ! 10 (Part.sub ! 0 refl (Part.whole !))) (Run.stop !)))))
+        (Run.from ! (Run.stop !)) (Run.init ! 16 refl ((tt, tt))) $
+        Run.assigns ! (Part.agg ! (Run.and-then ! (Run.load ! (Run.from ! (Run.stop !)) (Run.look ! 16 refl))
+        (Run.and-then ! (Run.load ! (Run.from ! (Run.fld ! refl (Run.stop !))) (Part.look-in ! 10 (Part.sub ! 1 refl (Part.whole !))))
         (Run.no-more !)))) (Run.from ! (Run.stop !))
-        (Run.init ! 18 refl ((tt, (tt, (record { fits = (subst (Slice.Room Node-T.the-row) (sym len1) (is-nodes .0 .1)) .0 }, tt))))) $
-        Run.assigns ! (Run.addr ! (Run.from ! (Run.stop !))) (Run.from ! (Run.stop !)) (Run.init ! 19 refl ((tt, tt))) $
-        Run.assigns ! (Part.agg ! (Run.and-then ! (Run.load ! (Run.from ! (Run.stop !)) (Run.look ! 19 refl)) (Run.and-then ! (Run.lit ! tt)
-        (Run.no-more !)))) (Run.from ! (Run.stop !)) (Run.init ! 20 refl ((tt, (tt, (record { fits = lit< tt }, tt))))) $
-        Kit.rewrite ! 20 (λ (m : ℕ). ‵ (fat fullShare (sliceTy (tyRef erased mut (pointee ((UInt w64) .written)))) l₁₅ 0 (sliceVal (l₇, 0) m)))
+        (Run.init ! 17 refl ((tt, (tt, (record { fits = (subst (Slice.Room Node-T.the-row) (sym len1) (is-nodes .0 .1)) .0 }, tt))))) $
+        Run.assigns ! (Run.addr ! (Run.from ! (Run.stop !))) (Run.from ! (Run.stop !)) (Run.init ! 18 refl ((tt, tt))) $
+        Run.assigns ! (Part.agg ! (Run.and-then ! (Run.load ! (Run.from ! (Run.stop !)) (Run.look ! 18 refl)) (Run.and-then ! (Run.lit ! tt)
+        (Run.no-more !)))) (Run.from ! (Run.stop !)) (Run.init ! 19 refl ((tt, (tt, (record { fits = lit< tt }, tt))))) $
+        Kit.rewrite ! 19 (λ (m : ℕ). ‵ (fat fullShare (sliceTy (tyRef erased mut (pointee ((UInt w64) .written)))) l₁₄ 0 (sliceVal (l₆, 0) m)))
         (sym (length-replicate {A = ℕ} 128 0)) refl $
-        -- [nodes; κ₃; the array 7; text; κ₀; the locals; their ends; κ₂; κ₁; lens; starts]
-        -- call 3: grow (m .placeholder, text, starts, lens, n, nodes, the array 7)
+        -- [nodes; κ₂; the array 6; text; κ₀; the locals; their ends; κ₁; table]
+        -- call 3: grow_tree (m .placeholder, text, table, n, nodes, the array 6)
         Tokens.lft-new ! tt (λ ν2.
         Kit.move ! (1 ∷ 2 ∷ []) $
-        Kit.use2 W (later (Kit.some (λ (δ : GName). ‵ (MutSlice (named 3) (ν2 ∷
+        Kit.use2 W (later (Kit.some (λ (δ : GName). ‵ (MutSlice (named 2) (ν2 ∷
         []) Node-T.the-row .own (record { ptr = nodes .ptr; name = δ; now = (ws2 .0) }) ((sliceVal (nodes .ptr) (length (ws2 .0))) ∷
-        [])) ⊛ ‵ (Again.LentAgain Node-T.the-row κ₃ (ν2 ∷ []) q₃ (nodes .name) (nodes .ptr .0) (nodes .ptr .1) δ (ws2 .0)))))
-        (Again.lends-again Node-T.the-row κ₃ (ν2 ∷ []) q₃ (nodes .name) (nodes .ptr .0) (nodes .ptr .1) 𝓤 H A W (named 3) (named 3)
+        [])) ⊛ ‵ (Again.LentAgain Node-T.the-row κ₂ (ν2 ∷ []) q₂ (nodes .name) (nodes .ptr .0) (nodes .ptr .1) δ (ws2 .0)))))
+        (Again.lends-again Node-T.the-row κ₂ (ν2 ∷ []) q₂ (nodes .name) (nodes .ptr .0) (nodes .ptr .1) 𝓤 H A W (named 2) (named 2)
         (ws2 .0)) $ Kit.await ! tt $ Kit.pick ! (λ δ2. Kit.split ! $
         Tokens.lft-new ! tt (λ ν3.
-        Kit.move ! (14 ∷ 4 ∷ []) $
-        Kit.use2 W (later (Kit.some (λ (δ : GName). ‵ (MutSlice (named 4) (ν3 ∷ [])
-        (UInt w64) .own (record { ptr = (l₇, 0); name = δ; now = (replicate {A = ℕ} 128 0) }) ((sliceVal (l₇, 0)
-        (length (replicate {A = ℕ} 128 0))) ∷ [])) ⊛ ‵ (flent (ν3 ∷ []) (Lend.Held (UInt w64) (length (replicate {A = ℕ} 128 0)) l₇ 0 δ)))))
-        (Arrays.lends-local 𝓤 H A W (UInt w64) tt 128 l₇ (named 4) (ν3 ∷ []) (replicate {A = ℕ} 128 0) (arrayVal (replicate 128 (vint w64 0)))
+        Kit.move ! (13 ∷ 4 ∷ []) $
+        Kit.use2 W (later (Kit.some (λ (δ : GName). ‵ (MutSlice (named 3) (ν3 ∷ [])
+        (UInt w64) .own (record { ptr = (l₆, 0); name = δ; now = (replicate {A = ℕ} 128 0) }) ((sliceVal (l₆, 0)
+        (length (replicate {A = ℕ} 128 0))) ∷ [])) ⊛ ‵ (flent (ν3 ∷ []) (Lend.Held (UInt w64) (length (replicate {A = ℕ} 128 0)) l₆ 0 δ)))))
+        (Arrays.lends-local 𝓤 H A W (UInt w64) tt 128 l₆ (named 3) (ν3 ∷ []) (replicate {A = ℕ} 128 0) (arrayVal (replicate 128 (vint w64 0)))
         (subst (Slice.Room (UInt w64)) (sym (length-replicate {A = ℕ} 128 0)) (lit< tt, lit< tt))) $ Kit.await ! tt $ Kit.pick ! (λ δ3. Kit.split ! $
         Walk.nothing ! $ Kit.move ! (1 ∷ 0 ∷ []) $ Kit.fjoin ! $ Kit.move ! (3 ∷ 0 ∷ []) $ Kit.fjoin ! $
-        Kit.use0 W (‵ ((UInt w64) .own n ((vint w64 n) ∷ []))) (uint-makes 𝓤 H A W w64 n _ (refl, fits-n)) $ Kit.fjoin ! $ Kit.move ! (25 ∷ []) $
-        Kit.use1 W (‵ (T-lens .own lens (v-lens ∷ [])) ⊛ ‵ (T-lens .own lens (v-lens ∷ [])))
-        (shr-slice-copy 𝓤 H A W (named 2) κ₂ (UInt w64) .twice lens _) $ Kit.split ! $
-        Kit.move ! (0 ∷ 2 ∷ []) $ Kit.fjoin ! $ Kit.move ! (26 ∷ []) $
-        Kit.use1 W (‵ (T-starts .own starts (v-starts ∷ [])) ⊛ ‵ (T-starts .own starts (v-starts ∷ [])))
-        (shr-slice-copy 𝓤 H A W (named 1) κ₁ (UInt w64) .twice starts _) $ Kit.split ! $
-        Kit.move ! (0 ∷ 2 ∷ []) $ Kit.fjoin ! $ Kit.move ! (7 ∷ []) $
+        Kit.use0 W (‵ ((UInt w64) .own n ((vint w64 n) ∷ []))) (uint-makes 𝓤 H A W w64 n _ (refl, fits-n)) $ Kit.fjoin ! $ Kit.move ! (23 ∷ []) $
+        Kit.use1 W (‵ (T-table .own table (v-table ∷ [])) ⊛ ‵ (T-table .own table (v-table ∷ [])))
+        (shr-slice-copy 𝓤 H A W (named 1) κ₁ (UInt w64) .twice table _) $ Kit.split ! $
+        Kit.move ! (0 ∷ 2 ∷ []) $ Kit.fjoin ! $ Kit.move ! (6 ∷ []) $
         Kit.use1 W (‵ (T-text .own text (v-text ∷ [])) ⊛ ‵ (T-text .own text (v-text ∷ [])))
         (shr-slice-copy 𝓤 H A W (named 0) κ₀ (UInt w8) .twice text _) $ Kit.split ! $
         Kit.move ! (0 ∷ 2 ∷ []) $ Kit.fjoin ! $
         Kit.use0 W (‵ ((UInt w8) .own (m .placeholder) ((vint w8 (m .placeholder)) ∷ [])))
         (uint-makes 𝓤 H A W w8 (m .placeholder) _ (refl, LL.owed Marks-T.the-type Marks-L.the-laws m _ is-m .1 .0 .1)) $
-        Kit.fjoin ! $ Walk.nothing-raw ! $ Kit.move ! (6 ∷ 0 ∷ []) $ Kit.join ! $ Kit.move ! (7 ∷ 0 ∷ []) $ Kit.join ! $ Kit.move ! (24 ∷ 0 ∷ []) $
-        Kit.join ! $ Kit.move ! (24 ∷ 0 ∷ []) $ Kit.join ! $ Kit.move ! (7 ∷ 0 ∷ []) $ Kit.join ! $
-        Kit.use1 W (raw (alive 𝓤 H A g-grow.signature (κ₀, (κ₁, (κ₂, ((ν2 ∷ []), ((ν3 ∷ []), tt)))))
-        (q₀, (q₁, (q₂, (fullShare, (fullShare, tt))))))) (id⊢ 𝓤 _) $
-        Walk.asksˡ ! fm g-grow.ended (g-grow.clauses 𝓤 H A mem run)
-        (((κ₀, (κ₁, (κ₂, ((ν2 ∷ []), ((ν3 ∷ []), tt))))), (q₀, (q₁, (q₂, (fullShare, (fullShare, tt))))), tt, ((m .placeholder), (text, (starts, (lens, (n, ((record { ptr = nodes .ptr; name = δ2; now = (ws2 .0) }), ((record { ptr = (l₇, 0); name = δ3; now = (replicate {A = ℕ} 128 0) }), tt))))))), ((vint w8 (m .placeholder)) ∷ [], (v-text ∷ [], (v-starts ∷ [], (v-lens ∷ [], ((vint w64 n) ∷ [], ((sliceVal (nodes .ptr) (length (ws2 .0))) ∷ [], ((sliceVal (l₇, 0) (length (replicate {A = ℕ} 128 0))) ∷ [], tt)))))))), tt) _ (known-grow (((κ₀, (κ₁, (κ₂, ((ν2 ∷ []), ((ν3 ∷ []), tt))))), (q₀, (q₁, (q₂, (fullShare, (fullShare, tt))))), tt, ((m .placeholder), (text, (starts, (lens, (n, ((record { ptr = nodes .ptr; name = δ2; now = (ws2 .0) }), ((record { ptr = (l₇, 0); name = δ3; now = (replicate {A = ℕ} 128 0) }), tt))))))), ((vint w8 (m .placeholder)) ∷ [], (v-text ∷ [], (v-starts ∷ [], (v-lens ∷ [], ((vint w64 n) ∷ [], ((sliceVal (nodes .ptr) (length (ws2 .0))) ∷ [], ((sliceVal (l₇, 0) (length (replicate {A = ℕ} 128 0))) ∷ [], tt)))))))), tt)) (factI 𝓤 _ (emp 𝓤) ((pre .0, ready-kept (pre .1) len1, omega (arith, pre .1 .few, table-length (text .now) (starts .now) (lens .now) n), root-alone _ _ (table-small _ _ _ _ fits-text) _ (pre .1) e1 e2))) (λ r ws. id⊢ 𝓤 _)
-        (Run.and-then ! (Run.load ! (Run.from ! (Run.fld ! refl (Run.stop !))) (Part.look-in ! 7 (Part.sub ! 1 refl (Part.whole !))))
-        (Run.and-then ! (Run.load ! (Run.from ! (Run.stop !)) (Run.look ! 8 refl)) (Run.and-then ! (Run.load ! (Run.from ! (Run.stop !))
-        (Run.look ! 9 refl)) (Run.and-then ! (Run.load ! (Run.from ! (Run.stop !)) (Run.look ! 10 refl))
-        (Run.and-then ! (Run.load ! (Run.from ! (Run.stop !)) (Run.look ! 11 refl)) (Run.and-then ! (Run.load ! (Run.from ! (Run.stop !))
-        (Run.look ! 18 refl)) (Run.and-then ! (Run.load ! (Run.from ! (Run.stop !)) (Run.look ! 20 refl)) (Run.no-more !)))))))) (λ u3 r3 ws3 is3′ e3.
-        Kit.use1 W (‵ (flft κ₀ q₀) ⊛ (‵ (flft κ₁ q₁) ⊛ (‵ (flft κ₂ q₂) ⊛ (‵ (flft (ν2 ∷ []) fullShare) ⊛ (‵ (flft (ν3 ∷
-        []) fullShare) ⊛ (raw (emp 𝓤))))))) (id⊢ 𝓤 _) $
+        Kit.fjoin ! $ Walk.nothing-raw ! $ Kit.move ! (5 ∷ 0 ∷ []) $ Kit.join ! $ Kit.move ! (6 ∷ 0 ∷ []) $ Kit.join ! $ Kit.move ! (22 ∷ 0 ∷ []) $
+        Kit.join ! $ Kit.move ! (6 ∷ 0 ∷ []) $ Kit.join ! $
+        Kit.use1 W (raw (alive 𝓤 H A g-grow-tree.signature (κ₀, (κ₁, ((ν2 ∷ []), ((ν3 ∷ []), tt)))) (q₀, (q₁, (fullShare, (fullShare, tt))))))
+        (id⊢ 𝓤 _) $
+        Walk.asksˡ ! fm g-grow-tree.ended (g-grow-tree.clauses 𝓤 H A mem run)
+        (((κ₀, (κ₁, ((ν2 ∷ []), ((ν3 ∷ []), tt)))), (q₀, (q₁, (fullShare, (fullShare, tt)))), tt, ((m .placeholder), (text, (table, (n, ((record { ptr = nodes .ptr; name = δ2; now = (ws2 .0) }), ((record { ptr = (l₆, 0); name = δ3; now = (replicate {A = ℕ} 128 0) }), tt)))))), ((vint w8 (m .placeholder)) ∷ [], (v-text ∷ [], (v-table ∷ [], ((vint w64 n) ∷ [], ((sliceVal (nodes .ptr) (length (ws2 .0))) ∷ [], ((sliceVal (l₆, 0) (length (replicate {A = ℕ} 128 0))) ∷ [], tt))))))), tt) _ (known-grow-tree (((κ₀, (κ₁, ((ν2 ∷ []), ((ν3 ∷ []), tt)))), (q₀, (q₁, (fullShare, (fullShare, tt)))), tt, ((m .placeholder), (text, (table, (n, ((record { ptr = nodes .ptr; name = δ2; now = (ws2 .0) }), ((record { ptr = (l₆, 0); name = δ3; now = (replicate {A = ℕ} 128 0) }), tt)))))), ((vint w8 (m .placeholder)) ∷ [], (v-text ∷ [], (v-table ∷ [], ((vint w64 n) ∷ [], ((sliceVal (nodes .ptr) (length (ws2 .0))) ∷ [], ((sliceVal (l₆, 0) (length (replicate {A = ℕ} 128 0))) ∷ [], tt))))))), tt)) (factI 𝓤 _ (emp 𝓤) ((record { entries = pre .0; ready = ready-kept (pre .1) len1; places = omega (arith, pre .1 .few, templates-in-length (text .now) (table .now) n) }, root-alone _ _ (table-small _ _ _ fits-text) _ (pre .1) e1 e2))) (λ r ws. id⊢ 𝓤 _)
+        (Run.and-then ! (Run.load ! (Run.from ! (Run.fld ! refl (Run.stop !))) (Part.look-in ! 6 (Part.sub ! 1 refl (Part.whole !))))
+        (Run.and-then ! (Run.load ! (Run.from ! (Run.stop !)) (Run.look ! 7 refl)) (Run.and-then ! (Run.load ! (Run.from ! (Run.stop !))
+        (Run.look ! 8 refl)) (Run.and-then ! (Run.load ! (Run.from ! (Run.stop !)) (Run.look ! 9 refl))
+        (Run.and-then ! (Run.load ! (Run.from ! (Run.stop !)) (Run.look ! 16 refl)) (Run.and-then ! (Run.load ! (Run.from ! (Run.stop !))
+        (Run.look ! 18 refl)) (Run.no-more !))))))) (λ u3 r3 ws3 is3′ e3.
+        Kit.use1 W (‵ (flft κ₀ q₀) ⊛ (‵ (flft κ₁ q₁) ⊛ (‵ (flft (ν2 ∷ []) fullShare) ⊛ (‵ (flft (ν3 ∷ []) fullShare) ⊛ (raw (emp 𝓤)))))) (id⊢ 𝓤 _) $
         Kit.split ! $ Kit.move ! (1 ∷ []) $ Kit.split ! $ Kit.move ! (1 ∷ []) $ Kit.split ! $ Kit.move ! (1 ∷ []) $ Kit.split ! $
-        Kit.move ! (1 ∷ []) $ Kit.split ! $ Kit.move ! (1 ∷ []) $ Kit.drop ! $ Kit.move ! (5 ∷ []) $ Kit.drop ! $ Kit.move ! (5 ∷ []) $ Kit.fsplit ! $
-        Kit.drop ! $ Kit.fsplit ! $ Kit.drop ! $ Kit.fsplit ! $ Kit.drop ! $ Kit.fsplit ! $ Kit.drop ! $ Kit.fsplit ! $ Kit.drop ! $ Kit.fsplit ! $
-        Kit.fsplit ! $ Kit.move ! (1 ∷ []) $ Kit.feqL ! (λ len2.
+        Kit.move ! (1 ∷ []) $ Kit.drop ! $ Kit.move ! (4 ∷ []) $ Kit.drop ! $ Kit.move ! (4 ∷ []) $ Kit.fsplit ! $ Kit.drop ! $ Kit.fsplit ! $
+        Kit.drop ! $ Kit.fsplit ! $ Kit.drop ! $ Kit.fsplit ! $ Kit.drop ! $ Kit.fsplit ! $ Kit.fsplit ! $ Kit.move ! (1 ∷ []) $ Kit.feqL ! (λ len2.
         Kit.move ! (1 ∷ []) $ Kit.fsplit ! $ Kit.fsplit ! $ Kit.move ! (1 ∷ []) $ Kit.feqL ! (λ len3.
-        Kit.move ! (1 ∷ []) $ Kit.drop ! $ Kit.move ! (3 ∷ []) $ Tokens.lft-end ! tt $ Kit.move ! (0 ∷ 11 ∷ 2 ∷ []) $
-        Kit.use3 W (later (‵ (MutSlice (named 3) κ₃ Node-T.the-row .own (at-last nodes (ws3 .1 .1 .1 .1 .1 .0)) ((sliceVal (nodes .ptr)
-        (length (ws2 .0))) ∷ [])) ⊛ ‵ (flft κ₃ q₃))) (Again.comes-back Node-T.the-row κ₃ (ν2 ∷ []) q₃ (nodes .name) (nodes .ptr .0)
-        (nodes .ptr .1) 𝓤 H A W (named 3) (named 3) (ws2 .0) δ2 (ws3 .1 .1 .1 .1 .1 .0) ((subst (Slice.Room Node-T.the-row) (sym len1)
+        Kit.move ! (1 ∷ []) $ Kit.drop ! $ Kit.move ! (3 ∷ []) $ Tokens.lft-end ! tt $ Kit.move ! (0 ∷ 9 ∷ 2 ∷ []) $
+        Kit.use3 W (later (‵ (MutSlice (named 2) κ₂ Node-T.the-row .own (at-last nodes (ws3 .1 .1 .1 .1 .0)) ((sliceVal (nodes .ptr)
+        (length (ws2 .0))) ∷ [])) ⊛ ‵ (flft κ₂ q₂))) (Again.comes-back Node-T.the-row κ₂ (ν2 ∷ []) q₂ (nodes .name) (nodes .ptr .0)
+        (nodes .ptr .1) 𝓤 H A W (named 2) (named 2) (ws2 .0) δ2 (ws3 .1 .1 .1 .1 .0) ((subst (Slice.Room Node-T.the-row) (sym len1)
         (is-nodes .0 .1))) len2) $ Kit.await ! tt $ Kit.split ! $
-        Kit.rewrite ! 0 (λ (m : ℕ). ‵ (MutSlice (named 3) κ₃ Node-T.the-row .own (at-last nodes (ws3 .1 .1 .1 .1 .1 .0)) (sliceVal (nodes .ptr) m ∷
+        Kit.rewrite ! 0 (λ (m : ℕ). ‵ (MutSlice (named 2) κ₂ Node-T.the-row .own (at-last nodes (ws3 .1 .1 .1 .1 .0)) (sliceVal (nodes .ptr) m ∷
         []))) (sym len2) refl $
-        Kit.rewrite ! 17 (λ (m : ℕ). ‵ (fat fullShare (sliceTy (tyRef (named 3) mut (pointee (Node-T.the-row .written)))) l₆ 0 (sliceVal (nodes .ptr) m))) (sym len2) refl $
-        Kit.move ! (3 ∷ []) $ Tokens.lft-end ! tt $ Kit.move ! (0 ∷ 10 ∷ 3 ∷ []) $
-        Kit.use3 W (later (Kit.some (λ (w : Val). ‵ (fat fullShare (Arrays.τ 𝓤 H A W (UInt w64) tt 128 l₇) l₇ 0 w) ⊛ ‵ (Array (UInt w64) 128 .own (ws3 .1 .1 .1 .1 .1 .1 .0) (w ∷ []))))) (Arrays.local-back 𝓤 H A W (UInt w64) tt 128 l₇ (ν3 ∷ []) δ3 (replicate {A = ℕ} 128 0) (ws3 .1 .1 .1 .1 .1 .1 .0) (length-replicate {A = ℕ} 128 0)) $ Kit.await ! tt $ Kit.pick ! (λ w3. Kit.split ! $
-        Run.land ! (Run.from ! (Run.stop !)) (Run.init ! 10 refl (uint-lawful 𝓤 H A W w64 .typed r3 _ is3′ .0)) $
-        Kit.rewrite ! 10 (λ (w : Val). ‵ (fat fullShare (tyInt w64) l₀ 0 w)) (ap only (uint-tells w64 r3 _ is3′)) refl $
+        Kit.rewrite ! 14 (λ (m : ℕ). ‵ (fat fullShare (sliceTy (tyRef (named 2) mut (pointee (Node-T.the-row .written)))) l₅ 0 (sliceVal (nodes .ptr) m))) (sym len2) refl $
+        Kit.move ! (3 ∷ []) $ Tokens.lft-end ! tt $ Kit.move ! (0 ∷ 8 ∷ 3 ∷ []) $
+        Kit.use3 W (later (Kit.some (λ (w : Val). ‵ (fat fullShare (Arrays.τ 𝓤 H A W (UInt w64) tt 128 l₆) l₆ 0 w) ⊛ ‵ (Array (UInt w64) 128 .own (ws3 .1 .1 .1 .1 .1 .0) (w ∷ []))))) (Arrays.local-back 𝓤 H A W (UInt w64) tt 128 l₆ (ν3 ∷ []) δ3 (replicate {A = ℕ} 128 0) (ws3 .1 .1 .1 .1 .1 .0) (length-replicate {A = ℕ} 128 0)) $ Kit.await ! tt $ Kit.pick ! (λ cell3. Kit.split ! $
+        Run.land ! (Run.from ! (Run.stop !)) (Run.init ! 8 refl (uint-lawful 𝓤 H A W w64 .typed r3 _ is3′ .0)) $
+        Kit.rewrite ! 8 (λ (w : Val). ‵ (fat fullShare (tyInt w64) l₀ 0 w)) (ap only (uint-tells w64 r3 _ is3′)) refl $
         let is3 : Is (UInt w64) r3 ((vint w64 r3) ∷ []) = subst (λ (vs : List Val). Is (UInt w64) r3 vs) (uint-tells w64 r3 _ is3′) is3′ in
-        Walk.written-out ! (‵ (fat fullShare (tyArray (tyInt w64) 128) l₇ 0 w3) ∷ ‵ (Array (UInt w64) 128 .own (ws3 .1 .1 .1 .1 .1 .1 .0) (w3 ∷
-        [])) ∷ ‵ (T-nodes .own (at-last nodes (ws3 .1 .1 .1 .1 .1 .0)) (sliceVal (nodes .ptr) (length (ws3 .1 .1 .1 .1 .1 .0)) ∷ [])) ∷
-        ‵ (flft κ₃ q₃) ∷ ‵ (flft κ₂ q₂) ∷ ‵ (flft κ₁ q₁) ∷ ‵ (flft κ₀ q₀) ∷ ‵ (T-text .own text (sliceVal (text .ptr) (length (text .now)) ∷ [])) ∷
-        ‵ (T-starts .own starts (sliceVal (starts .ptr) (length (starts .now)) ∷ [])) ∷ ‵ (T-lens .own lens (sliceVal (lens .ptr)
-        (length (lens .now)) ∷ [])) ∷ ‵ (fat fullShare (tyInt w64) l₀ 0 (vint w64 r3)) ∷ ‵ (fat fullShare Marks-L.mir l₁ 0 (Marks-L.lowered m)) ∷
-        ‵ (fat fullShare Y-text l₂ 0 (sliceVal (text .ptr) (length (text .now)))) ∷ ‵ (fat fullShare Y-starts l₃ 0 (sliceVal (starts .ptr)
-        (length (starts .now)))) ∷ ‵ (fat fullShare Y-lens l₄ 0 (sliceVal (lens .ptr) (length (lens .now)))) ∷
-        ‵ (fat fullShare (tyInt w64) l₅ 0 (vint w64 n)) ∷ ‵ (fat fullShare Y-nodes l₆ 0 (sliceVal (nodes .ptr) (length (ws3 .1 .1 .1 .1 .1 .0)))) ∷
-        ‵ (fat fullShare tyUnit l₈ 0 vunit) ∷ ‵ (fat fullShare (tyRef erased mut (pointee (Node-T.the-row .written))) l₉ 0 (vptr (nodes .ptr .0)
-        (nodes .ptr .1))) ∷ ‵ (fat fullShare (sliceTy (tyRef erased mut (pointee (Node-T.the-row .written)))) l₁₀ 0 (sliceVal (nodes .ptr)
-        (length (nodes .now)))) ∷ ‵ (fat fullShare Node-L.mir l₁₁ 0 (Node-L.lowered r1)) ∷
-        ‵ (fat fullShare (tyRef erased mut (pointee (Node-T.the-row .written))) l₁₂ 0 (vptr (nodes .ptr .0) (nodes .ptr .1))) ∷
-        ‵ (fat fullShare (sliceTy (tyRef erased mut (pointee (Node-T.the-row .written)))) l₁₃ 0 (sliceVal (nodes .ptr) (length (ws2 .0)))) ∷
-        ‵ (fat fullShare (tyRef erased mut (pointee (Array (UInt w64) 128 .written))) l₁₄ 0 (vptr l₇ 0)) ∷
-        ‵ (fat fullShare (sliceTy (tyRef erased mut (pointee ((UInt w64) .written)))) l₁₅ 0 (sliceVal (l₇, 0) (length (replicate {A = ℕ} 128 0)))) ∷
+        Walk.written-out ! (‵ (fat fullShare (tyArray (tyInt w64) 128) l₆ 0 cell3) ∷ ‵ (Array (UInt w64) 128 .own (ws3 .1 .1 .1 .1 .1 .0) (cell3 ∷
+        [])) ∷ ‵ (T-nodes .own (at-last nodes (ws3 .1 .1 .1 .1 .0)) (sliceVal (nodes .ptr) (length (ws3 .1 .1 .1 .1 .0)) ∷ [])) ∷ ‵ (flft κ₂ q₂) ∷
+        ‵ (flft κ₁ q₁) ∷ ‵ (flft κ₀ q₀) ∷ ‵ (T-text .own text (sliceVal (text .ptr) (length (text .now)) ∷ [])) ∷
+        ‵ (T-table .own table (sliceVal (table .ptr) (length (table .now)) ∷ [])) ∷ ‵ (fat fullShare (tyInt w64) l₀ 0 (vint w64 r3)) ∷
+        ‵ (fat fullShare Marks-L.mir l₁ 0 (Marks-L.lowered m)) ∷ ‵ (fat fullShare Y-text l₂ 0 (sliceVal (text .ptr) (length (text .now)))) ∷
+        ‵ (fat fullShare Y-table l₃ 0 (sliceVal (table .ptr) (length (table .now)))) ∷ ‵ (fat fullShare (tyInt w64) l₄ 0 (vint w64 n)) ∷
+        ‵ (fat fullShare Y-nodes l₅ 0 (sliceVal (nodes .ptr) (length (ws3 .1 .1 .1 .1 .0)))) ∷ ‵ (fat fullShare tyUnit l₇ 0 vunit) ∷
+        ‵ (fat fullShare (tyRef erased mut (pointee (Node-T.the-row .written))) l₈ 0 (vptr (nodes .ptr .0) (nodes .ptr .1))) ∷
+        ‵ (fat fullShare (sliceTy (tyRef erased mut (pointee (Node-T.the-row .written)))) l₉ 0 (sliceVal (nodes .ptr) (length (nodes .now)))) ∷
+        ‵ (fat fullShare Node-L.mir l₁₀ 0 (Node-L.lowered r1)) ∷
+        ‵ (fat fullShare (tyRef erased mut (pointee (Node-T.the-row .written))) l₁₁ 0 (vptr (nodes .ptr .0) (nodes .ptr .1))) ∷
+        ‵ (fat fullShare (sliceTy (tyRef erased mut (pointee (Node-T.the-row .written)))) l₁₂ 0 (sliceVal (nodes .ptr) (length (ws2 .0)))) ∷
+        ‵ (fat fullShare (tyRef erased mut (pointee (Array (UInt w64) 128 .written))) l₁₃ 0 (vptr l₆ 0)) ∷
+        ‵ (fat fullShare (sliceTy (tyRef erased mut (pointee ((UInt w64) .written)))) l₁₄ 0 (sliceVal (l₆, 0) (length (replicate {A = ℕ} 128 0)))) ∷
         ‵ Fd ∷ []) refl $
-        Run.returns-within ! Post refl (Run.look ! 10 refl) $
-        Kit.move ! (10 ∷ 11 ∷ 12 ∷ 13 ∷ 14 ∷ 15 ∷ 16 ∷ 0 ∷ 17 ∷ 18 ∷ 19 ∷ 20 ∷ 21 ∷ 22 ∷ 23 ∷ 24 ∷ 25 ∷ []) $
+        Run.returns-within ! Post refl (Run.look ! 8 refl) $
+        Kit.move ! (8 ∷ 9 ∷ 10 ∷ 11 ∷ 12 ∷ 13 ∷ 0 ∷ 14 ∷ 15 ∷ 16 ∷ 17 ∷ 18 ∷ 19 ∷ 20 ∷ 21 ∷ 22 ∷ []) $
         Walk.frees-gathered ! (Walk.full (tyInt w64) l₀ (vint w64 r3) ∷ Walk.full Marks-L.mir l₁ (Marks-L.lowered m) ∷
-        Walk.full Y-text l₂ (sliceVal (text .ptr) (length (text .now))) ∷ Walk.full Y-starts l₃ (sliceVal (starts .ptr) (length (starts .now))) ∷
-        Walk.full Y-lens l₄ (sliceVal (lens .ptr) (length (lens .now))) ∷ Walk.full (tyInt w64) l₅ (vint w64 n) ∷
-        Walk.full Y-nodes l₆ (sliceVal (nodes .ptr) (length (ws3 .1 .1 .1 .1 .1 .0))) ∷ Walk.full (tyArray (tyInt w64) 128) l₇ w3 ∷
-        Walk.full tyUnit l₈ vunit ∷ Walk.full (tyRef erased mut (pointee (Node-T.the-row .written))) l₉ (vptr (nodes .ptr .0) (nodes .ptr .1)) ∷
-        Walk.full (sliceTy (tyRef erased mut (pointee (Node-T.the-row .written)))) l₁₀ (sliceVal (nodes .ptr) (length (nodes .now))) ∷
-        Walk.full Node-L.mir l₁₁ (Node-L.lowered r1) ∷ Walk.full (tyRef erased mut (pointee (Node-T.the-row .written))) l₁₂ (vptr (nodes .ptr .0)
-        (nodes .ptr .1)) ∷ Walk.full (sliceTy (tyRef erased mut (pointee (Node-T.the-row .written)))) l₁₃ (sliceVal (nodes .ptr)
-        (length (ws2 .0))) ∷ Walk.full (tyRef erased mut (pointee (Array (UInt w64) 128 .written))) l₁₄ (vptr l₇ 0) ∷
-        Walk.full (sliceTy (tyRef erased mut (pointee ((UInt w64) .written)))) l₁₅ (sliceVal (l₇, 0) (length (replicate {A = ℕ} 128 0))) ∷
-        []) Fd ed (‵ (Array (UInt w64) 128 .own (ws3 .1 .1 .1 .1 .1 .1 .0) (w3 ∷ [])) ∷ ‵ (T-nodes .own (at-last nodes (ws3 .1 .1 .1 .1 .1 .0))
-        (sliceVal (nodes .ptr) (length (ws3 .1 .1 .1 .1 .1 .0)) ∷ [])) ∷ ‵ (flft κ₃ q₃) ∷ ‵ (flft κ₂ q₂) ∷ ‵ (flft κ₁ q₁) ∷ ‵ (flft κ₀ q₀) ∷
-        ‵ (T-text .own text (sliceVal (text .ptr) (length (text .now)) ∷ [])) ∷ ‵ (T-starts .own starts (sliceVal (starts .ptr)
-        (length (starts .now)) ∷ [])) ∷ ‵ (T-lens .own lens (sliceVal (lens .ptr) (length (lens .now)) ∷ [])) ∷ []) $
+        Walk.full Y-text l₂ (sliceVal (text .ptr) (length (text .now))) ∷ Walk.full Y-table l₃ (sliceVal (table .ptr) (length (table .now))) ∷
+        Walk.full (tyInt w64) l₄ (vint w64 n) ∷ Walk.full Y-nodes l₅ (sliceVal (nodes .ptr) (length (ws3 .1 .1 .1 .1 .0))) ∷
+        Walk.full (tyArray (tyInt w64) 128) l₆ cell3 ∷ Walk.full tyUnit l₇ vunit ∷
+        Walk.full (tyRef erased mut (pointee (Node-T.the-row .written))) l₈ (vptr (nodes .ptr .0) (nodes .ptr .1)) ∷
+        Walk.full (sliceTy (tyRef erased mut (pointee (Node-T.the-row .written)))) l₉ (sliceVal (nodes .ptr) (length (nodes .now))) ∷
+        Walk.full Node-L.mir l₁₀ (Node-L.lowered r1) ∷ Walk.full (tyRef erased mut (pointee (Node-T.the-row .written))) l₁₁ (vptr (nodes .ptr .0)
+        (nodes .ptr .1)) ∷ Walk.full (sliceTy (tyRef erased mut (pointee (Node-T.the-row .written)))) l₁₂ (sliceVal (nodes .ptr)
+        (length (ws2 .0))) ∷ Walk.full (tyRef erased mut (pointee (Array (UInt w64) 128 .written))) l₁₃ (vptr l₆ 0) ∷
+        Walk.full (sliceTy (tyRef erased mut (pointee ((UInt w64) .written)))) l₁₄ (sliceVal (l₆, 0) (length (replicate {A = ℕ} 128 0))) ∷
+        []) Fd ed (‵ (Array (UInt w64) 128 .own (ws3 .1 .1 .1 .1 .1 .0) (cell3 ∷ [])) ∷ ‵ (T-nodes .own (at-last nodes (ws3 .1 .1 .1 .1 .0))
+        (sliceVal (nodes .ptr) (length (ws3 .1 .1 .1 .1 .0)) ∷ [])) ∷ ‵ (flft κ₂ q₂) ∷ ‵ (flft κ₁ q₁) ∷ ‵ (flft κ₀ q₀) ∷
+        ‵ (T-text .own text (sliceVal (text .ptr) (length (text .now)) ∷ [])) ∷ ‵ (T-table .own table (sliceVal (table .ptr) (length (table .now)) ∷
+        [])) ∷ []) $
         Kit.use0 W (‵ ((UInt w64) .own r3 ((vint w64 r3) ∷ []))) (uint-makes 𝓤 H A W w64 r3 _ (refl, is3 .1)) $ Kit.move ! (2 ∷ []) $
-        Kit.use1 W (‵ (finally Node-T.the-row (nodes .name) (ws3 .1 .1 .1 .1 .1 .0)))
-        (Walk.ended-slice 𝓤 H A W (named 3) κ₃ Node-T.the-row nodes (ws3 .1 .1 .1 .1 .1 .0) _) $
+        Kit.use1 W (‵ (finally Node-T.the-row (nodes .name) (ws3 .1 .1 .1 .1 .0)))
+        (Walk.ended-slice 𝓤 H A W (named 2) κ₂ Node-T.the-row nodes (ws3 .1 .1 .1 .1 .0) _) $
         Walk.nothing ! $ Kit.move ! (1 ∷ 0 ∷ []) $ Kit.fjoin ! $ Walk.nothing ! $ Kit.fjoin ! $ Walk.nothing ! $ Kit.fjoin ! $ Walk.nothing ! $
-        Kit.fjoin ! $ Walk.nothing ! $ Kit.fjoin ! $ Walk.nothing ! $ Kit.fjoin ! $ Walk.nothing-raw ! $ Kit.move ! (4 ∷ 0 ∷ []) $ Kit.join ! $
-        Kit.move ! (4 ∷ 0 ∷ []) $ Kit.join ! $ Kit.move ! (4 ∷ 0 ∷ []) $ Kit.join ! $ Kit.move ! (4 ∷ 0 ∷ []) $ Kit.join ! $
-        Kit.use1 W (raw (alive 𝓤 H A f-build.signature (κ₀, (κ₁, (κ₂, (κ₃, tt)))) (q₀, (q₁, (q₂, (q₃, tt)))))) (id⊢ 𝓤 _) $
-        Kit.keep ! (0 ∷ 1 ∷ 2 ∷ []) $
-        Kit.by ! (Walk.leave-by 𝓤 H A W f-build.ended (f-build.clauses 𝓤 H A mem run) stayed-build bound (vint w64 r3) r3 (tt, (tt, (tt, (tt, (tt, ((ws3 .1 .1 .1 .1 .1 .0), tt)))))) (tt, (tt, (tt, (tt, (tt, ((len2 ∙ (len1 ∙ refl)), tt)))))) (factI 𝓤 _ (emp 𝓤) (built-in-row m (pre .1) (len2 ∙ len1) e3)))))))))))))))))))))))))))))))))))
+        Kit.fjoin ! $ Walk.nothing ! $ Kit.fjoin ! $ Walk.nothing-raw ! $ Kit.move ! (4 ∷ 0 ∷ []) $ Kit.join ! $ Kit.move ! (4 ∷ 0 ∷ []) $
+        Kit.join ! $ Kit.move ! (4 ∷ 0 ∷ []) $ Kit.join ! $
+        Kit.use1 W (raw (alive 𝓤 H A f-build.signature (κ₀, (κ₁, (κ₂, tt))) (q₀, (q₁, (q₂, tt))))) (id⊢ 𝓤 _) $ Kit.keep ! (0 ∷ 1 ∷ 2 ∷ []) $
+        Kit.by ! (Walk.leave-by 𝓤 H A W f-build.ended (f-build.clauses 𝓤 H A mem run) stayed-build bound (vint w64 r3) r3 (tt, (tt, (tt, (tt, ((ws3 .1 .1 .1 .1 .0), tt))))) (tt, (tt, (tt, (tt, ((len2 ∙ (len1 ∙ refl)), tt))))) (factI 𝓤 _ (emp 𝓤) (built-in-row m (pre .1) (len2 ∙ len1) e3))))))))))))))))))))))))))))))))))
 
 pub build-spec : {M : Type 1} → stated.statement M
 unfolding code.routine tablesOf
@@ -376,15 +355,15 @@ build-spec 𝓤 H 𝓜 𝓖 𝓡 =
     entered 𝓤 H (tripleOf 𝓤 H (𝓖 .A) f-build.signature (f-build.spec 𝓤 H (𝓖 .A) (𝓜 .mem) (𝓡 .run)))
     (tables 𝓤 H 𝓜 𝓡 code.env .C) (tables 𝓤 H 𝓜 𝓡 code.env .Λ) #build code.function (code.unfolded 𝓤 H 𝓜 𝓡)
     (Walk.thick 𝓤 H (𝓖 .A) W f-build.ended (f-build.clauses 𝓤 H (𝓖 .A) (𝓜 .mem)
-    (𝓡 .run)) stayed-build (goes-dropped 𝓤 H (𝓖 .A) W 4 (plain (λ _. Marks-T.the-row)) yes (λ κs x f. refl), (goes-dropped 𝓤 H (𝓖 .A) W 4 (shrSliceOf (0 ∷ []) tt (plain (λ _. (UInt w8)))) yes (λ κs x f. refl), (goes-dropped 𝓤 H (𝓖 .A) W 4 (shrSliceOf (1 ∷ []) tt (plain (λ _. (UInt w64)))) yes (λ κs x f. refl), (goes-dropped 𝓤 H (𝓖 .A) W 4 (shrSliceOf (2 ∷ []) tt (plain (λ _. (UInt w64)))) yes (λ κs x f. refl), (goes-dropped 𝓤 H (𝓖 .A) W 4 (plain (λ _. (UInt w64))) yes (λ κs x f. refl), (goes-gave-slice 𝓤 H (𝓖 .A) W 4 3 tt (plain (λ _. Node-T.the-row)), tt))))))
-    (λ κs. (LL.vals Marks-T.the-type Marks-L.the-laws, (slice-vals, (slice-vals, (slice-vals, (uint-vals w64, (slice-vals, tt)))))))
-    (λ κs. (LL.tells Marks-T.the-type Marks-L.the-laws, (shr-slice-tells (named 0) (κs .0) (UInt w8), (shr-slice-tells (named 1) (κs .1 .0) (UInt w64), (shr-slice-tells (named 2) (κs .1 .1 .0) (UInt w64), (uint-tells w64, (mut-slice-tells (named 3) (κs .1 .1 .1 .0) Node-T.the-row, tt))))))) code.function 𝓣
+    (𝓡 .run)) stayed-build (goes-dropped 𝓤 H (𝓖 .A) W 3 (plain (λ _. Marks-T.the-row)) yes (λ κs x f. refl), (goes-dropped 𝓤 H (𝓖 .A) W 3 (shrSliceOf (0 ∷ []) tt (plain (λ _. (UInt w8)))) yes (λ κs x f. refl), (goes-dropped 𝓤 H (𝓖 .A) W 3 (shrSliceOf (1 ∷ []) tt (plain (λ _. (UInt w64)))) yes (λ κs x f. refl), (goes-dropped 𝓤 H (𝓖 .A) W 3 (plain (λ _. (UInt w64))) yes (λ κs x f. refl), (goes-gave-slice 𝓤 H (𝓖 .A) W 3 2 tt (plain (λ _. Node-T.the-row)), tt)))))
+    (λ κs. (LL.vals Marks-T.the-type Marks-L.the-laws, (slice-vals, (slice-vals, (uint-vals w64, (slice-vals, tt))))))
+    (λ κs. (LL.tells Marks-T.the-type Marks-L.the-laws, (shr-slice-tells (named 0) (κs .0) (UInt w8), (shr-slice-tells (named 1) (κs .1 .0) (UInt w64), (uint-tells w64, (mut-slice-tells (named 2) (κs .1 .1 .0) Node-T.the-row, tt)))))) code.function 𝓣
     (λ κs qs bounds a g are. needs 𝓤 _ _ (walk-build 𝓤 H (𝓖 .A) W (𝓜 .mem) (𝓡 .run) (κs .0) (qs .0) (κs .1 .0) (qs .1 .0) (κs .1 .1 .0)
-    (qs .1 .1 .0) (κs .1 .1 .1 .0) (qs .1 .1 .1 .0) (a .0) (a .1 .0) (a .1 .1 .0) (a .1 .1 .1 .0) (a .1 .1 .1 .1 .0) (a .1 .1 .1 .1 .1 .0)
-    (𝓣 .C) (𝓣 .Λ) (fmOf 𝓤 H (W .laws) 𝓣) (cited 𝓤 H (Walk.Of 𝓤 H (𝓖 .A) g-make-root.ended (g-make-root.clauses 𝓤 H (𝓖 .A) (𝓜 .mem)
+    (qs .1 .1 .0) (a .0) (a .1 .0) (a .1 .1 .0) (a .1 .1 .1 .0) (a .1 .1 .1 .1 .0) (𝓣 .C) (𝓣 .Λ) (fmOf 𝓤 H (W .laws) 𝓣)
+    (cited 𝓤 H (Walk.Of 𝓤 H (𝓖 .A) g-make-root.ended (g-make-root.clauses 𝓤 H (𝓖 .A) (𝓜 .mem)
     (𝓡 .run))) 𝓜 𝓡 code.env #g-make-root g-make-root-def.routine code.calls-tree·make-root (g-make-root-thm.met 𝓤 H 𝓜 𝓖 𝓡))
     (cited 𝓤 H (Walk.Of 𝓤 H (𝓖 .A) g-set-node.ended (g-set-node.clauses 𝓤 H (𝓖 .A) (𝓜 .mem)
     (𝓡 .run))) 𝓜 𝓡 code.env #g-set-node g-set-node-def.routine code.calls-nodes·set-node (g-set-node-thm.met 𝓤 H 𝓜 𝓖 𝓡))
-    (cited 𝓤 H (Walk.Of 𝓤 H (𝓖 .A) g-grow.ended (g-grow.clauses 𝓤 H (𝓖 .A) (𝓜 .mem)
-    (𝓡 .run))) 𝓜 𝓡 code.env #g-grow g-grow-def.routine code.calls-tree·grow (g-grow-thm.met 𝓤 H 𝓜 𝓖 𝓡)) (are .0) (are .1 .0) (are .1 .1 .0)
-    (are .1 .1 .1 .0) (are .1 .1 .1 .1 .0 .1) (are .1 .1 .1 .1 .1 .0))))
+    (cited 𝓤 H (Walk.Of 𝓤 H (𝓖 .A) g-grow-tree.ended (g-grow-tree.clauses 𝓤 H (𝓖 .A) (𝓜 .mem)
+    (𝓡 .run))) 𝓜 𝓡 code.env #g-grow-tree g-grow-tree-def.routine code.calls-tree·grow-tree (g-grow-tree-thm.met 𝓤 H 𝓜 𝓖 𝓡)) (are .0) (are .1 .0)
+    (are .1 .1 .0) (are .1 .1 .1 .0 .1) (are .1 .1 .1 .1 .0))))

@@ -1,4 +1,7 @@
--- The cycle of calls {expression, operand, product}. Each loop's invariant: what comes of the way that is left comes of the whole.
+-- The cycle of calls {expression, operand, product}. A call's measure is three for each byte that is left, and 3 more for an
+-- expression, 2 for a product, 1 for an operand: an operand's expression starts a byte further on, behind its bracket.
+-- Both loops keep `Going`: whatever comes of the join j with the value so far comes of the whole from `at` on. Their measure is the
+-- length of the text less the place where j goes on.
 use borrow.Author.Needs.{needs}
 use Prim.Native.Nat.{ℕ, _+_, _-_, _*_, _<_}
 use native.Mathlib.Omega.{arith}
@@ -70,7 +73,18 @@ abbrev expression-calls : ℕ → expression-lts.Claims
 expression-calls t = (start-reads.Asked, start-reads.Learnt, product-below t, product.Post, apply-reads.Asked, apply-reads.Learnt, next-reads.Asked, next-reads.Learnt)
 
 abbrev operand-calls : ℕ → operand-lts.Claims
-operand-calls t = (opening-reads.Asked, opening-reads.Learnt, read-numeral-reads.Asked, read-numeral-reads.Learnt, read-name-reads.Asked, read-name-reads.Learnt, expression-below t, expression.Post, closed-reads.Asked, closed-reads.Learnt)
+operand-calls t = (
+  opening-reads.Asked,
+  opening-reads.Learnt,
+  read-numeral-reads.Asked,
+  read-numeral-reads.Learnt,
+  read-name-reads.Asked,
+  read-name-reads.Learnt,
+  expression-below t,
+  expression.Post,
+  closed-reads.Asked,
+  closed-reads.Learnt,
+)
 
 abbrev product-calls : ℕ → product-lts.Claims
 product-calls t = (operand-below t, operand.Post, apply-reads.Asked, apply-reads.Learnt, next-reads.Asked, next-reads.Learnt)
@@ -119,7 +133,7 @@ module _ (t : ℕ) where
   expression-next-requires c κs = search levels.ended-before
 
   expression-loop-less : expression-lts.Need-loop-less (expression-calls t) (expression-at t) expression.Post expression-Inv-loop expression-μ-loop
-  expression-loop-less c = search (levels.going-less {s = c .before .before .before .before .before .before .before .before .before .before .before .before .before .before .before .before .args .text .now})
+  expression-loop-less c = search levels.going-less
 
   expression-loop-again : expression-lts.Need-loop-again (expression-calls t) (expression-at t) expression.Post expression-Inv-loop expression-μ-loop
   expression-loop-again c = search levels.going-on
@@ -168,7 +182,8 @@ module _ (t : ℕ) where
 
   operand-returns-4 : operand-lts.Need-returns-4 (operand-calls t) (operand-at t) operand.Post
   operand-returns-4 c =
-      let a = c .before .before .before .before .before .before .before .before .args in
+      let at-entry = c .before .before .before .before .before .before .before .before in
+      let a = at-entry .args in
       search (levels.bracketed (a .m) (held (a .index .count) (a .memory .now)) (a .text .now))
 
   product-loop-holds : product-lts.Need-loop-holds (product-calls t) (product-at t) product.Post product-Inv-loop product-μ-loop
@@ -211,7 +226,7 @@ module _ (t : ℕ) where
   product-next-requires c κs = search levels.ended-before
 
   product-loop-less : product-lts.Need-loop-less (product-calls t) (product-at t) product.Post product-Inv-loop product-μ-loop
-  product-loop-less c = search (levels.going-less {s = c .before .before .before .before .before .before .before .before .before .before .before .before .before .before .before .args .text .now})
+  product-loop-less c = search levels.going-less
 
   product-loop-again : product-lts.Need-loop-again (product-calls t) (product-at t) product.Post product-Inv-loop product-μ-loop
   product-loop-again c = search levels.going-on

@@ -1,4 +1,5 @@
--- name_end finds the end of the name. The invariant: the name ends where it does from `at` on.
+-- name_end finds the end of the name. The loop keeps `Naming`: the name from i on ends where the one from `at` on does. The measure is
+-- the length of the text less i.
 use Prim.Native.Nat.{_-_}
 use borrow.Author.Needs.{needs}
 use lib.ListN.{length}

@@ -1,14 +1,14 @@
--- run_end finds the first other byte, or the end.
+-- run_end finds the first other byte, or the end: the loop keeps `RunSoFar`, that the run goes on up to place i, and to - i falls.
 use Prim.Native.Nat.{_-_, _<_}
 use native.Mathlib.Omega.{arith}
 use lib.ListN.{getD}
-use Rattle.write.proofs.Fields.{Running, running-begins, running-more, runs-differ, runs-all}
+use Rattle.write.proofs.Fields.{RunSoFar, running-begins, running-more, runs-differ, runs-all}
 use borrow.Author.Needs.{needs}
 use Rattle.write.proofs.run_end.Statement.{statement}
 use Rattle.write.proofs.run_end.Tie as tie
 
 abbrev Inv-loop : tie.InvT-loop
-Inv-loop text at to b i₀ i = Running text at to i
+Inv-loop text at to b i₀ i = RunSoFar text at to i
 
 abbrev μ-loop : tie.MeasureT-loop
 μ-loop text at to b i₀ i = to - i

@@ -1,6 +1,6 @@
 -- write_field copies the parameter's first n bytes, or all of them and blanks after.
-use Rattle.write.proofs.Fields.{puts-cut, puts-filled}
 use borrow.Author.Needs.{needs}
+use Rattle.write.proofs.Fields.{puts-cut, puts-filled}
 use Rattle.write.proofs.write_field.Statement.{statement}
 use Rattle.write.proofs.write_field.Tie as tie
 
@@ -49,14 +49,14 @@ part-part-end-2 c = search needs
 copy-requires-2 : tie.Need-copy-requires-2
 copy-requires-2 c κs = search needs
 
-add-fill : tie.Need-add-fill
-add-fill c = search needs
+add-fill-with : tie.Need-add-fill-with
+add-fill-with c = search needs
 
-sub-fill : tie.Need-sub-fill
-sub-fill c = search needs
+sub-fill-with : tie.Need-sub-fill-with
+sub-fill-with c = search needs
 
-fill-requires : tie.Need-fill-requires
-fill-requires c κs = search needs
+fill-with-requires : tie.Need-fill-with-requires
+fill-with-requires c κs = search needs
 
 same-length-2 : tie.Need-same-length-2
 same-length-2 c = search needs
@@ -83,8 +83,8 @@ write-field-spec =
     part-part-start-2
     part-part-end-2
     copy-requires-2
-    add-fill
-    sub-fill
-    fill-requires
+    add-fill-with
+    sub-fill-with
+    fill-with-requires
     same-length-2
     returns-2)

@@ -1,15 +1,16 @@
--- write_fields writes the layout part by part.
-use Prim.Native.Nat.{_-_}
-use Rattle.write.proofs.Fields.{Laying, laying-none, laying-more, laying-all}
+-- write_fields writes the layout part by part: the loop keeps `LayoutSoFar`, that what comes before place i is written, and to - i falls.
 use borrow.Author.Needs.{needs}
+use Prim.Native.Nat.{_-_}
+use Rattle.write.specs.Layout.{bare}
+use Rattle.write.proofs.Fields.{LayoutSoFar, laying-none, laying-more, laying-all}
 use Rattle.write.proofs.write_fields.Statement.{statement}
 use Rattle.write.proofs.write_fields.Tie as tie
 
 abbrev Inv-loop : tie.InvT-loop
-Inv-loop m text at to call output₀ w i₀ output i = Laying m text at to call output₀ w i output
+Inv-loop m text at to nums params output₀ w i₀ output i = LayoutSoFar m text at to (bare nums params) output₀ w i output
 
 abbrev μ-loop : tie.MeasureT-loop
-μ-loop m text at to call output₀ w i₀ output i = to - i
+μ-loop m text at to nums params output₀ w i₀ output i = to - i
 
 loop-holds : tie.Need-loop-holds Inv-loop μ-loop
 loop-holds c = search (laying-none, needs)

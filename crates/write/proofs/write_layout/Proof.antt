@@ -1,6 +1,6 @@
 -- write_layout writes all of the layout or nothing.
-use Rattle.write.proofs.Lines.{layout-no-room, layout-writes}
 use borrow.Author.Needs.{needs}
+use Rattle.write.proofs.Lines.{layout-no-room, layout-writes}
 use Rattle.write.proofs.write_layout.Statement.{statement}
 use Rattle.write.proofs.write_layout.Tie as tie
 
@@ -9,6 +9,9 @@ sub-n c = search needs
 
 sub-if1 : tie.Need-sub-if1
 sub-if1 c = search needs
+
+end-with-requires : tie.Need-end-with-requires
+end-with-requires c κs = search needs
 
 returns : tie.Need-returns
 returns c = search (layout-no-room, needs)
@@ -34,7 +37,7 @@ write-layout-spec =
     (tie.spec
     sub-n
     sub-if1
-    returns
+    end-with-requires returns
     write-fields-requires
     add-end-line
     end-line-requires

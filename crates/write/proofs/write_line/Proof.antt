@@ -1,16 +1,14 @@
 -- write_line writes all of the line or nothing.
-use mathlib.Core.Path.{_≡_}
-use lib.ListN.{length}
-use Rattle.write.proofs.Lines.{line-no-room, line-writes}
 use borrow.Author.Needs.{needs}
+use Rattle.write.proofs.Lines.{line-no-room, line-writes}
 use Rattle.write.proofs.write_line.Statement.{statement}
 use Rattle.write.proofs.write_line.Tie as tie
 
-bytes-long : (c : tie.Start) → length (c .args .line .bytes) ≡ 200
-bytes-long c = search needs
-
 sub-if1 : tie.Need-sub-if1
 sub-if1 c = search needs
+
+end-with-requires : tie.Need-end-with-requires
+end-with-requires c κs = search needs
 
 returns : tie.Need-returns
 returns c = search (line-no-room, needs)
@@ -22,7 +20,7 @@ part-content-start : tie.Need-part-content-start
 part-content-start c = search needs
 
 part-content-end : tie.Need-part-content-end
-part-content-end c = let l = bytes-long (c .before .before .before .before) in search needs
+part-content-end c = search needs
 
 copy-requires : tie.Need-copy-requires
 copy-requires c κs = search needs
@@ -37,14 +35,14 @@ same-length : tie.Need-same-length
 same-length c = search needs
 
 returns-2 : tie.Need-returns-2
-returns-2 c = let l = bytes-long (c .before .before .before .before .before .before .before .before .before .before .before .before .before) in search (line-writes, needs)
+returns-2 c = search (line-writes, needs)
 
 pub write-line-spec : {M : Type 1} → statement M
 write-line-spec =
     tie.close
     (tie.spec
     sub-if1
-    returns
+    end-with-requires returns
     sub-content
     part-content-start
     part-content-end

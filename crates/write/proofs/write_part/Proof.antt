@@ -1,6 +1,6 @@
 -- write_part writes the field that starts there, or copies the byte.
-use Rattle.write.proofs.Fields.{part-field, part-byte}
 use borrow.Author.Needs.{needs}
+use Rattle.write.proofs.Fields.{part-field, part-byte}
 use Rattle.write.proofs.write_part.Statement.{statement}
 use Rattle.write.proofs.write_part.Tie as tie
 

@@ -1,0 +1,192 @@
+-- What answers come to in the expansion, from the states that the code stands for. Assumes nothing.
+use mathlib.Core.Path.{_≡_, refl, sym, ap, _∙_}
+use mathlib.Core.Bool.{true, false}
+use mathlib.Core.Option.{none, some}
+use mathlib.Core.List.{List, [], _∷_}
+use Prim.Native.Nat.{ℕ, _+_, min}
+use native.Mathlib.Omega.{arith}
+use lib.ListN.{length, take, drop}
+use Rattle.model.specs.declared.Marks.{Marks}
+use Rattle.model.specs.Text.{Bytes, lines}
+use Rattle.model.specs.Load.{Loaded}
+use Rattle.model.specs.Machine as Machine
+use Rattle.model.specs.Machine.{Frame, Shared, Step, continues, offers, skips, leaves, halts, resumeAt, Next, running, ended, stateWith, Passed, landed, beyond, badLanding, passOver, skipFrom, skipIn, stepped, outcome}
+use Rattle.model.specs.Sizes.{Nested, FramesOk}
+use Rattle.model.proofs.Fuel.{after-ended}
+use Rattle.model.proofs.Frames.{NextOk, skipIn-nested}
+use Rattle.model.proofs.Choices.{false-not-true}
+use Rattle.state.specs.declared.State.{State}
+use Rattle.state.specs.State.{sharedOf, stateOf}
+use Rattle.call.specs.Call.{laid, frameOf}
+use Rattle.answer.specs.declared.Turn.{Turn}
+use Rattle.answer.specs.declared.Turn.the-variants.{Continues, Offers, Back, Halts}
+use Rattle.answer.specs.declared.Answer.{Answer}
+use Rattle.answer.specs.Answers.{endsWith, isLeft, isOffer, isEnd, offeredLength, linesBack, settle, nextOf, comesTo, resultAfter}
+
+-- ---- a state counts by its input, line, calls and events where a line is carried out
+
+module _ (m : Marks) where
+  pub skip-same : (n : ℕ) (fs gs : List Frame) (w v : Shared) (s : Machine.State) → skipIn m n fs w s ≡ skipIn m n fs w (stateWith s none gs v)
+  unfolding skipIn skipFrom stateWith
+  skip-same n [] gs w v s = refl
+  skip-same n (f ∷ fs) gs w v s = by (passOver m n 0 (f .next)) (λ k. skip-same k fs gs w v s)
+    where
+      by : (p : Passed) → ((k : ℕ) → skipIn m k fs w s ≡ skipIn m k fs w (stateWith s none gs v))
+          → skipFrom f fs w s (λ k. skipIn m k fs w s) p ≡ skipFrom f fs w (stateWith s none gs v) (λ k. skipIn m k fs w (stateWith s none gs v)) p
+      by (landed cs) ih = refl
+      by (beyond k) ih = ih k
+      by badLanding ih = refl
+
+  stepped-same : (fs gs : List Frame) (p : Step) (v : Shared) (s : Machine.State) → stepped m fs p s ≡ stepped m fs p (stateWith s none gs v)
+  unfolding stepped stateWith
+  stepped-same fs gs (continues f w) v s = refl
+  stepped-same fs gs (offers l f w) v s = refl
+  stepped-same fs gs (skips n f w) v s = skip-same n (f ∷ fs) gs w v s
+  stepped-same fs gs (leaves w) v s = refl
+  stepped-same fs gs (halts k w) v s = refl
+
+  module _ (text : Bytes) (s s′ : State) (at : s′ .at ≡ s .at) (line : s′ .line ≡ s .line) (calls : s′ .calls ≡ s .calls) (events : s′ .events ≡ s .events) where
+    -- what a code line comes to, seen from the state after it
+    pub stepped-at : (fs gs : List Frame) (p : Step) (o w o′ w′ : Bytes) → stepped m fs p (stateOf text none gs s o w) ≡ stepped m fs p (stateOf text none fs s′ o′ w′)
+    unfolding stateWith
+    stepped-at fs gs p o w o′ w′ =
+        stepped-same fs fs p (sharedOf s′ o′ w′) (stateOf text none gs s o w)
+        ∙ (λ i. stepped m fs p (record { input = lines (drop (sym at i) text); line = sym line i; pending = none; frames = fs; calls = sym calls i; shared = sharedOf s′ o′ w′; events = sym events i }))
+
+  -- nothing is skipped
+  pub skip-none : (text : Bytes) (fs : List Frame) (s : State) (o w : Bytes) → settle (skipIn m 0 fs (sharedOf s o w) (stateOf text none fs s o w)) ≡ running (stateOf text none fs s o w)
+  unfolding settle skipIn skipFrom passOver stateWith resumeAt
+  skip-none text [] s o w =
+      let z : s .line + min 0 (length (lines (drop (s .at) text))) ≡ s .line = omega arith in
+      ap (λ (n : ℕ). running (record { input = lines (drop (s .at) text); line = n; pending = none; frames = []; calls = s .calls; shared = sharedOf s o w; events = s .events })) z
+  skip-none text (f ∷ fs) s o w = refl
+
+-- ---- runs that have ended
+
+-- the run ends with a number
+pub halts-with : (fuel room : ℕ) (t : Loaded) (text : Bytes) (k : ℕ) (fs : List Frame) (s : State) (o w : Bytes) → comesTo fuel room t (ended k (stateOf text none fs s o w)) ≡ resultAfter (endsWith k s) o w
+unfolding outcome Machine.resultOf
+halts-with fuel room t text k fs s o w = ap outcome (after-ended fuel room t k (stateOf text none fs s o w))
+
+-- what is settled comes to the same
+pub settle-same : (fuel room : ℕ) (t : Loaded) (x : Next) → comesTo fuel room t x ≡ comesTo fuel room t (settle x)
+unfolding settle outcome Machine.resultOf stateWith
+settle-same fuel room t (running s) = refl
+settle-same fuel room t (ended k s) = ap outcome (after-ended fuel room t k s) ∙ sym (ap outcome (after-ended fuel room t k (stateWith s none [] (s .shared))))
+
+pub settle-nested : (m : Marks) (x : Next) → NextOk m x → NextOk m (settle x)
+unfolding settle stateWith
+settle-nested m (running s) h = h
+settle-nested m (ended k s) h = tt
+
+-- ---- an answer by its turn
+
+-- the answer with another turn
+abbrev pub withTurn : Answer → Turn → Answer
+withTurn r z = record { turn = z; call = r .call; state = r .state }
+
+module _ (m : Marks) (text : Bytes) (r : Answer) (fs : List Frame) (nums : List ℕ) (bytes line o w : Bytes) where
+  -- what the answer comes to, with another turn
+  abbrev turned : Turn → Next
+  turned z = nextOf m text fs (withTurn r z) nums bytes line o w
+
+  pub next-as : {z : Turn} → r .turn ≡ z → nextOf m text fs r nums bytes line o w ≡ nextOf m text fs (withTurn r z) nums bytes line o w
+  next-as e = ap turned e
+
+  -- the call goes on, with nothing offered
+  pub next-on : isLeft (r .turn) ≡ false → isOffer (r .turn) ≡ false
+      → nextOf m text fs r nums bytes line o w ≡ running (stateOf text none (frameOf m text (laid (r .call) nums bytes) ∷ fs) (r .state) o w)
+  unfolding nextOf
+  next-on e f = by (r .turn) e f
+    where
+      by : (z : Turn) → isLeft z ≡ false → isOffer z ≡ false → turned z ≡ running (stateOf text none (frameOf m text (laid (r .call) nums bytes) ∷ fs) (r .state) o w)
+      by Continues e f = refl
+      by (Offers n) e f = false-not-true (sym f)
+      by (Back n) e f = false-not-true (sym e)
+      by (Halts k) e f = false-not-true (sym e)
+
+  -- its line is offered
+  pub next-offers : isOffer (r .turn) ≡ true
+      → nextOf m text fs r nums bytes line o w ≡ running (stateOf text (some (take (offeredLength (r .turn)) line)) (frameOf m text (laid (r .call) nums bytes) ∷ fs) (r .state) o w)
+  unfolding nextOf
+  next-offers e = by (r .turn) e
+    where
+      by : (z : Turn) → isOffer z ≡ true → turned z ≡ running (stateOf text (some (take (offeredLength z) line)) (frameOf m text (laid (r .call) nums bytes) ∷ fs) (r .state) o w)
+      by Continues e = false-not-true e
+      by (Offers n) e = refl
+      by (Back n) e = false-not-true e
+      by (Halts k) e = false-not-true e
+
+  -- so many lines are skipped among the callers
+  pub next-back : isLeft (r .turn) ≡ true → isEnd (r .turn) ≡ false
+      → nextOf m text fs r nums bytes line o w ≡ settle (skipIn m (linesBack (r .turn)) fs (sharedOf (r .state) o w) (stateOf text none fs (r .state) o w))
+  unfolding nextOf
+  next-back e f = by (r .turn) e f
+    where
+      by : (z : Turn) → isLeft z ≡ true → isEnd z ≡ false → turned z ≡ settle (skipIn m (linesBack z) fs (sharedOf (r .state) o w) (stateOf text none fs (r .state) o w))
+      by Continues e f = false-not-true e
+      by (Offers n) e f = false-not-true e
+      by (Back n) e f = refl
+      by (Halts k) e f = false-not-true (sym f)
+
+  -- the run ends
+  pub next-ends : isEnd (r .turn) ≡ true → (fuel room : ℕ) (t : Loaded) → comesTo fuel room t (nextOf m text fs r nums bytes line o w) ≡ resultAfter r o w
+  unfolding nextOf
+  next-ends e fuel room t = by (r .turn) e
+    where
+      by : (z : Turn) → isEnd z ≡ true → comesTo fuel room t (turned z) ≡ resultAfter (withTurn r z) o w
+      by Continues e = false-not-true e
+      by (Offers n) e = false-not-true e
+      by (Back n) e = false-not-true e
+      by (Halts k) e = halts-with fuel room t text k [] (r .state) o w
+
+  -- where the call is left, its numbers and bytes and the built line don't matter
+  pub left-same : isLeft (r .turn) ≡ true → (nums′ : List ℕ) (bytes′ line′ : Bytes) → nextOf m text fs r nums bytes line o w ≡ nextOf m text fs r nums′ bytes′ line′ o w
+  unfolding nextOf
+  left-same e nums′ bytes′ line′ = by (r .turn) e
+    where
+      by : (z : Turn) → isLeft z ≡ true → turned z ≡ nextOf m text fs (withTurn r z) nums′ bytes′ line′ o w
+      by Continues e = false-not-true e
+      by (Offers n) e = false-not-true e
+      by (Back n) e = refl
+      by (Halts k) e = refl
+
+  -- where no line is offered, the built line doesn't matter
+  pub unoffered-same : isOffer (r .turn) ≡ false → (line′ : Bytes) → nextOf m text fs r nums bytes line o w ≡ nextOf m text fs r nums bytes line′ o w
+  unfolding nextOf
+  unoffered-same e line′ = by (r .turn) e
+    where
+      by : (z : Turn) → isOffer z ≡ false → turned z ≡ nextOf m text fs (withTurn r z) nums bytes line′ o w
+      by Continues e = refl
+      by (Offers n) e = false-not-true (sym e)
+      by (Back n) e = refl
+      by (Halts k) e = refl
+
+  -- where the call is left, its callers stay well nested
+  pub left-nested : isLeft (r .turn) ≡ true → FramesOk m fs → NextOk m (nextOf m text fs r nums bytes line o w)
+  unfolding nextOf
+  left-nested e h = by (r .turn) e
+    where
+      by : (z : Turn) → isLeft z ≡ true → NextOk m (turned z)
+      by Continues e = false-not-true e
+      by (Offers n) e = false-not-true e
+      by (Back n) e = settle-nested m _ (skipIn-nested m n fs (sharedOf (r .state) o w) (stateOf text none fs (r .state) o w) h)
+      by (Halts k) e = tt
+
+  -- a call that goes on, at once or after an offer, is well nested
+  pub next-nested : NextOk m (nextOf m text fs r nums bytes line o w) → isLeft (r .turn) ≡ false → Nested m (frameOf m text (laid (r .call) nums bytes))
+  unfolding nextOf
+  next-nested = by (r .turn)
+    where
+      by : (z : Turn) → NextOk m (turned z) → isLeft z ≡ false → Nested m (frameOf m text (laid (r .call) nums bytes))
+      by Continues h e = h .0
+      by (Offers n) h e = h .0
+      by (Back n) h e = false-not-true (sym e)
+      by (Halts k) h e = false-not-true (sym e)
+
+-- a call that offers a line is not left
+pub offer-open : (z : Turn) → isOffer z ≡ true → isLeft z ≡ false
+offer-open Continues e = refl
+offer-open (Offers n) e = refl
+offer-open (Back n) e = false-not-true e
+offer-open (Halts k) e = false-not-true e

@@ -1,0 +1,4 @@
+-- Laws of answers.
+pub mod Following
+pub mod Coming
+pub mod Expansion

@@ -1,0 +1,2 @@
+-- Laws of landing.
+pub mod Leaves

@@ -1,0 +1,31 @@
+-- What a skip and an answer come to in a call.
+use mathlib.Core.Path.{_≡_}
+use mathlib.Core.Bool.{true, false}
+use mathlib.Core.Option.{none}
+use mathlib.Core.List.{List, _∷_}
+use Prim.Native.Nat.{ℕ}
+use Rattle.model.specs.declared.Marks.{Marks}
+use Rattle.model.specs.Text.{Bytes}
+use Rattle.model.specs.Machine.{Frame, skipIn}
+use Rattle.state.specs.declared.State.{State}
+use Rattle.state.specs.State.{sharedOf, stateOf}
+use Rattle.call.specs.declared.Head.{Head}
+use Rattle.call.specs.Call.{laid, frameOf, Placed}
+use Rattle.answer.specs.declared.Answer.{Answer}
+use Rattle.answer.specs.Answers.{isLeft, isOffer, settle, nextOf}
+
+-- r is what a skip of n lines comes to in the call c, for all its numbers and bytes
+pub record LandsSkip (m : Marks) (text : Bytes) (c : Head) (n : ℕ) (s : State) (r : Answer) : Type 0 where
+  pub state : r .state ≡ s
+  pub settled : isOffer (r .turn) ≡ false
+  pub placed : (nums : List ℕ) (bytes : Bytes) → Placed text (laid c nums bytes) → Placed text (laid (r .call) nums bytes)
+  pub same : (fs : List Frame) (nums : List ℕ) (bytes line o w : Bytes)
+      → settle (skipIn m n (frameOf m text (laid c nums bytes) ∷ fs) (sharedOf s o w) (stateOf text none fs s o w)) ≡ nextOf m text fs r nums bytes line o w
+
+-- a is what the answer r to a line that the call c offered comes to in c, for all its numbers and bytes
+pub record LandsAnswer (m : Marks) (text : Bytes) (c : Head) (r a : Answer) : Type 0 where
+  pub state : a .state ≡ r .state
+  pub settled : isLeft (r .turn) ≡ true → isOffer (a .turn) ≡ false
+  pub placed : isLeft (r .turn) ≡ true → isLeft (a .turn) ≡ false → (nums : List ℕ) (bytes : Bytes) → Placed text (laid c nums bytes) → Placed text (laid (a .call) nums bytes)
+  pub same : isLeft (r .turn) ≡ true → (fs : List Frame) (nums : List ℕ) (bytes line o w : Bytes)
+      → nextOf m text (frameOf m text (laid c nums bytes) ∷ fs) r nums bytes line o w ≡ nextOf m text fs a nums bytes line o w

@@ -1,0 +1,64 @@
+-- What an answer of loading says: of a text that is refused, and of one that loads.
+use mathlib.Core.Path.{_≡_, _∙_, subst, sym}
+use mathlib.Core.List.{List, []}
+use Prim.Native.Nat.{ℕ, suc, _≤_, _<_}
+use native.Mathlib.Omega.{arith}
+use borrow.Author.Tests.{eq-eqb, ne-eqb}
+use lib.ListN.{length, getD}
+use Rattle.model.specs.Text.{Bytes}
+use Rattle.model.specs.Load.{Macro, templates, count, nodes, Load, refused, loaded, load}
+use Rattle.model.specs.Fitting.{Distinct}
+use Rattle.model.specs.Legal.{Legal}
+use Rattle.model.proofs.Choices.{when-true, when-false}
+use Rattle.model.proofs.Loading.{load-legal}
+use Rattle.nodes.specs.declared.Node.{Node}
+use Rattle.macros.specs.Table.{Table, macrosIn, templatesIn}
+use Rattle.macros.proofs.Table.{templates-in-length, macros-templates}
+use Rattle.templates.specs.Count.{beginnings}
+use Rattle.templates.proofs.Count.{nodes-beginnings}
+use Rattle.tree.specs.Built.{ReadyToBuild}
+use Rattle.load.specs.declared.Loading.{Loading}
+use Rattle.load.specs.Answer.{refusedLoading, loadedOf, answerOf, Loads}
+
+-- an answer of number 0 says that the text is loaded, any other that it is refused
+answer-loaded : (text : Bytes) (t : Table) (r : Loading) → r .number ≡ 0 → answerOf text t r ≡ loaded (loadedOf text t r)
+answer-loaded text t r e = when-true _ _ (eq-eqb (r .number) 0 e)
+
+answer-refused : (text : Bytes) (t : Table) (r : Loading) → ¬ (r .number ≡ 0) → answerOf text t r ≡ refused (r .number) (r .line)
+answer-refused text t r f = when-false _ _ (ne-eqb (r .number) 0 f)
+
+-- ---- for the functions of loading
+
+-- the answer for fault k at line n
+pub refused-as : {x : Load} {text : Bytes} {t : Table} {k n : ℕ} {r : Loading} → x ≡ refused k n → 0 < k → r ≡ refusedLoading k n → Loads x text t r
+refused-as {x} {text} {t} {k} {n} {r} e some-fault q = rw q (record {
+  is = e ∙ sym (answer-refused text t (refusedLoading k n) (λ z. omega arith));
+  inside = λ z. absurd (omega arith);
+  input = omega arith;
+  read = λ z. absurd (omega arith);
+})
+
+-- ---- for callers of load
+
+module _ {x : Load} {text : Bytes} {t : Table} {r : Loading} (h : Loads x text t r) where
+  pub loads-loaded : r .number ≡ 0 → x ≡ loaded (loadedOf text t r)
+  loads-loaded e = h .is ∙ answer-loaded text t r e
+
+  pub loads-refused : ¬ (r .number ≡ 0) → x ≡ refused (r .number) (r .line)
+  loads-refused f = h .is ∙ answer-refused text t r f
+
+-- the templates that are loaded are ready for their tree, in a row of 2,048 nodes or more
+pub loads-ready : {text : Bytes} {t : Table} {r : Loading} {rows : List Node} → Loads (load text) text t r → r .number ≡ 0 → 2048 ≤ length rows
+    → ReadyToBuild (r .marks .placeholder) (templatesIn text t (r .count)) rows
+loads-ready {text} {t} {r} {rows} h e a =
+    let ms : List Macro = macrosIn (r .marks) text t (r .count) in
+    let same : templates ms ≡ templatesIn text t (r .count) = macros-templates (r .marks) text t (r .count) in
+    let l : Legal (r .marks) ms = load-legal text (loadedOf text t r) (loads-loaded h e) .1 in
+    let n : nodes ms ≡ suc (beginnings (templatesIn text t (r .count))) = nodes-beginnings (templatesIn text t (r .count)) ms same (subst Distinct same (l .different)) in
+    record {
+      few = omega (arith, templates-in-length text t (r .count), h .inside e .entries .few);
+      short = λ k. subst (λ (ts : List Bytes). length (getD ts k []) ≤ 200) same (l .short k);
+      nine = λ k. subst (λ (ts : List Bytes). count (r .marks .placeholder) (getD ts k []) ≤ 9) same (l .nine k);
+      room = omega (arith, l .tree);
+      small = omega (arith, l .tree);
+    }

@@ -1,0 +1,2 @@
+-- The laws of the table of macros.
+pub mod Table

@@ -1,0 +1,2 @@
+-- The table of macros.
+pub mod Table

@@ -1,0 +1,59 @@
+-- A run's answer that is the expansion stopped at its fuel has all that document 01 demands. The theorems: run-offers, follows-expansion.
+use mathlib.Core.Path.{_≡_, sym, _∙_, ap, subst}
+use Prim.Native.Nat.{ℕ}
+use native.Mathlib.Omega.{arith}
+use lib.ListN.{length, take}
+use lib.Seq.{take-at}
+use Rattle.model.specs.declared.Ran.{Ran}
+use Rattle.model.specs.Text.{Bytes}
+use Rattle.model.specs.Load.{Loaded, loaded, load}
+use Rattle.model.specs.Machine.{running, initial, Result, run}
+use Rattle.model.specs.Results.{ranAs}
+use Rattle.model.specs.Runs.{Runs}
+use Rattle.model.specs.Demands.{OffersInRun, FollowsExpansion}
+use Rattle.model.proofs.FirstReading.{offered-first}
+use Rattle.model.proofs.Fuel.{fuel-enough, fuel-spent, run-events, spent-events, run-ended, run-spent}
+use Rattle.model.proofs.Events.{next-event, exactly-ended, exactly-spent}
+use Rattle.model.proofs.NumberTable.{begun-numbered}
+
+-- every line offered in a run goes by its first reading
+pub run-offers : (text : Bytes) (t : Loaded) → load text ≡ loaded t → (fuel room : ℕ) → OffersInRun fuel room t
+run-offers text t loads fuel room n s l b e p = (next-event n room t (running (initial t)) s e, offered-first text t loads room s l p)
+
+module _ (text : Bytes) (t : Loaded) (loads : load text ≡ loaded t) (fuel : ℕ) (output store : Bytes) {r : Ran} {output′ store′ : Bytes}
+    (h : Runs (run fuel (length output) (loaded t)) output store r output′ store′) where
+  abbrev room : ℕ
+  room = length output
+
+  number : r .number ≡ run fuel room (loaded t) .number
+  unfolding ranAs
+  number = ap (λ (z : Ran). z .number) (h .is)
+
+  events : r .events ≡ run fuel room (loaded t) .events
+  unfolding ranAs
+  events = ap (λ (z : Ran). z .events) (h .is)
+
+  -- the bytes that the run has written
+  wrote : take (r .output) output′ ≡ run fuel room (loaded t) .output
+  unfolding ranAs
+  wrote = ap (λ (z : Bytes). take (r .output) z) (h .writes) ∙ take-at (run fuel room (loaded t) .output) _ (r .output) (sym (ap (λ (z : Ran). z .output) (h .is)))
+
+  -- the run's result under another name
+  runs-as : {x : Result} → run fuel room (loaded t) ≡ x → Runs x output store r output′ store′
+  runs-as e = subst (λ (x : Result). Runs x output store r output′ store′) e h
+
+  pub follows-expansion : FollowsExpansion t fuel output store r output′ store′
+  unfolding run
+  follows-expansion = record {
+    is = h;
+    ends = λ n k s l e. runs-as (run-ended fuel room t n k s l e);
+    spent = λ s e. runs-as (run-spent fuel room t s e);
+    exactly-ended = (λ z. exactly-ended fuel room t .0 (λ e. z (number ∙ e)), λ p e. exactly-ended fuel room t .1 p (sym number ∙ e));
+    exactly-spent = (λ e. exactly-spent fuel room t .0 (sym number ∙ e), λ p. number ∙ exactly-spent fuel room t .1 p);
+    numbered = rw number (begun-numbered fuel room t);
+    offers = run-offers text t loads fuel room;
+    events = omega (arith, events, run-events fuel room t .0);
+    used = λ e. events ∙ spent-events fuel room t (sym number ∙ e);
+    same = λ g l z. runs-as (sym (fuel-enough fuel g room (loaded t) l (λ e. z (number ∙ e))));
+    adds = λ g l e. rw wrote (fuel-spent fuel g room (loaded t) l (sym number ∙ e));
+  }

@@ -1,0 +1,59 @@
+-- What the programs print on standard output, byte for byte: numbers are in decimal, a blank is byte 32, and each row ends with byte 10.
+use mathlib.Core.List.{List, [], _∷_, _++_}
+use Prim.Native.Nat.{ℕ}
+use Rattle.model.specs.Limits.{textMost, nodesMost, fuelMost, storeLeast}
+use Rattle.model.specs.declared.Checked.{Checked}
+use Rattle.model.specs.declared.Fitted.{Fitted}
+use Rattle.model.specs.Text.{Bytes, lines}
+use Rattle.model.specs.Store.{decimal}
+use Rattle.model.specs.Machine.{Result}
+use Rattle.model.specs.Results.{checkText, fitLine, runText}
+
+-- a number after a blank
+unfoldable pub spaced : ℕ → Bytes
+spaced n = 32 ∷ decimal n
+
+-- ---- expand
+
+-- END, then number, line and events
+unfoldable pub endRow : (number line events : ℕ) → Bytes
+endRow k n e = (69 ∷ 78 ∷ 68 ∷ []) ++ spaced k ++ spaced n ++ spaced e ++ (10 ∷ [])
+
+-- a run's output, then its end
+unfoldable pub runPrinted : Result → Bytes
+runPrinted x = x .output ++ endRow (x .number) (x .line) (x .events)
+
+-- `expand` runs a text with all the fuel there is, and has room for as many bytes of output as a text has
+unfoldable pub expandPrints : Bytes → Bytes
+expandPrints text = runPrinted (runText fuelMost nodesMost textMost storeLeast text)
+
+-- ---- check_text
+
+-- a file's name, then number and line
+unfoldable pub checkRow : Bytes → Checked → Bytes
+checkRow name c = name ++ spaced (c .number) ++ spaced (c .line) ++ (10 ∷ [])
+
+-- `check_text` has a row for each file, of which it knows name and text
+unfoldable pub checkPrints : List (Bytes × Bytes) → Bytes
+checkPrints [] = []
+checkPrints (f ∷ fs) = checkRow (f .0) (checkText nodesMost (f .1)) ++ checkPrints fs
+
+-- ---- fit_line
+
+-- start and length of each piece
+unfoldable pub pieceRow : (starts lengths : List ℕ) → Bytes
+pieceRow [] ls = []
+pieceRow (s ∷ ss) [] = []
+pieceRow (s ∷ ss) (l ∷ ls) = (spaced s ++ spaced l) ++ pieceRow ss ls
+
+-- number and template's line, then the pieces
+unfoldable pub fitRow : Fitted → Bytes
+fitRow f = decimal (f .number) ++ spaced (f .line) ++ pieceRow (f .start) (f .length) ++ (10 ∷ [])
+
+unfoldable pub fitRows : Bytes → List Bytes → Bytes
+fitRows text [] = []
+fitRows text (l ∷ ls) = fitRow (fitLine nodesMost text l) ++ fitRows text ls
+
+-- `fit_line` has a row for each line of a file, taken whole
+unfoldable pub fitPrints : (text file : Bytes) → Bytes
+fitPrints text file = fitRows text (lines file)

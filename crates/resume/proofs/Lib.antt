@@ -1,3 +1,0 @@
--- Laws of answers, and of what the expansion comes to.
-pub mod Laws
-pub mod Leaves

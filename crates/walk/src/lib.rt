@@ -1,1 +1,0 @@
-// The laws that every proof about a lent slice of structs cites. It has no code: the laws stand in proofs/.
