@@ -56,7 +56,7 @@ typedef struct {
 
 /* What a run gives. Fields that say nothing are 0. */
 typedef struct {
-    uint64_t number; /* 0 where the run is done, else what ended it: 11 to 20; or 1 to 9 where no run began */
+    uint64_t number; /* 0 where the run is done, else what ended it: 11 to 21; or 1 to 9 where no run began */
     uint64_t line;   /* the last input line read, before any the section's last line. 1 to 9: the line of the fault */
     uint64_t events; /* how many lines were offered and code lines begun */
     uint64_t output; /* how many bytes of the output are written */
@@ -76,7 +76,8 @@ stage2_fitted stage2_fit(const uint8_t *text, size_t text_count,
 /* Expands the input lines of a text, with at most so many events. The first bytes of the output are what is written; those of
  * the store are a line of the stored names, byte 0 between them, then a line for each text. All other bytes of both stay as
  * they were, and for numbers 1 to 9 all bytes do. With a fuel that is not 1 to STAGE2_FUEL, fewer than STAGE2_NODES nodes or
- * a store below STAGE2_STORE the number is 1. The output may have any count. */
+ * a store below STAGE2_STORE the number is 1. The output may have any count. A text need not be UTF-8: only where code counts,
+ * values or takes apart characters do malformed bytes end the run, with 21. */
 stage2_ran stage2_run(const uint8_t *text, size_t text_count,
                       uint64_t fuel,
                       stage2_node *nodes, size_t nodes_count,

@@ -122,6 +122,18 @@ fn compare_fuels(size: Size) {
     });
 }
 
+/// Bytes on both sides of the ends of the ranges in RFC 3629, section 4.
+const EDGES: [u8; 12] = [0x41, 0x7F, 0x80, 0x8F, 0x90, 0x9F, 0xA0, 0xBF, 0xC0, 0xC2, 0xE0, 0xF0];
+
+/// Compares the length, the value and the passes of a row of bytes. The name is
+/// stored first, so that the listing shows it after every number.
+fn compare_row(bytes: &[u8], nodes: &mut [Node]) {
+    for body in ["!15!F1", "!18!F1", "!10!27\n<!20!23>!F1\n!F8"] {
+        let text = [b"$!$!0 (+-*/)\nC:!$\n!F3\n", body.as_bytes(), b"\n$$\nC:", bytes, b"\n"].concat();
+        compare(&text, 1_000, Rooms::with_output(100), nodes);
+    }
+}
+
 /// 01's session.
 const SESSION: &[u8] = b"$!$!0 (+-*/)\nNAME !$\n!10!F1$\n$\nNAME !&amp;!$\nNAME !10&!20$\n$$\n\
     NAME Kern &amp; Co$\nplain$\n";
@@ -131,12 +143,12 @@ const ENDLESS: &[u8] = b"$!$!0 (+-*/)\nGO!$\n1000!F7\n1000!F7\n!12!36\n!F8\n!F8\
 
 #[test]
 fn small_texts() {
-    compare_random(Size::Small, &[0, 1, 3, 4, 5, 6, 7, 8, 11, 12, 13, 14, 15, 16, 17, 18, 20]);
+    compare_random(Size::Small, &[0, 1, 3, 4, 5, 6, 7, 8, 11, 12, 13, 14, 15, 16, 17, 18, 20, 21]);
 }
 
 #[test]
 fn large_texts() {
-    compare_random(Size::Large, &[0, 1, 2, 3, 4, 5, 6, 7, 8, 9, 11, 12, 13, 14, 15, 16, 17, 18, 19, 20]);
+    compare_random(Size::Large, &[0, 1, 2, 3, 4, 5, 6, 7, 8, 9, 11, 12, 13, 14, 15, 16, 17, 18, 19, 20, 21]);
 }
 
 #[test]
@@ -181,6 +193,32 @@ fn rooms_of_every_kind() {
                     0
                 };
                 assert_eq!(left.ran.number, number, "{rooms:?}");
+            }
+        }
+    }
+}
+
+#[test]
+fn rows_of_one_and_two_bytes() {
+    let mut nodes = row(NODE_ROW);
+    for a in 0..=255 {
+        compare_row(&[a], &mut nodes);
+        for b in 0..=255 {
+            compare_row(&[a, b], &mut nodes);
+        }
+    }
+}
+
+#[test]
+fn rows_of_three_and_four_bytes() {
+    let mut nodes = row(NODE_ROW);
+    for a in 0xC0..=0xFF {
+        for b in EDGES {
+            for c in EDGES {
+                compare_row(&[a, b, c], &mut nodes);
+                if a >= 0xEF {
+                    EDGES.iter().for_each(|&d| compare_row(&[a, b, c, d], &mut nodes));
+                }
             }
         }
     }

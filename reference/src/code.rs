@@ -22,7 +22,7 @@ pub enum Conversion {
     Delimiter,
     Value,
     Length,
-    Byte,
+    CodePoint,
 }
 
 /// What is done once a line is built.
@@ -138,7 +138,7 @@ fn parameter_step(parameter: usize, conversion: u8, rest: &[u8]) -> Result<Step<
         b'3' => Conversion::Delimiter,
         b'4' => Conversion::Value,
         b'5' => Conversion::Length,
-        b'8' => Conversion::Byte,
+        b'8' => Conversion::CodePoint,
         b'6' => return Ok(Step::End(Ending::Assign(parameter))),
         b'7' => return Ok(Step::End(Ending::Each { parameter, delimiters: rest })),
         _ => return Err(Malformed),

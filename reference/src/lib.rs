@@ -1,6 +1,6 @@
 //! An independent implementation of document 01, STAGE2 for name tables and
-//! export, written from the document alone so that others can be compared
-//! with it.
+//! export, with request 1, UTF-8, of document 02. It is written from the
+//! documents alone so that others can be compared with it.
 //!
 //! The public calls are [`check`], [`fit`] and [`run`]. Each takes the text
 //! itself.
@@ -15,6 +15,7 @@ pub mod programs;
 mod store;
 mod text;
 mod tree;
+mod utf8;
 mod value;
 
 pub use number::Number;

@@ -7,6 +7,7 @@ use crate::number::Number;
 use crate::store::Store;
 use crate::text::{self, LINE_LIMIT};
 use crate::tree::{Reading, PLACEHOLDER_LIMIT};
+use crate::utf8;
 use crate::value::{value, written};
 
 /// Most calls open at once.
@@ -106,13 +107,24 @@ impl Each<'_> {
     fn pass(&mut self) -> Result<Pass, Number> {
         let start = self.at;
         let end =
-            if self.delimiters.is_empty() { self.line.len().min(start + 1) } else { self.piece_end(start)? };
+            if self.delimiters.is_empty() { self.character_end(start)? } else { self.piece_end(start)? };
         let delimiter = match self.line.get(end) {
             Some(&byte) if !self.delimiters.is_empty() => Some(byte),
             _ => None,
         };
         self.at = end + usize::from(delimiter.is_some());
         Ok(Pass { piece: self.line[start..end].to_vec(), delimiter })
+    }
+
+    /// Where the character at `start` ends. At the line's end there is none, and
+    /// nothing to be malformed.
+    fn character_end(&self, start: usize) -> Result<usize, Number> {
+        let rest = &self.line[start..];
+        if rest.is_empty() {
+            return Ok(start);
+        }
+        let character = utf8::first(rest).ok_or(Number::MalformedCharacter)?;
+        Ok(start + character.length)
     }
 
     /// The first place from `end` on, atom by atom, where a delimiter stands or
@@ -294,12 +306,20 @@ impl<'p, 'o> Machine<'p, 'o> {
                 let value = self.parameter_value(index)?;
                 extend(built, &written(value, &self.program.marks))
             }
-            Conversion::Length => extend(built, self.parameter(index).len().to_string().as_bytes()),
-            Conversion::Byte => match self.parameter(index) {
-                [byte] => extend(built, byte.to_string().as_bytes()),
-                _ => Err(Number::NotOneByte),
+            Conversion::Length => {
+                let count = self.code_points(index)?.len();
+                extend(built, count.to_string().as_bytes())
+            }
+            Conversion::CodePoint => match self.code_points(index)?[..] {
+                [point] => extend(built, point.to_string().as_bytes()),
+                _ => Err(Number::NotOneCharacter),
             },
         }
+    }
+
+    /// The code points of a parameter, all of which must be well-formed.
+    fn code_points(&self, index: usize) -> Result<Vec<u32>, Number> {
+        utf8::code_points(self.parameter(index)).ok_or(Number::MalformedCharacter)
     }
 
     /// The text stored under a parameter, or nothing.

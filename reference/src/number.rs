@@ -1,4 +1,5 @@
-//! The numbers that a call can return, as the table of document 01 has them.
+//! The numbers that a call can return, as the table of document 01 and the
+//! requests have them.
 
 /// Why a call ended. The discriminant is the published number.
 #[derive(Clone, Copy, Debug, PartialEq, Eq)]
@@ -19,11 +20,12 @@ pub enum Number {
     OutputFull = 13,
     NestedTooDeep = 14,
     BadExpression = 15,
-    NotOneByte = 16,
+    NotOneCharacter = 16,
     BadBracket = 17,
     BadSkip = 18,
     MemoryFull = 19,
     Spent = 20,
+    MalformedCharacter = 21,
 }
 
 impl From<Number> for u64 {

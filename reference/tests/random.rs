@@ -77,7 +77,7 @@ fn a_result_keeps_to_its_row_of_the_table() {
         if (1..=9).contains(&ran.number) {
             assert_eq!((ran.events, ran.output, ran.store), (0, 0, 0), "{}", shown(text));
         } else {
-            assert!(ran.number == 0 || (11..=20).contains(&ran.number), "{}", shown(text));
+            assert!(ran.number == 0 || (11..=21).contains(&ran.number), "{}", shown(text));
             assert!(ran.events <= fuel && ran.line >= checked.line, "{}", shown(text));
             assert_eq!(store.last(), Some(&b'\n'), "{}", shown(text));
         }
@@ -127,7 +127,7 @@ fn the_generator_reaches_every_number() {
         let mut store = vec![0; stage2_reference::STORE_ROOM];
         numbers.insert(run(text, fuel, NODE_ROW, &mut output, &mut store).number);
     });
-    let all: BTreeSet<u64> = (0..=20).filter(|&number| number != 10).collect();
+    let all: BTreeSet<u64> = (0..=21).filter(|&number| number != 10).collect();
     assert_eq!(numbers, all);
 }
 
@@ -139,6 +139,8 @@ fn small_texts_are_small_and_a_seed_decides() {
         let text = first.text(Size::Small);
         assert!(text.len() <= SMALL_TEXT);
         assert_eq!(text, second.text(Size::Small));
+        assert!(first.character_text().len() <= SMALL_TEXT);
+        second.character_text();
     }
     assert_ne!(Generator::new(4).text(Size::Small), Generator::new(5).text(Size::Small));
 }

@@ -56,7 +56,7 @@ fn published_vectors() {
 #[test]
 fn run_vectors_have_every_number() {
     let texts = files(&vectors().join("run"), "text");
-    for number in (0..=20).filter(|number| ![1, 10].contains(number)) {
+    for number in (0..=21).filter(|number| ![1, 10].contains(number)) {
         let start = format!("number-{number:02}-");
         let named =
             texts.iter().filter(|path| path.file_name().unwrap().to_str().unwrap().starts_with(&start));

@@ -28,12 +28,15 @@ X-now of a slice X."""
 import os
 import sys
 
+HERE = os.path.dirname(os.path.abspath(__file__))
+sys.path.append(os.path.join(HERE, "..", "common"))
+
 import edits
 import source
 import walks
 from fault import Fault
 
-ROOT = os.path.join(os.path.dirname(os.path.abspath(__file__)), "..", "..")
+ROOT = os.path.join(HERE, "..", "..")
 
 
 def main(words):

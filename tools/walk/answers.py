@@ -19,6 +19,7 @@ class Answers:
         """instead: lines, each with its place, that go before those of the text: facts, and texts under a name that it has."""
         self.walks, self.uses, self.facts, self.instead, self.texts, self.faults = [], [], {}, {}, {}, []
         self.marks = False  # whether the walks are to have a mark at each fact
+        self.only = None  # the function of a wrong program: of the walks in a cycle with it, its own alone is written out
         renewed = {line.split(": ")[0]: (where, line) for where, line in instead if line.startswith("@")}
         for number, line in enumerate(text.split("\n"), 1):
             if line.strip() and not line.startswith("#"):

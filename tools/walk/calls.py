@@ -149,9 +149,8 @@ class Walk(Steps):
         if clauses == 0:
             return "id⊢ 𝓤 (emp 𝓤)"
         if clauses == 1:
-            return f"factI 𝓤 _ (emp 𝓤) ({self.answer(key, 'call' + self.by_callee)})"
-        one, two = self.answer(key, "call" + self.by_callee), self.answer("also" + key[4:], "also" + self.by_callee)
-        return f"Walk.says-both 𝓤 _ _ ({one}) ({two})"
+            return self.clause(key, "call" + self.by_callee)
+        return self.both((key, "call" + self.by_callee), ("also" + key[4:], "also" + self.by_callee))
 
     # ---- after the call
     def come_back(self, code, rest, key, types, tokens, loans, writes, brackets, then):

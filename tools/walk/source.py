@@ -6,6 +6,7 @@ import glob
 import re
 
 from fault import Fault, ask
+from repository import listed
 
 
 class Declared:
@@ -81,12 +82,6 @@ def cited(root, crate):
                 ask(line.endswith(";"), f"{path}: a `ghost use` over several lines")
                 lines.append(line.replace("ghost use", "use").rstrip(";"))
     return lines
-
-
-def listed(root):
-    """The crates of crates.txt, in its order, each with what it depends on."""
-    lines = [line.split("#")[0] for line in open(f"{root}/crates.txt")]
-    return {line.split(":")[0].strip(): line.split(":")[1].split() for line in lines if ":" in line}
 
 
 def dependencies(root, crate):

@@ -88,7 +88,17 @@ class Steps:
     def answer(self, key, by_callee=None):
         """by_callee is the key that a call's fact has by its callee's name."""
         term = self.answers.of(self.name, *filter(None, (key, by_callee, re.sub(r"\d+$", "*", key)))) or "?"
-        return text.marked(f"{self.name}.{by_callee or key}", term) if self.answers.marks else term
+        return self.mark(by_callee or key, term)
+
+    def mark(self, key, term):
+        return text.marked(f"{self.name}.{key}", term) if self.answers.marks else term
+
+    # Where a clause's term has another type the checker may say so of the whole, and of two clauses not which.
+    def clause(self, key, by_callee=None):
+        return self.mark(by_callee or key, f"factI 𝓤 _ (emp 𝓤) ({self.answer(key, by_callee)})")
+
+    def both(self, one, two):
+        return self.mark(f"{one[-1]} or {two[-1]}", f"Walk.says-both 𝓤 _ _ ({self.answer(*one)}) ({self.answer(*two)})")
 
     # ---- text
     def say(self, step):
@@ -634,8 +644,8 @@ class Steps:
         if self.declared.ensures == 0:
             return "id⊢ 𝓤 (emp 𝓤)"
         if self.declared.ensures == 1:
-            return f"factI 𝓤 _ (emp 𝓤) ({self.answer(key)})"
-        return f"Walk.says-both 𝓤 _ _ ({self.answer(key)}) ({self.answer('too' + key[3:])})"
+            return self.clause(key)
+        return self.both((key,), ("too" + key[3:],))
 
     def returns(self, rest):
         key, value = self.key("ret"), self.values[0]

@@ -1,8 +1,9 @@
 """How a proof file is laid out: its first line, the imports that it uses, several steps to a line."""
 import re
 
+from said import WRITTEN
+
 WIDTH = 150
-WRITTEN = "-- Written by tools/walk with the facts of its answers."
 BEGIN, NAMED, END = "\ue000", "\ue001", "\ue002"  # around a fact that is marked: its key, then its term
 
 STANDARD = """use mathlib.Core.Path.{_≡_, refl, ap, sym, subst, _∙_}

@@ -1,4 +1,4 @@
--- What a step of a code line comes to, as an answer. Assumes nothing.
+-- What a step of a code line comes to, as an answer.
 use mathlib.Core.Path.{_≡_, refl, sym, ap, subst, _∙_}
 use mathlib.Core.Bool.{Bool, true, false}
 use mathlib.Core.Option.{none}
@@ -7,14 +7,14 @@ use Prim.Native.Nat.{ℕ}
 use native.Mathlib.Omega.{arith}
 use Rattle.model.specs.declared.Marks.{Marks}
 use Rattle.model.specs.Text.{Bytes}
-use Rattle.model.specs.Machine.{Frame, Step, continues, halts, stateWith, stepped}
+use Rattle.model.specs.Machine.{Step, continues, halts, stateWith, stepped}
 use Rattle.model.proofs.Choices.{false-not-true}
 use Rattle.state.specs.declared.State.{State}
 use Rattle.state.specs.State.{sharedOf, stateOf, Sound}
 use Rattle.call.specs.declared.Head.{Head}
 use Rattle.call.specs.Call.{laid, frameOf, Placed}
 use Rattle.answer.specs.declared.Answer.{Answer}
-use Rattle.answer.specs.Answers.{noCall, goesOn, endsWith, GoesOrEnds, settle, nextOf}
+use Rattle.answer.specs.Answers.{noCall, goesOn, endsWith, GoesOrEnds, settle, nextAt, nextOf}
 use Rattle.answer.specs.Kept.{Comes}
 use Rattle.answer.proofs.Following.{extends-none, stays-same}
 
@@ -48,7 +48,7 @@ comes-as {m} {text} {r = r} {o′ = o′} {memory′ = memory′} e h = record {
 module _ {m : Marks} {text : Bytes} {c : Head} {nums : List ℕ} {bytes : Bytes} {s : State} {o memory b : Bytes} {p : Step} {r : Answer} (h : Sound s o memory) (q : Placed text (laid c nums bytes)) where
   -- the call goes on, in the state as it is
   pub came-on : r ≡ goesOn c s → p ≡ continues (frameOf m text (laid c nums bytes)) (sharedOf s o memory) → Comes m text p s o b r nums bytes o memory
-  unfolding settle nextOf stepped stateWith
+  unfolding settle nextAt nextOf stepped stateWith
   came-on e f = subst (λ (x : Answer). Comes m text p s o b x nums bytes o memory) (sym e) (comes-as f (record {
     same = λ fs. refl;
     sound = h;
@@ -60,7 +60,7 @@ module _ {m : Marks} {text : Bytes} {c : Head} {nums : List ℕ} {bytes : Bytes}
 
   -- the run ends
   pub came-end : {k : ℕ} → r ≡ endsWith k s → p ≡ halts k (sharedOf s o memory) → Comes m text p s o b r nums bytes o memory
-  unfolding settle nextOf stepped stateWith
+  unfolding settle nextAt nextOf stepped stateWith
   came-end e f = subst (λ (x : Answer). Comes m text p s o b x nums bytes o memory) (sym e) (comes-as f (record {
     same = λ fs. refl;
     sound = h;

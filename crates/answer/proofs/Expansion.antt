@@ -1,4 +1,4 @@
--- What answers come to in the expansion, from the states that the code stands for. Assumes nothing.
+-- What answers come to in the expansion, from the states that the code stands for.
 use mathlib.Core.Path.{_≡_, refl, sym, ap, _∙_}
 use mathlib.Core.Bool.{true, false}
 use mathlib.Core.Option.{none, some}
@@ -18,10 +18,8 @@ use Rattle.model.proofs.Choices.{false-not-true}
 use Rattle.state.specs.declared.State.{State}
 use Rattle.state.specs.State.{sharedOf, stateOf}
 use Rattle.call.specs.Call.{laid, frameOf}
-use Rattle.answer.specs.declared.Turn.{Turn}
-use Rattle.answer.specs.declared.Turn.the-variants.{Continues, Offers, Back, Halts}
 use Rattle.answer.specs.declared.Answer.{Answer}
-use Rattle.answer.specs.Answers.{endsWith, isLeft, isOffer, isEnd, offeredLength, linesBack, settle, nextOf, comesTo, resultAfter}
+use Rattle.answer.specs.Answers.{turn, Turn, Continues, Offers, Back, Halts, endsWith, isLeft, isOffer, isEnd, offeredLength, linesBack, settle, nextAt, nextOf, comesTo, resultAt, resultAfter}
 
 -- ---- a state counts by its input, line, calls and events where a line is carried out
 
@@ -81,23 +79,20 @@ settle-nested m (ended k s) h = tt
 
 -- ---- an answer by its turn
 
--- the answer with another turn
-abbrev pub withTurn : Answer → Turn → Answer
-withTurn r z = record { turn = z; call = r .call; state = r .state }
-
 module _ (m : Marks) (text : Bytes) (r : Answer) (fs : List Frame) (nums : List ℕ) (bytes line o w : Bytes) where
   -- what the answer comes to, with another turn
   abbrev turned : Turn → Next
-  turned z = nextOf m text fs (withTurn r z) nums bytes line o w
+  turned z = nextAt m text fs z (r .call) (r .state) nums bytes line o w
 
-  pub next-as : {z : Turn} → r .turn ≡ z → nextOf m text fs r nums bytes line o w ≡ nextOf m text fs (withTurn r z) nums bytes line o w
+  pub next-as : {z : Turn} → turn r ≡ z → nextOf m text fs r nums bytes line o w ≡ nextAt m text fs z (r .call) (r .state) nums bytes line o w
+  unfolding nextOf
   next-as e = ap turned e
 
   -- the call goes on, with nothing offered
-  pub next-on : isLeft (r .turn) ≡ false → isOffer (r .turn) ≡ false
+  pub next-on : isLeft (turn r) ≡ false → isOffer (turn r) ≡ false
       → nextOf m text fs r nums bytes line o w ≡ running (stateOf text none (frameOf m text (laid (r .call) nums bytes) ∷ fs) (r .state) o w)
-  unfolding nextOf
-  next-on e f = by (r .turn) e f
+  unfolding nextOf nextAt
+  next-on e f = by (turn r) e f
     where
       by : (z : Turn) → isLeft z ≡ false → isOffer z ≡ false → turned z ≡ running (stateOf text none (frameOf m text (laid (r .call) nums bytes) ∷ fs) (r .state) o w)
       by Continues e f = refl
@@ -106,10 +101,10 @@ module _ (m : Marks) (text : Bytes) (r : Answer) (fs : List Frame) (nums : List 
       by (Halts k) e f = false-not-true (sym e)
 
   -- its line is offered
-  pub next-offers : isOffer (r .turn) ≡ true
-      → nextOf m text fs r nums bytes line o w ≡ running (stateOf text (some (take (offeredLength (r .turn)) line)) (frameOf m text (laid (r .call) nums bytes) ∷ fs) (r .state) o w)
-  unfolding nextOf
-  next-offers e = by (r .turn) e
+  pub next-offers : isOffer (turn r) ≡ true
+      → nextOf m text fs r nums bytes line o w ≡ running (stateOf text (some (take (offeredLength (turn r)) line)) (frameOf m text (laid (r .call) nums bytes) ∷ fs) (r .state) o w)
+  unfolding nextOf nextAt
+  next-offers e = by (turn r) e
     where
       by : (z : Turn) → isOffer z ≡ true → turned z ≡ running (stateOf text (some (take (offeredLength z) line)) (frameOf m text (laid (r .call) nums bytes) ∷ fs) (r .state) o w)
       by Continues e = false-not-true e
@@ -118,10 +113,10 @@ module _ (m : Marks) (text : Bytes) (r : Answer) (fs : List Frame) (nums : List 
       by (Halts k) e = false-not-true e
 
   -- so many lines are skipped among the callers
-  pub next-back : isLeft (r .turn) ≡ true → isEnd (r .turn) ≡ false
-      → nextOf m text fs r nums bytes line o w ≡ settle (skipIn m (linesBack (r .turn)) fs (sharedOf (r .state) o w) (stateOf text none fs (r .state) o w))
-  unfolding nextOf
-  next-back e f = by (r .turn) e f
+  pub next-back : isLeft (turn r) ≡ true → isEnd (turn r) ≡ false
+      → nextOf m text fs r nums bytes line o w ≡ settle (skipIn m (linesBack (turn r)) fs (sharedOf (r .state) o w) (stateOf text none fs (r .state) o w))
+  unfolding nextOf nextAt
+  next-back e f = by (turn r) e f
     where
       by : (z : Turn) → isLeft z ≡ true → isEnd z ≡ false → turned z ≡ settle (skipIn m (linesBack z) fs (sharedOf (r .state) o w) (stateOf text none fs (r .state) o w))
       by Continues e f = false-not-true e
@@ -130,42 +125,42 @@ module _ (m : Marks) (text : Bytes) (r : Answer) (fs : List Frame) (nums : List 
       by (Halts k) e f = false-not-true (sym f)
 
   -- the run ends
-  pub next-ends : isEnd (r .turn) ≡ true → (fuel room : ℕ) (t : Loaded) → comesTo fuel room t (nextOf m text fs r nums bytes line o w) ≡ resultAfter r o w
-  unfolding nextOf
-  next-ends e fuel room t = by (r .turn) e
+  pub next-ends : isEnd (turn r) ≡ true → (fuel room : ℕ) (t : Loaded) → comesTo fuel room t (nextOf m text fs r nums bytes line o w) ≡ resultAfter r o w
+  unfolding nextOf nextAt
+  next-ends e fuel room t = by (turn r) e
     where
-      by : (z : Turn) → isEnd z ≡ true → comesTo fuel room t (turned z) ≡ resultAfter (withTurn r z) o w
+      by : (z : Turn) → isEnd z ≡ true → comesTo fuel room t (turned z) ≡ resultAt z (r .state) o w
       by Continues e = false-not-true e
       by (Offers n) e = false-not-true e
       by (Back n) e = false-not-true e
       by (Halts k) e = halts-with fuel room t text k [] (r .state) o w
 
   -- where the call is left, its numbers and bytes and the built line don't matter
-  pub left-same : isLeft (r .turn) ≡ true → (nums′ : List ℕ) (bytes′ line′ : Bytes) → nextOf m text fs r nums bytes line o w ≡ nextOf m text fs r nums′ bytes′ line′ o w
-  unfolding nextOf
-  left-same e nums′ bytes′ line′ = by (r .turn) e
+  pub left-same : isLeft (turn r) ≡ true → (nums′ : List ℕ) (bytes′ line′ : Bytes) → nextOf m text fs r nums bytes line o w ≡ nextOf m text fs r nums′ bytes′ line′ o w
+  unfolding nextOf nextAt
+  left-same e nums′ bytes′ line′ = by (turn r) e
     where
-      by : (z : Turn) → isLeft z ≡ true → turned z ≡ nextOf m text fs (withTurn r z) nums′ bytes′ line′ o w
+      by : (z : Turn) → isLeft z ≡ true → turned z ≡ nextAt m text fs z (r .call) (r .state) nums′ bytes′ line′ o w
       by Continues e = false-not-true e
       by (Offers n) e = false-not-true e
       by (Back n) e = refl
       by (Halts k) e = refl
 
   -- where no line is offered, the built line doesn't matter
-  pub unoffered-same : isOffer (r .turn) ≡ false → (line′ : Bytes) → nextOf m text fs r nums bytes line o w ≡ nextOf m text fs r nums bytes line′ o w
-  unfolding nextOf
-  unoffered-same e line′ = by (r .turn) e
+  pub unoffered-same : isOffer (turn r) ≡ false → (line′ : Bytes) → nextOf m text fs r nums bytes line o w ≡ nextOf m text fs r nums bytes line′ o w
+  unfolding nextOf nextAt
+  unoffered-same e line′ = by (turn r) e
     where
-      by : (z : Turn) → isOffer z ≡ false → turned z ≡ nextOf m text fs (withTurn r z) nums bytes line′ o w
+      by : (z : Turn) → isOffer z ≡ false → turned z ≡ nextAt m text fs z (r .call) (r .state) nums bytes line′ o w
       by Continues e = refl
       by (Offers n) e = false-not-true (sym e)
       by (Back n) e = refl
       by (Halts k) e = refl
 
   -- where the call is left, its callers stay well nested
-  pub left-nested : isLeft (r .turn) ≡ true → FramesOk m fs → NextOk m (nextOf m text fs r nums bytes line o w)
-  unfolding nextOf
-  left-nested e h = by (r .turn) e
+  pub left-nested : isLeft (turn r) ≡ true → FramesOk m fs → NextOk m (nextOf m text fs r nums bytes line o w)
+  unfolding nextOf nextAt
+  left-nested e h = by (turn r) e
     where
       by : (z : Turn) → isLeft z ≡ true → NextOk m (turned z)
       by Continues e = false-not-true e
@@ -174,9 +169,9 @@ module _ (m : Marks) (text : Bytes) (r : Answer) (fs : List Frame) (nums : List 
       by (Halts k) e = tt
 
   -- a call that goes on, at once or after an offer, is well nested
-  pub next-nested : NextOk m (nextOf m text fs r nums bytes line o w) → isLeft (r .turn) ≡ false → Nested m (frameOf m text (laid (r .call) nums bytes))
-  unfolding nextOf
-  next-nested = by (r .turn)
+  pub next-nested : NextOk m (nextOf m text fs r nums bytes line o w) → isLeft (turn r) ≡ false → Nested m (frameOf m text (laid (r .call) nums bytes))
+  unfolding nextOf nextAt
+  next-nested = by (turn r)
     where
       by : (z : Turn) → NextOk m (turned z) → isLeft z ≡ false → Nested m (frameOf m text (laid (r .call) nums bytes))
       by Continues h e = h .0

@@ -1,4 +1,4 @@
--- Outputs and states that follow one another. Assumes nothing.
+-- Outputs and states that follow one another.
 use mathlib.Core.Path.{_≡_, refl, sym, ap, _∙_}
 use Prim.Native.Nat.{ℕ, _-_, _+_, _≤_}
 use native.Mathlib.Omega.{arith}

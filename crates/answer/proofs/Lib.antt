@@ -2,3 +2,4 @@
 pub mod Following
 pub mod Coming
 pub mod Expansion
+pub mod Turns

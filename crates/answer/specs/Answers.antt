@@ -3,7 +3,7 @@ use mathlib.Core.Path.{_≡_}
 use mathlib.Core.Bool.{Bool, true, false}
 use mathlib.Core.Option.{none, some}
 use mathlib.Core.List.{List, [], _∷_}
-use Prim.Native.Nat.{ℕ}
+use Prim.Native.Nat.{ℕ, zero, suc}
 use lib.ListN.{take}
 use Rattle.model.specs.declared.Marks.{Marks}
 use Rattle.model.specs.Text.{Bytes}
@@ -15,9 +15,27 @@ use Rattle.state.specs.declared.State.{State}
 use Rattle.state.specs.State.{sharedOf, stateOf}
 use Rattle.call.specs.declared.Head.{Head}
 use Rattle.call.specs.Call.{laid, frameOf}
-use Rattle.answer.specs.declared.Turn.{Turn}
-use Rattle.answer.specs.declared.Turn.the-variants.{Continues, Offers, Back, Halts}
 use Rattle.answer.specs.declared.Answer.{Answer}
+
+-- ---- turns
+
+-- the call goes on; it does once the first n bytes of the line that it built are offered; it is left, or the line that was offered is
+-- done with, and n lines are skipped in the caller, or of the input; the run ends with a number
+pub data Turn : Type 0 where
+  Continues : Turn
+  Offers : (n : ℕ) → Turn
+  Back : (n : ℕ) → Turn
+  Halts : (k : ℕ) → Turn
+
+-- the turn that two numbers stand for: which one it is, and what it counts
+abbrev pub turnOf : (kind count : ℕ) → Turn
+turnOf zero n = Continues
+turnOf (suc zero) n = Offers n
+turnOf (suc (suc zero)) n = Back n
+turnOf (suc (suc (suc k))) n = Halts n
+
+abbrev pub turn : Answer → Turn
+turn r = turnOf (r .kind) (r .count)
 
 -- ---- as the code makes them
 
@@ -27,19 +45,19 @@ noCall = record { number = 0; next = 0; depth = 0 }
 
 -- the call goes on
 abbrev pub goesOn : Head → State → Answer
-goesOn c s = record { turn = Continues; call = c; state = s }
+goesOn c s = record { kind = 0; count = 0; call = c; state = s }
 
 -- the first n bytes of the line that it built are offered
 abbrev pub offersBuilt : ℕ → Head → State → Answer
-offersBuilt n c s = record { turn = Offers n; call = c; state = s }
+offersBuilt n c s = record { kind = 1; count = n; call = c; state = s }
 
 -- the caller goes on, with n lines to be skipped
 abbrev pub goesBack : ℕ → State → Answer
-goesBack n s = record { turn = Back n; call = noCall; state = s }
+goesBack n s = record { kind = 2; count = n; call = noCall; state = s }
 
 -- the run ends with a number
 abbrev pub endsWith : ℕ → State → Answer
-endsWith k s = record { turn = Halts k; call = noCall; state = s }
+endsWith k s = record { kind = 3; count = k; call = noCall; state = s }
 
 -- the call goes on, or the run ends with a number
 pub record GoesOrEnds (ok : Bool) (k : ℕ) (c : Head) (s : State) (r : Answer) : Type 0 where
@@ -91,28 +109,31 @@ unfoldable pub settle : Next → Next
 settle (running s) = running s
 settle (ended k s) = ended k (stateWith s none [] (s .shared))
 
--- the expansion after an answer, with its callers fs. Where the call goes on, at once or after an offer, it has these numbers and bytes,
--- and `line` is what it built
+-- the expansion after a turn, with the callers fs. Where the call goes on, at once or after an offer, it has this head, these numbers and
+-- bytes, and `line` is what it built
+unfoldable pub nextAt : Marks → Bytes → (fs : List Frame) → Turn → Head → State → (nums : List ℕ) (bytes line output memory : Bytes) → Next
+nextAt m text fs Continues c s nums bytes line o w = running (stateOf text none (frameOf m text (laid c nums bytes) ∷ fs) s o w)
+nextAt m text fs (Offers n) c s nums bytes line o w = running (stateOf text (some (take n line)) (frameOf m text (laid c nums bytes) ∷ fs) s o w)
+nextAt m text fs (Back n) c s nums bytes line o w = settle (skipIn m n fs (sharedOf s o w) (stateOf text none fs s o w))
+nextAt m text fs (Halts k) c s nums bytes line o w = ended k (stateOf text none [] s o w)
+
+-- and after an answer
 unfoldable pub nextOf : Marks → Bytes → (fs : List Frame) → Answer → (nums : List ℕ) (bytes line output memory : Bytes) → Next
-nextOf m text fs r nums bytes line o w =
-    let f : Frame = frameOf m text (laid (r .call) nums bytes) in
-    elim (r .turn) [
-      | Continues ↦ running (stateOf text none (f ∷ fs) (r .state) o w)
-      | Offers n ↦ running (stateOf text (some (take n line)) (f ∷ fs) (r .state) o w)
-      | Back n ↦ settle (skipIn m n fs (sharedOf (r .state) o w) (stateOf text none fs (r .state) o w))
-      | Halts k ↦ ended k (stateOf text none [] (r .state) o w)
-    ]
+nextOf m text fs r nums bytes line o w = nextAt m text fs (turn r) (r .call) (r .state) nums bytes line o w
 
 -- what the expansion comes to from there, with this fuel
 abbrev pub comesTo : ℕ → ℕ → Loaded → Next → Result
 comesTo fuel room t x = outcome (after fuel room t x)
 
--- the result of a run that ends with an answer
-abbrev pub resultAfter : Answer → (output memory : Bytes) → Result
-resultAfter r o w = record {
-  number = endNumber (r .turn);
-  line = r .state .line;
-  events = r .state .events;
-  output = take (r .state .written) o;
-  store = listing (held (r .state .index .count) w);
+-- the result of a run that ends with a turn, or with an answer
+abbrev pub resultAt : Turn → State → (output memory : Bytes) → Result
+resultAt z s o w = record {
+  number = endNumber z;
+  line = s .line;
+  events = s .events;
+  output = take (s .written) o;
+  store = listing (held (s .index .count) w);
 }
+
+abbrev pub resultAfter : Answer → (output memory : Bytes) → Result
+resultAfter r o w = resultAt (turn r) (r .state) o w

@@ -1,6 +1,5 @@
 -- What is kept from one answer to the next, and what a code line's answer is.
 use mathlib.Core.Path.{_≡_}
-use mathlib.Core.Bool.{true, false}
 use mathlib.Core.Option.{none}
 use mathlib.Core.List.{List}
 use Prim.Native.Nat.{ℕ, _≤_}
@@ -15,7 +14,7 @@ use Rattle.state.specs.State.{Sound, stateOf}
 use Rattle.call.specs.declared.Call.{Call}
 use Rattle.call.specs.Call.{openedOf, Laid, laid, frameOf, Placed}
 use Rattle.answer.specs.declared.Answer.{Answer}
-use Rattle.answer.specs.Answers.{offeredLength, settle, nextOf}
+use Rattle.answer.specs.Answers.{turn, offeredLength, settle, nextOf}
 
 -- what was written stays, and so does what lies beyond what is written now
 pub record Extends (o : Bytes) (w : ℕ) (o′ : Bytes) (w′ : ℕ) : Type 0 where
@@ -55,7 +54,7 @@ pub record Comes (m : Marks) (text : Bytes) (p : Step) (s : State) (o line : Byt
   pub same : (fs : List Frame) → settle (stepped m fs p (stateOf text none fs (r .state) o′ memory′)) ≡ nextOf m text fs r nums bytes line o′ memory′
   pub sound : Sound (r .state) o′ memory′
   pub placed : Placed text (laid (r .call) nums bytes)
-  pub short : offeredLength (r .turn) ≤ lineMost
+  pub short : offeredLength (turn r) ≤ lineMost
   pub stays : Stays s (r .state)
   pub extends : Extends o (s .written) o′ (r .state .written)
 

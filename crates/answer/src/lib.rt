@@ -1,23 +1,26 @@
 // What a code line, a body and an offered line come to: one answer, by value.
 ghost use mathlib.Core.Path.{_≡_};
-ghost use Rattle.answer.specs.Answers.{goesOn, offersBuilt, goesBack, endsWith, GoesOrEnds, isLeft, isOffer, isEnd, offeredLength, linesBack, endNumber};
+ghost use Rattle.answer.specs.Answers.{goesOn, offersBuilt, goesBack, endsWith, GoesOrEnds, turn, isLeft, isOffer, isEnd, offeredLength, linesBack, endNumber};
 use call::Head;
 use state::State;
 
-pub enum Turn {
-    // the call goes on
-    Continues,
-    // the call goes on once the first so many bytes of the line that it built are offered
-    Offers(usize),
-    // the call is left, or the line that was offered is done with; so many lines are skipped in the caller, or of the input
-    Back(usize),
-    // the run ends with a number
-    Halts(usize),
-}
+// An answer says its turn in two numbers, which one it is and what it counts, since a byte among words would make each copy of an
+// answer slower. The turns are these. The call goes on.
+pub const CONTINUES: usize = 0;
+
+// The call goes on once the first `count` bytes of the line that it built are offered.
+pub const OFFERS: usize = 1;
+
+// The call is left, or the line that was offered is done with; `count` lines are skipped in the caller, or of the input.
+pub const BACK: usize = 2;
+
+// The run ends with the number `count`.
+pub const HALTS: usize = 3;
 
 // The call means something where it goes on, at once or after an offer.
 pub struct Answer {
-    pub turn: Turn,
+    pub kind: usize,
+    pub count: usize,
     pub call: Head,
     pub state: State,
 }
@@ -27,7 +30,8 @@ pub fn go_on(call: Head, s: State) -> Answer
     ensures { λ r. ⌜ r ≡ goesOn call s ⌝ }
 {
     Answer {
-        turn: Turn::Continues,
+        kind: CONTINUES,
+        count: 0,
         call,
         state: s,
     }
@@ -38,7 +42,8 @@ pub fn offer_built(n: usize, call: Head, s: State) -> Answer
     ensures { λ r. ⌜ r ≡ offersBuilt n call s ⌝ }
 {
     Answer {
-        turn: Turn::Offers(n),
+        kind: OFFERS,
+        count: n,
         call,
         state: s,
     }
@@ -49,7 +54,8 @@ pub fn go_back(n: usize, s: State) -> Answer
     ensures { λ r. ⌜ r ≡ goesBack n s ⌝ }
 {
     Answer {
-        turn: Turn::Back(n),
+        kind: BACK,
+        count: n,
         call: Head {
             number: 0,
             next: 0,
@@ -64,7 +70,8 @@ pub fn end_with(number: usize, s: State) -> Answer
     ensures { λ r. ⌜ r ≡ endsWith number s ⌝ }
 {
     Answer {
-        turn: Turn::Halts(number),
+        kind: HALTS,
+        count: number,
         call: Head {
             number: 0,
             next: 0,
@@ -86,78 +93,51 @@ pub fn go_or_end(ok: bool, number: usize, call: Head, s: State) -> Answer
 
 // Whether the call is left, or the run ends.
 pub fn is_left(r: Answer) -> bool
-    ensures { λ b. ⌜ b ≡ isLeft (r .turn) ⌝ }
+    ensures { λ b. ⌜ b ≡ isLeft (turn r) ⌝ }
 {
-    let turn = r.turn;
-    match turn {
-        Turn::Continues => false,
-        Turn::Offers(_) => false,
-        Turn::Back(_) => true,
-        Turn::Halts(_) => true,
-    }
+    BACK <= r.kind
 }
 
 // Whether a line is to be offered.
 pub fn is_offer(r: Answer) -> bool
-    ensures { λ b. ⌜ b ≡ isOffer (r .turn) ⌝ }
+    ensures { λ b. ⌜ b ≡ isOffer (turn r) ⌝ }
 {
-    let turn = r.turn;
-    match turn {
-        Turn::Continues => false,
-        Turn::Offers(_) => true,
-        Turn::Back(_) => false,
-        Turn::Halts(_) => false,
-    }
+    r.kind == OFFERS
 }
 
 // Whether the run ends.
 pub fn is_end(r: Answer) -> bool
-    ensures { λ b. ⌜ b ≡ isEnd (r .turn) ⌝ }
+    ensures { λ b. ⌜ b ≡ isEnd (turn r) ⌝ }
 {
-    let turn = r.turn;
-    match turn {
-        Turn::Continues => false,
-        Turn::Offers(_) => false,
-        Turn::Back(_) => false,
-        Turn::Halts(_) => true,
-    }
+    HALTS <= r.kind
 }
 
 // How many bytes of the built line are offered; 0 where none is.
 pub fn offered_length(r: Answer) -> usize
-    ensures { λ n. ⌜ n ≡ offeredLength (r .turn) ⌝ }
+    ensures { λ n. ⌜ n ≡ offeredLength (turn r) ⌝ }
 {
-    let turn = r.turn;
-    match turn {
-        Turn::Continues => 0,
-        Turn::Offers(n) => n,
-        Turn::Back(_) => 0,
-        Turn::Halts(_) => 0,
+    if r.kind == OFFERS {
+        return r.count;
     }
+    0
 }
 
 // How many lines are skipped in the caller; 0 where it does not go on.
 pub fn lines_back(r: Answer) -> usize
-    ensures { λ n. ⌜ n ≡ linesBack (r .turn) ⌝ }
+    ensures { λ n. ⌜ n ≡ linesBack (turn r) ⌝ }
 {
-    let turn = r.turn;
-    match turn {
-        Turn::Continues => 0,
-        Turn::Offers(_) => 0,
-        Turn::Back(n) => n,
-        Turn::Halts(_) => 0,
+    if r.kind == BACK {
+        return r.count;
     }
+    0
 }
 
 // The number that the run ends with; 0 where it does not end.
 pub fn end_number(r: Answer) -> usize
-    ensures { λ n. ⌜ n ≡ endNumber (r .turn) ⌝ }
+    ensures { λ n. ⌜ n ≡ endNumber (turn r) ⌝ }
 {
-    let turn = r.turn;
-    match turn {
-        Turn::Continues => 0,
-        Turn::Offers(_) => 0,
-        Turn::Back(_) => 0,
-        Turn::Halts(k) => k,
+    if HALTS <= r.kind {
+        return r.count;
     }
+    0
 }

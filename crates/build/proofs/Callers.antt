@@ -1,4 +1,4 @@
--- What callers take from the contract of `build_line`. Assumes nothing.
+-- What callers take from the contract of `build_line`.
 use mathlib.Core.Path.{_≡_, _∙_}
 use mathlib.Core.Bool.{true}
 use Prim.Native.Nat.{ℕ}

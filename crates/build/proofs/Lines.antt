@@ -1,4 +1,4 @@
--- The line as far as it is built: what is left of the code line comes to the same as the whole. Assumes nothing.
+-- The line as far as it is built: what is left of the code line comes to the same as the whole.
 use mathlib.Core.Path.{_≡_, refl, sym, ap, ap₂, _∙_, subst}
 use mathlib.Core.Bool.{Bool, true, false}
 use mathlib.Core.List.{List, []}

@@ -1,4 +1,4 @@
--- One part of a code line, added to the line. Assumes nothing.
+-- One part of a code line, added to the line.
 use mathlib.Core.Path.{_≡_, refl, sym, subst}
 use mathlib.Core.List.{List, [], _∷_}
 use Prim.Native.Nat.{ℕ, _+_, _-_, _*_, _≤_}

@@ -1,4 +1,4 @@
--- A line is built, then its code line's end is done. Assumes nothing.
+-- A line is built, then its code line's end is done.
 use mathlib.Core.Path.{_≡_, subst, _∙_}
 use mathlib.Core.List.{List}
 use Prim.Native.Nat.{ℕ, _≤_, _<_}

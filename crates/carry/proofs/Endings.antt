@@ -1,4 +1,4 @@
--- Each way to end a code line, as finish_code takes it. Assumes nothing.
+-- Each way to end a code line, as finish_code takes it.
 use mathlib.Core.Path.{_≡_, refl, sym, subst}
 use mathlib.Core.Bool.{Bool}
 use mathlib.Core.List.{List}
@@ -18,7 +18,7 @@ use Rattle.state.specs.State.{sharedOf, Sound}
 use Rattle.call.specs.declared.Head.{Head}
 use Rattle.call.specs.Call.{laid, frameOf, Placed}
 use Rattle.answer.specs.declared.Answer.{Answer}
-use Rattle.answer.specs.Answers.{goesOn, offersBuilt, goesBack, endsWith, settle, nextOf}
+use Rattle.answer.specs.Answers.{goesOn, offersBuilt, goesBack, endsWith, settle, nextAt, nextOf}
 use Rattle.answer.specs.Kept.{Comes}
 use Rattle.answer.proofs.Following.{extends-none, stays-same}
 use Rattle.answer.proofs.Coming.{none-placed, came-on, came-end}
@@ -102,7 +102,7 @@ module _ {m : Marks} {text : Bytes} {to : ℕ} {c : Head} {nums : List ℕ} {byt
   ends-again e f = ends-as e (record { comes = f .comes o memory line h })
 
   pub ends-leave : k ≡ Leave → r ≡ goesBack 0 s → Finishes m text to (laid c nums bytes) k line n s o memory r nums bytes o memory
-  unfolding finish settle nextOf stepped stateWith
+  unfolding finish settle nextAt nextOf stepped stateWith
   ends-leave e f = ends-as e (record {
     comes = subst (λ (x : Answer). Comes m text (leaves (sharedOf s o memory)) s o line x nums bytes o memory) (sym f) (record {
       same = λ fs. sym (skip-none m text fs s o memory);
@@ -119,7 +119,7 @@ module _ {m : Marks} {text : Bytes} {to : ℕ} {c : Head} {nums : List ℕ} {byt
   ends-malformed e f = ends-as e (record { comes = came-on h q f refl })
 
   pub ends-offer : ReadyToFinish text to c k line n → k ≡ Offer → r ≡ offersBuilt n c s → Finishes m text to (laid c nums bytes) k line n s o memory r nums bytes o memory
-  unfolding finish settle nextOf stepped stateWith
+  unfolding finish settle nextAt nextOf stepped stateWith
   ends-offer y e f = ends-as e (record {
     comes = subst (λ (x : Answer). Comes m text (offers (take n line) (frameOf m text (laid c nums bytes)) (sharedOf s o memory)) s o line x nums bytes o memory) (sym f)
         (record { same = λ fs. refl; sound = h; placed = q; short = y .short; stays = stays-same s; extends = extends-none (h .written) });

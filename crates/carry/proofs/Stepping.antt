@@ -1,5 +1,5 @@
--- Each way through step: the call is left, the run ends, or a code line is carried out. Assumes nothing.
-use mathlib.Core.Path.{_≡_, refl, sym, ap, _∙_, subst}
+-- Each way through step: the call is left, the run ends, or a code line is carried out.
+use mathlib.Core.Path.{_≡_, sym, ap, _∙_, subst}
 use mathlib.Core.Bool.{true, false}
 use mathlib.Core.Option.{none}
 use mathlib.Core.List.{List, [], _∷_}
@@ -11,8 +11,8 @@ use Rattle.model.specs.declared.Effect.{Effect}
 use Rattle.model.specs.declared.Effect.the-variants.{Opens}
 use Rattle.model.specs.Text.{Bytes, part}
 use Rattle.model.specs.Code.{parse, effect}
-use Rattle.model.specs.Load.{Loaded, bodyAt}
-use Rattle.model.specs.Machine.{Frame, Step, Next, running, resumeAt, carryOut, stepped}
+use Rattle.model.specs.Load.{bodyAt}
+use Rattle.model.specs.Machine.{Frame, Step, Next, resumeAt, carryOut}
 use Rattle.model.proofs.Nesting.{Passing, passing, nested-few}
 use Rattle.model.proofs.Frames.{NextOk, carryOut-nested, stepped-nested}
 use Rattle.model.proofs.Choices.{false-not-true}
@@ -21,11 +21,11 @@ use Rattle.scan.specs.Lines.{CodeAt}
 use Rattle.state.specs.declared.State.{State}
 use Rattle.state.specs.State.{sharedOf, stateOf, countedEvent, Sound}
 use Rattle.call.specs.declared.Head.{Head}
-use Rattle.call.specs.Call.{Laid, laid, frameOf}
+use Rattle.call.specs.Call.{laid, frameOf}
 use Rattle.call.specs.Params.{Moves}
 use Rattle.call.proofs.Loops.{frame-depth}
 use Rattle.answer.specs.declared.Answer.{Answer}
-use Rattle.answer.specs.Answers.{goesBack, endsWith, settle, nextOf, comesTo}
+use Rattle.answer.specs.Answers.{goesBack, endsWith, nextAt, nextOf, comesTo}
 use Rattle.answer.specs.Kept.{Open, Comes}
 use Rattle.answer.proofs.Following.{follows-itself}
 use Rattle.answer.proofs.Coming.{comes-as}
@@ -58,7 +58,7 @@ module _ {m : Marks} {text : Bytes} {c : Head} {nums : List ℕ} {bytes : Bytes}
   module _ {s : State} {o memory built : Bytes} {r : Answer} (sound : Sound s o memory) where
     -- no code line is left
     pub steps-back : line .there ≡ false → r ≡ goesBack 0 s → Steps m text (laid c nums bytes) s o memory built r nums bytes o memory
-    unfolding nextOf
+    unfolding nextAt nextOf
     steps-back e er = subst (λ (x : Answer). Steps m text (laid c nums bytes) s o memory built x nums bytes o memory) (sym er) record {
       follows = follows-itself sound;
       less = λ f. false-not-true (sym f);
@@ -70,7 +70,7 @@ module _ {m : Marks} {text : Bytes} {c : Head} {nums : List ℕ} {bytes : Bytes}
 
     -- no fuel is left
     pub steps-spent : line .there ≡ true → s .fuel ≡ 0 → r ≡ endsWith 20 s → Steps m text (laid c nums bytes) s o memory built r nums bytes o memory
-    unfolding nextOf
+    unfolding nextAt nextOf
     steps-spent e spent er = subst (λ (x : Answer). Steps m text (laid c nums bytes) s o memory built x nums bytes o memory) (sym er) record {
       follows = follows-itself sound;
       less = λ f. false-not-true (sym f);

@@ -19,7 +19,7 @@ use Rattle.state.specs.State.{sharedOf, stateOf}
 use Rattle.call.specs.declared.Head.{Head}
 use Rattle.call.specs.Call.{Laid, laid, frameOf}
 use Rattle.answer.specs.declared.Answer.{Answer}
-use Rattle.answer.specs.Answers.{isLeft, offeredLength, nextOf, comesTo}
+use Rattle.answer.specs.Answers.{turn, isLeft, offeredLength, nextOf, comesTo}
 use Rattle.answer.specs.Kept.{Open, Comes, Follows}
 
 -- what was read of a code line's end, and the line built: an iteration is opened only where it may be
@@ -48,9 +48,9 @@ pub record Carries (m : Marks) (text : Bytes) (at to : ℕ) (c : Laid)
 pub record Steps (m : Marks) (text : Bytes) (c : Laid)
     (s : State) (o memory built : Bytes) (r : Answer) (nums : List ℕ) (bytes o′ memory′ : Bytes) : Type 0 where
   pub follows : Follows s o (r .state) o′ memory′
-  pub less : isLeft (r .turn) ≡ false → r .state .fuel < s .fuel
-  pub stays : isLeft (r .turn) ≡ false → Open m text (laid (r .call) nums bytes)
-  pub short : offeredLength (r .turn) ≤ lineMost
+  pub less : isLeft (turn r) ≡ false → r .state .fuel < s .fuel
+  pub stays : isLeft (turn r) ≡ false → Open m text (laid (r .call) nums bytes)
+  pub short : offeredLength (turn r) ≤ lineMost
   pub same : (t : Loaded) → t .marks ≡ m → (fs : List Frame)
       → comesTo (s .fuel) (length o) t (running (stateOf text none (frameOf m text c ∷ fs) s o memory))
       ≡ comesTo (r .state .fuel) (length o) t (nextOf m text fs r nums bytes built o′ memory′)

@@ -130,24 +130,26 @@ fn carry(
     )
 }
 
-// The call's next code line: an event is counted, the call moves past the line, and it is carried out. With no code line left
+// The next code line of the call of a, the answer of the one before: an event is counted, the call moves past the line, and it is carried out. With no code line left
 // the call is left; with no fuel left the run ends.
 pub fn step(
     m: Marks,
     text: &[u8],
-    call: Head,
+    a: Answer,
     nums: &mut [usize],
     params: &mut [u8],
     built: &mut [u8],
     output: &mut [u8],
     memory: &mut [u8],
-    s: State,
 ) -> Answer
-    requires { ⌜ Sound s (now output) (now memory) × Open m (now text) (laid call (now nums) (now params)) × (length (now built) ≡ lineMost) ⌝ }
-    ensures { λ r. ⌜ Steps m (now (text .entry)) (laid call (now (nums .entry)) (now (params .entry))) s
+    requires { ⌜ Sound (a .state) (now output) (now memory) × Open m (now text) (laid (a .call) (now nums) (now params))
+        × (length (now built) ≡ lineMost) ⌝ }
+    ensures { λ r. ⌜ Steps m (now (text .entry)) (laid (a .call) (now (nums .entry)) (now (params .entry))) (a .state)
         (now (output .entry)) (now (memory .entry)) (now (built .exit)) r
         (now (nums .exit)) (now (params .exit)) (now (output .exit)) (now (memory .exit)) ⌝ }
 {
+    let call = a.call;
+    let s = a.state;
     let at = call.next;
     let line = read_code(text, m, at);
     if !line.there {

@@ -12,7 +12,7 @@ use Rattle.model.specs.Code as Code
 use Rattle.model.specs.declared.Marks.{Marks}
 use Rattle.model.specs.declared.Comparison.the-variants.{Equal, Unequal, Less, Greater}
 use Rattle.model.specs.declared.Conversion.{Conversion}
-use Rattle.model.specs.declared.Conversion.the-variants.{Itself, StoredText, Symbol, LatestDelimiter, ExpressionValue, Length, ByteValue}
+use Rattle.model.specs.declared.Conversion.the-variants.{Itself, StoredText, Symbol, LatestDelimiter, ExpressionValue, Length, CodePoint}
 use Rattle.model.proofs.Text.{part-empty, part-first}
 use Rattle.model.proofs.Theorems.{names-conversion}
 use Rattle.code.specs.declared.Named.{Named}
@@ -113,7 +113,7 @@ names-digit v {b} e = record { is = sym (names-conversion b v .1 e) }
 pub named-by : (b : ℕ)
     → Code.conversionOf b
     ≡ cond (eqb b 48) (some Itself) (cond (eqb b 49) (some StoredText) (cond (eqb b 50) (some Symbol) (cond (eqb b 51) (some LatestDelimiter)
-    (cond (eqb b 52) (some ExpressionValue) (cond (eqb b 53) (some Length) (cond (eqb b 56) (some ByteValue) none))))))
+    (cond (eqb b 52) (some ExpressionValue) (cond (eqb b 53) (some Length) (cond (eqb b 56) (some CodePoint) none))))))
 unfolding Code.conversionOf Code.firstNamed Code.conversions Code.digitOf
 named-by b =
     choice (eqb b 48) refl (choice (eqb b 49) refl (choice (eqb b 50) refl (choice (eqb b 51) refl

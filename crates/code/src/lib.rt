@@ -182,7 +182,7 @@ fn name_conversion(b: u8) -> Named
         b'3' => Named::Is(Conversion::LatestDelimiter),
         b'4' => Named::Is(Conversion::ExpressionValue),
         b'5' => Named::Is(Conversion::Length),
-        b'8' => Named::Is(Conversion::ByteValue),
+        b'8' => Named::Is(Conversion::CodePoint),
         _ => Named::Nothing,
     }
 }

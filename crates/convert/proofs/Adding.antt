@@ -1,20 +1,23 @@
--- What the expansion makes of a part that is added, where nothing is stored. Assumes nothing.
+-- What the expansion makes of a part that is added, where nothing is stored.
 use mathlib.Core.Path.{_≡_, refl, sym, ap, _∙_, subst}
 use mathlib.Core.Bool.{Bool, true, false, cond}
-use mathlib.Core.Option.{Option}
-use mathlib.Core.List.{[], _∷_}
+use mathlib.Core.Option.{Option, some}
+use mathlib.Core.List.{List, [], _∷_}
 use Prim.Native.Nat.{ℕ, _≤_}
 use native.Mathlib.Omega.{arith}
 use lib.Dec.{eqb}
 use lib.IntN.{ℤ}
-use lib.ListN.{length, getD}
+use lib.ListN.{length}
 use mir.Val.{toZ, ofZ}
 use Rattle.model.specs.declared.Marks.{Marks}
 use Rattle.model.specs.Text.{Bytes, part}
 use Rattle.model.specs.Store.{decimal}
 use Rattle.model.specs.Value.{written}
-use Rattle.model.specs.Machine.{Shared, Building, built, failed, add, addValue, addLength, addByteValue}
+use Rattle.model.specs.Machine.{Shared, Building, built, failed, add, addValue, addLength, addCodePoint}
 use Rattle.model.proofs.Choices.{when-false}
+use Rattle.character.specs.declared.Counted.{Counted}
+use Rattle.character.specs.Counting.{CountsCharacters}
+use Rattle.character.proofs.Counting.{counted-none, counted-some, counted-one}
 use Rattle.store.specs.Memory.{Kept}
 use Rattle.number.specs.declared.Valued.{Valued}
 use Rattle.number.specs.declared.Valued.the-variants.{Number, Fault}
@@ -27,7 +30,7 @@ use Rattle.call.specs.declared.Appended.{Appended}
 use Rattle.call.specs.Line.{lineStep, Appends}
 use Rattle.convert.specs.declared.Added.{Added}
 use Rattle.convert.specs.Added.{answered, stopped, addedStep, Keeps, Adds}
-use Rattle.convert.specs.Converted.{AddsValue, AddsLength, AddsByteValue}
+use Rattle.convert.specs.Converted.{AddsValue, AddsLength, AddsCodePoint}
 use Rattle.convert.proofs.Appending.{appends-as}
 
 -- ---- the two answers
@@ -77,20 +80,39 @@ module _ {m : Marks} {t : Bytes} {line : Bytes} {n : ℕ} {s : State} {memory : 
 
 -- ---- ed5 and ed8
 
-module _ {line : Bytes} {n : ℕ} {s : State} {memory : Bytes} {r : Added} (k : Kept memory (s .index)) (h : s .symbols ≤ s .index .count) where
-  pub length-added : {t line′ : Bytes} {a : Appended} → Appends line n (decimal (length t)) line′ a → r ≡ answered a s → AddsLength t line n memory s line′ r
+-- several characters, or none, have no code point
+point-other : (l : Bytes) (vs : List ℕ) (w : Shared) → (length vs ≡ 1 → ⊥) → addCodePoint l (some vs) w ≡ failed 16 w
+unfolding addCodePoint
+point-other l [] w h = refl
+point-other l (v ∷ []) w h = absurd (h refl)
+point-other l (v ∷ u ∷ vs) w h = refl
+
+module _ {t line : Bytes} {n : ℕ} {s : State} {memory : Bytes} {c : Counted} {r : Added}
+    (k : Kept memory (s .index)) (h : s .symbols ≤ s .index .count) (g : CountsCharacters t c) where
+  pub length-malformed : c .ok ≡ false → r ≡ stopped 21 s → AddsLength t line n memory s line r
   unfolding addLength
-  length-added p q = record { adds = adds-answered k h (λ o. refl) p q }
+  length-malformed e q = record { adds = adds-stopped k h refl (λ o. ap (λ (x : Option (List ℕ)). addLength (part line 0 n) x (sharedOf s o memory)) (counted-none g e)) q }
 
-  pub byte-value-other : {t : Bytes} → (length t ≡ 1 → ⊥) → r ≡ stopped 16 s → AddsByteValue t line n memory s line r
-  unfolding addByteValue
-  byte-value-other {t = []} e q = record { adds = adds-stopped k h refl (λ o. refl) q }
-  byte-value-other {t = x ∷ []} e q = absurd (e refl)
-  byte-value-other {t = x ∷ y ∷ t} e q = record { adds = adds-stopped k h refl (λ o. refl) q }
+  pub length-added : {line′ : Bytes} {a : Appended} → c .ok ≡ true → Appends line n (decimal (c .count)) line′ a → r ≡ answered a s → AddsLength t line n memory s line′ r
+  unfolding addLength
+  length-added e p q =
+      let f = counted-some g e in
+      record { adds = adds-answered k h (λ o. ap (λ (x : Option (List ℕ)). addLength (part line 0 n) x (sharedOf s o memory)) (f .are)) (appends-as (ap decimal (f .count)) p) q }
 
-  pub byte-value-one : {t : Bytes} {v : ℕ} {line′ : Bytes} {a : Appended} → length t ≡ 1 → v ≡ getD t 0 0 → Appends line n (decimal v) line′ a → r ≡ answered a s
-      → AddsByteValue t line n memory s line′ r
-  unfolding addByteValue
-  byte-value-one {t = []} e f p q = absurd (omega arith)
-  byte-value-one {t = x ∷ []} e f p q = record { adds = adds-answered k h (λ o. refl) (appends-as (ap decimal f) p) q }
-  byte-value-one {t = x ∷ y ∷ t} e f p q = absurd (omega arith)
+  pub point-malformed : c .ok ≡ false → r ≡ stopped 21 s → AddsCodePoint t line n memory s line r
+  unfolding addCodePoint
+  point-malformed e q = record { adds = adds-stopped k h refl (λ o. ap (λ (x : Option (List ℕ)). addCodePoint (part line 0 n) x (sharedOf s o memory)) (counted-none g e)) q }
+
+  pub point-others : c .ok ≡ true → (c .count ≡ 1 → ⊥) → r ≡ stopped 16 s → AddsCodePoint t line n memory s line r
+  point-others e z q =
+      let f = counted-some g e in
+      record {
+        adds = adds-stopped k h refl
+            (λ o. ap (λ (x : Option (List ℕ)). addCodePoint (part line 0 n) x (sharedOf s o memory)) (f .are) ∙ point-other (part line 0 n) (f .codes) (sharedOf s o memory) (λ i. z (f .count ∙ i))) q;
+      }
+
+  pub point-added : {line′ : Bytes} {a : Appended} → c .ok ≡ true → c .count ≡ 1 → Appends line n (decimal (c .code)) line′ a → r ≡ answered a s → AddsCodePoint t line n memory s line′ r
+  unfolding addCodePoint
+  point-added e z p q = record {
+    adds = adds-answered k h (λ o. ap (λ (x : Option (List ℕ)). addCodePoint (part line 0 n) x (sharedOf s o memory)) (counted-one g e z)) p q;
+  }

@@ -1,4 +1,4 @@
--- What is appended to a line that is built. Assumes nothing.
+-- What is appended to a line that is built.
 use mathlib.Core.Path.{_≡_, sym, ap, _∙_, subst}
 use mathlib.Core.Bool.{Bool, true, false}
 use mathlib.Core.List.{[], _∷_, _++_, append-nil}

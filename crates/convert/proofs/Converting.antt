@@ -1,15 +1,16 @@
--- Each conversion of a parameter is what the expansion adds. Assumes nothing.
+-- Each conversion of a parameter is what the expansion adds.
 use mathlib.Core.Path.{_≡_, sym, ap, _∙_, subst}
 use mathlib.Core.List.{[]}
 use Prim.Native.Nat.{ℕ, _-_, _≤_}
 use lib.ListN.{getD}
 use Rattle.model.specs.declared.Marks.{Marks}
 use Rattle.model.specs.declared.Conversion.{Conversion}
-use Rattle.model.specs.declared.Conversion.the-variants.{Itself, StoredText, Symbol, LatestDelimiter, ExpressionValue, Length, ByteValue}
+use Rattle.model.specs.declared.Conversion.the-variants.{Itself, StoredText, Symbol, LatestDelimiter, ExpressionValue, Length, CodePoint}
 use Rattle.model.specs.Text.{Bytes, part}
+use Rattle.model.specs.Utf8.{points}
 use Rattle.model.specs.Store.{find}
 use Rattle.model.specs.Value.{valueOf}
-use Rattle.model.specs.Machine.{Frame, Shared, Building, param, orNothing, add, addSymbol, addValue, addLength, addByteValue, addConverted}
+use Rattle.model.specs.Machine.{Frame, Shared, Building, param, orNothing, add, addSymbol, addValue, addLength, addCodePoint, addConverted}
 use Rattle.pass.specs.Pass.{delimiterOf}
 use Rattle.store.specs.Memory.{held, Kept}
 use Rattle.state.specs.declared.State.{State}
@@ -18,7 +19,7 @@ use Rattle.call.specs.declared.Appended.{Appended}
 use Rattle.call.specs.Line.{Appends}
 use Rattle.convert.specs.declared.Added.{Added}
 use Rattle.convert.specs.Added.{answered, Adds}
-use Rattle.convert.specs.Converted.{AddsSymbol, AddsValue, AddsLength, AddsByteValue, Converts}
+use Rattle.convert.specs.Converted.{AddsSymbol, AddsValue, AddsLength, AddsCodePoint, Converts}
 use Rattle.convert.proofs.Adding.{adds-answered}
 
 -- one step of the expansion for another
@@ -65,8 +66,8 @@ module _ {m : Marks} {c : Conversion} {t : Bytes} {e : ℕ} {line : Bytes} {n : 
 
   pub converts-length : c ≡ Length → AddsLength t line n memory s line′ r → Converts m c t e line n memory s line′ memory r
   unfolding addConverted
-  converts-length q a = converts-case q (λ f d u v. adds-as (λ o. ap (λ (x : Bytes). addLength (part line 0 n) x (sharedOf s o memory)) u) (a .adds))
+  converts-length q a = converts-case q (λ f d u v. adds-as (λ o. ap (λ (x : Bytes). addLength (part line 0 n) (points x) (sharedOf s o memory)) u) (a .adds))
 
-  pub converts-byte : c ≡ ByteValue → AddsByteValue t line n memory s line′ r → Converts m c t e line n memory s line′ memory r
+  pub converts-point : c ≡ CodePoint → AddsCodePoint t line n memory s line′ r → Converts m c t e line n memory s line′ memory r
   unfolding addConverted
-  converts-byte q a = converts-case q (λ f d u v. adds-as (λ o. ap (λ (x : Bytes). addByteValue (part line 0 n) x (sharedOf s o memory)) u) (a .adds))
+  converts-point q a = converts-case q (λ f d u v. adds-as (λ o. ap (λ (x : Bytes). addCodePoint (part line 0 n) (points x) (sharedOf s o memory)) u) (a .adds))

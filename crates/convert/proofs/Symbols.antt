@@ -1,4 +1,4 @@
--- ed2: a name that is stored, and one that is stored with the next number. Assumes nothing.
+-- ed2: a name that is stored, and one that is stored with the next number.
 use mathlib.Core.Path.{_≡_, refl, sym, ap, _∙_, subst}
 use mathlib.Core.Bool.{Bool, true, false}
 use mathlib.Core.Option.{Option}

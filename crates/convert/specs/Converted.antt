@@ -8,9 +8,10 @@ use lib.ListN.{length, getD}
 use Rattle.model.specs.declared.Marks.{Marks}
 use Rattle.model.specs.declared.Conversion.{Conversion}
 use Rattle.model.specs.Text.{Bytes, part}
+use Rattle.model.specs.Utf8.{points}
 use Rattle.model.specs.Store.{Store, find}
 use Rattle.model.specs.Value.{valueOf}
-use Rattle.model.specs.Machine.{Frame, param, orNothing, addSymbol, addValue, addLength, addByteValue, addConverted}
+use Rattle.model.specs.Machine.{Frame, param, orNothing, addSymbol, addValue, addLength, addCodePoint, addConverted}
 use Rattle.pass.specs.Pass.{delimiterOf}
 use Rattle.store.specs.declared.Index.{Index}
 use Rattle.store.specs.Memory.{held}
@@ -45,11 +46,11 @@ pub record AddsValue (m : Marks) (text line : Bytes) (n : ℕ) (memory : Bytes) 
 
 -- ed5
 pub record AddsLength (text line : Bytes) (n : ℕ) (memory : Bytes) (s : State) (line′ : Bytes) (r : Added) : Type 0 where
-  pub adds : Adds (λ w. addLength (part line 0 n) text w) s memory line′ memory r
+  pub adds : Adds (λ w. addLength (part line 0 n) (points text) w) s memory line′ memory r
 
 -- ed8
-pub record AddsByteValue (text line : Bytes) (n : ℕ) (memory : Bytes) (s : State) (line′ : Bytes) (r : Added) : Type 0 where
-  pub adds : Adds (λ w. addByteValue (part line 0 n) text w) s memory line′ memory r
+pub record AddsCodePoint (text line : Bytes) (n : ℕ) (memory : Bytes) (s : State) (line′ : Bytes) (r : Added) : Type 0 where
+  pub adds : Adds (λ w. addCodePoint (part line 0 n) (points text) w) s memory line′ memory r
 
 -- the conversion c of a parameter with this text and latest delimiter, in whatever call
 pub record Converts (m : Marks) (c : Conversion) (text : Bytes) (delimiter : ℕ) (line : Bytes) (n : ℕ) (memory : Bytes) (s : State) (line′ memory′ : Bytes) (r : Added)

@@ -1,6 +1,7 @@
 // What ed0 to ed5 and ed8 put at the end of a line that is built (document 01, "A call's code"). The parameter's text is a
 // lent slice.
 use call::Appended;
+use character::count_characters;
 use model::Conversion;
 use model::Marks;
 use number::Valued;
@@ -19,7 +20,7 @@ ghost use Rattle.call.specs.Line.{Appends, HasBuilt};
 ghost use Rattle.store.specs.Memory.{held, Kept};
 ghost use Rattle.store.specs.Put.{Puts};
 ghost use Rattle.convert.specs.Added.{answered, stopped};
-ghost use Rattle.convert.specs.Converted.{wordOf, Finds, Missing, AddsSymbol, AddsValue, AddsLength, AddsByteValue, Converts};
+ghost use Rattle.convert.specs.Converted.{wordOf, Finds, Missing, AddsSymbol, AddsValue, AddsLength, AddsCodePoint, Converts};
 
 // The length of the line with a part added, where the number is 0; otherwise the number that ends the run.
 pub struct Added {
@@ -202,25 +203,33 @@ fn add_value(m: Marks, param: &[u8], line: &mut [u8], n: usize, memory: &[u8], s
     }
 }
 
-// ed5: the length.
+// ed5: the number of characters, or 21.
 fn add_length(param: &[u8], line: &mut [u8], n: usize, memory: &[u8], s: State) -> Added
     requires { ⌜ HasBuilt (now line) n ⌝ }
     requires { ⌜ Kept (now memory) (s .index) × (s .symbols ≤ s .index .count) ⌝ }
     ensures { λ r. ⌜ AddsLength (now (param .entry)) (now (line .entry)) n (now (memory .entry)) s (now (line .exit)) r ⌝ }
 {
-    answer(add_number(param.len(), line, n), s)
+    let counted = count_characters(param);
+    if counted.ok {
+        return answer(add_number(counted.count, line, n), s);
+    }
+    stop(21, s)
 }
 
-// ed8: the byte value of exactly one byte, or 16.
-fn add_byte_value(param: &[u8], line: &mut [u8], n: usize, memory: &[u8], s: State) -> Added
+// ed8: the code point of exactly one character, or 21 or 16.
+fn add_code_point(param: &[u8], line: &mut [u8], n: usize, memory: &[u8], s: State) -> Added
     requires { ⌜ HasBuilt (now line) n ⌝ }
     requires { ⌜ Kept (now memory) (s .index) × (s .symbols ≤ s .index .count) ⌝ }
-    ensures { λ r. ⌜ AddsByteValue (now (param .entry)) (now (line .entry)) n (now (memory .entry)) s (now (line .exit)) r ⌝ }
+    ensures { λ r. ⌜ AddsCodePoint (now (param .entry)) (now (line .entry)) n (now (memory .entry)) s (now (line .exit)) r ⌝ }
 {
-    if param.len() != 1 {
+    let counted = count_characters(param);
+    if !counted.ok {
+        return stop(21, s);
+    }
+    if counted.count != 1 {
         return stop(16, s);
     }
-    answer(add_number(buffer::wide(param[0]), line, n), s)
+    answer(add_number(counted.code, line, n), s)
 }
 
 // A conversion of a parameter with its latest delimiter.
@@ -246,6 +255,6 @@ pub fn add_converted<'a>(
         Conversion::LatestDelimiter => answer(add_delimiter(delimiter, line, n), s),
         Conversion::ExpressionValue => add_value(m, param, line, n, memory, s),
         Conversion::Length => add_length(param, line, n, memory, s),
-        Conversion::ByteValue => add_byte_value(param, line, n, memory, s),
+        Conversion::CodePoint => add_code_point(param, line, n, memory, s),
     }
 }

@@ -8,25 +8,24 @@ ghost use Rattle.state.specs.State.{Sound};
 ghost use Rattle.call.specs.Call.{openedOf, laid, Sized};
 ghost use Rattle.matching.specs.Book.{Prepared};
 ghost use Rattle.answer.specs.Kept.{Begun, Open};
-ghost use Rattle.cycle.specs.Meets.{Meets, Advances};
+ghost use Rattle.cycle_laws.specs.Meets.{Meets, Advances};
 ghost use Rattle.model.specs.Limits.{lineMost, callsMost};
 use answer::Answer;
-use answer::end_with;
-use answer::go_back;
+use answer::go_on;
 use answer::is_left;
 use answer::is_offer;
 use answer::offered_length;
 use call::CALL_BYTES;
 use call::CALL_NUMBERS;
 use call::Call;
-use call::Head;
 use landing::land;
-use model::CALLS_MOST;
+use matching::count_call;
+use matching::decide;
+use matching::open_reading;
 use model::LINE_MOST;
 use model::Marks;
 use nodes::Node;
 use state::State;
-use write::write_line;
 
 // Offers the first n bytes of a line, with `depth` calls open. A call that it opens is laid out in two arrays.
 pub fn offer(
@@ -46,19 +45,13 @@ pub fn offer(
     ensures { λ r. ⌜ Meets m (now (text .entry)) (now (nodes .entry)) (now (bodies .entry)) (some (take n (now (line .entry)))) []
         depth s (now (output .entry)) (now (memory .entry)) r (now (output .exit)) (now (memory .exit)) ⌝ }
 {
-    if s.fuel == 0 {
-        return end_with(20, s);
-    }
-    let t = state::count_event(s);
     let found = fit::first_reading(m, nodes, line, n);
-    if !found.found {
-        return write_line(line, n, output, go_back(0, t));
+    let a = decide(found, line, n, output, depth, s);
+    if is_left(a) {
+        return a;
     }
-    if depth == CALLS_MOST {
-        return end_with(14, t);
-    }
-    let call = matching::open_reading(bodies, line, n, found, t.calls + 1);
-    let called = state::add_call(t);
+    let called = count_call(a);
+    let call = open_reading(bodies, line, n, found, called);
     let mut nums = [0usize; CALL_NUMBERS];
     let mut params = [0u8; CALL_BYTES];
     body(
@@ -95,10 +88,10 @@ fn body(
     ensures { λ r. ⌜ Meets m (now (text .entry)) (now (nodes .entry)) (now (bodies .entry)) none (openedOf m (now (text .entry)) call ∷ [])
         depth s (now (output .entry)) (now (memory .entry)) r (now (output .exit)) (now (memory .exit)) ⌝ }
 {
-    let mut c = call::lay_out(call, nums, params);
-    let mut st = s;
+    let c = call::lay_out(call, nums, params);
+    let mut a = go_on(c, s);
     loop {
-        let a = advance(
+        let r = advance(
             m,
             text,
             nodes,
@@ -107,19 +100,17 @@ fn body(
             memory,
             nums,
             params,
-            c,
+            a,
             depth,
-            st,
         );
-        if is_left(a) {
-            return a;
+        if is_left(r) {
+            return r;
         }
-        c = a.call;
-        st = a.state;
+        a = r;
     }
 }
 
-// Carries out the next code line of a call that has `depth` callers, and offers the line that it builds, which has 200 bytes of its own.
+// Carries out the next code line of the call of an answer, which has `depth` callers, and offers the line that it builds, which has 200 bytes of its own.
 fn advance(
     m: Marks,
     text: &[u8],
@@ -129,24 +120,22 @@ fn advance(
     memory: &mut [u8],
     nums: &mut [usize],
     params: &mut [u8],
-    call: Head,
+    a: Answer,
     depth: usize,
-    s: State,
 ) -> Answer
-    requires { ⌜ Prepared m (now text) (now nodes) (now bodies) × Sound s (now output) (now memory)
-        × Open m (now text) (laid call (now nums) (now params)) × (depth < callsMost) ⌝ }
-    ensures { λ a. ⌜ Advances m (now (text .entry)) (now (nodes .entry)) (now (bodies .entry)) (laid call (now (nums .entry)) (now (params .entry)))
-        depth s (now (output .entry)) (now (memory .entry)) a
+    requires { ⌜ Prepared m (now text) (now nodes) (now bodies) × Sound (a .state) (now output) (now memory)
+        × Open m (now text) (laid (a .call) (now nums) (now params)) × (depth < callsMost) ⌝ }
+    ensures { λ r. ⌜ Advances m (now (text .entry)) (now (nodes .entry)) (now (bodies .entry)) (laid (a .call) (now (nums .entry)) (now (params .entry)))
+        depth (a .state) (now (output .entry)) (now (memory .entry)) r
         (now (nums .exit)) (now (params .exit)) (now (output .exit)) (now (memory .exit)) ⌝ }
 {
     let mut built = [0u8; LINE_MOST];
-    let q = carry::step(m, text, call, nums, params, &mut built, output, memory, s);
+    let q = carry::step(m, text, a, nums, params, &mut built, output, memory);
     if !is_offer(q) {
         return q;
     }
     let n = offered_length(q);
     let t = q.state;
-    let c = q.call;
     let r = offer(
         m,
         text,
@@ -159,5 +148,5 @@ fn advance(
         depth + 1,
         t,
     );
-    land(m, text, c, r)
+    land(m, text, q, r)
 }

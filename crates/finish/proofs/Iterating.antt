@@ -1,9 +1,9 @@
--- ed6, ed7, F7 and F8: a parameter set, and iterations. Assumes nothing.
+-- ed6, ed7, F7 and F8: a parameter set, and iterations.
 use mathlib.Core.Path.{_≡_, sym, ap, _∙_}
-use mathlib.Core.Bool.{Bool}
 use mathlib.Core.Option.{Option}
-use mathlib.Core.List.{List, []}
+use mathlib.Core.List.{List}
 use Prim.Native.Nat.{ℕ}
+use lib.Dec.{eqb}
 use lib.IntN.{ℤ}
 use lib.ListN.{take}
 use Rattle.model.specs.declared.Marks.{Marks}
@@ -35,8 +35,8 @@ assigns {c} {nums} {bytes} {d} {line} {n} {s} g e = record {
       (ap (λ (f : Frame). continues f (sharedOf s o memory)) (ap (λ (x : Bytes). withParam (frameOf m text (laid c nums bytes)) d x) (sym (part-front line n)) ∙ sym (g .frame m text c)));
 }
 
-module _ {m : Marks} {text : Bytes} {c : Laid} {s : State} {ok : Bool} {c′ : Head} {nums : List ℕ} {bytes : Bytes} {r : Answer} where
-  pub begins : {d list to : ℕ} {line : Bytes} {n : ℕ} → StartsPass m text c d (part line 0 n) list to ok (laid c′ nums bytes) → GoesOrEnds ok 17 c′ s r
+module _ {m : Marks} {text : Bytes} {c : Laid} {s : State} {k : ℕ} {c′ : Head} {nums : List ℕ} {bytes : Bytes} {r : Answer} where
+  pub begins : {d list to : ℕ} {line : Bytes} {n : ℕ} → StartsPass m text c d (part line 0 n) list to k (laid c′ nums bytes) → GoesOrEnds (eqb k 0) k c′ s r
       → BeginsPasses m text c d list to line n s r nums bytes
   unfolding passStep
   begins {d} {list} {to} {line} {n} g e = record {
@@ -45,7 +45,7 @@ module _ {m : Marks} {text : Bytes} {c : Laid} {s : State} {ok : Bool} {c′ : H
         ∙ g .step (sharedOf s o memory));
   }
 
-  pub passes-again : EndsPass m text c ok (laid c′ nums bytes) → GoesOrEnds ok 17 c′ s r → PassesAgain m text c s r nums bytes
+  pub passes-again : EndsPass m text c k (laid c′ nums bytes) → GoesOrEnds (eqb k 0) k c′ s r → PassesAgain m text c s r nums bytes
   unfolding passStep
   passes-again g e = record { comes = λ o memory b h. came-by h (g .placed) e (g .step (sharedOf s o memory)) }
 

@@ -1,20 +1,19 @@
--- F1: a line or a layout is written. Assumes nothing.
+-- F1: a line or a layout is written.
 use mathlib.Core.Path.{_≡_, refl, sym, ap, subst, _∙_}
 use mathlib.Core.Bool.{true, false}
-use mathlib.Core.List.{List, []}
+use mathlib.Core.List.{List}
 use Prim.Native.Nat.{ℕ, _≤_}
-use native.Mathlib.Omega.{arith}
 use borrow.Author.Tests.{eq-eqb, ne-eqb}
 use lib.ListN.{length}
 use Rattle.model.specs.declared.Marks.{Marks}
 use Rattle.model.specs.Text.{Bytes, part}
-use Rattle.model.specs.Machine.{Frame, Step, resumeAt, writeTo, writeLayout}
+use Rattle.model.specs.Machine.{Frame, resumeAt, writeTo, writeLayout}
 use Rattle.model.specs.Load.{bodyAt}
 use Rattle.model.proofs.Choices.{when-true, when-false}
 use Rattle.scan.specs.declared.CodeLine.{CodeLine}
 use Rattle.scan.specs.Lines.{CodeAt}
 use Rattle.state.specs.declared.State.{State}
-use Rattle.state.specs.State.{sharedOf, Sound}
+use Rattle.state.specs.State.{sharedOf}
 use Rattle.call.specs.declared.Head.{Head}
 use Rattle.call.specs.Call.{Laid, laid, frameOf, Placed}
 use Rattle.call.specs.Params.{Moves}

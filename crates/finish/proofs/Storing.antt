@@ -1,4 +1,4 @@
--- F3: a text is stored. Assumes nothing.
+-- F3: a text is stored.
 use mathlib.Core.Path.{_≡_, refl, sym, ap, ap₂, subst, _∙_}
 use Prim.Native.Nat.{ℕ, _+_}
 use native.Mathlib.Omega.{arith}
@@ -22,7 +22,7 @@ use Rattle.call.specs.Params.{Lies}
 use Rattle.write.specs.Layout.{paramOf}
 use Rattle.write.proofs.Fields.{lies-param}
 use Rattle.answer.specs.declared.Answer.{Answer}
-use Rattle.answer.specs.Answers.{goesOn, endsWith, settle, nextOf}
+use Rattle.answer.specs.Answers.{goesOn, endsWith, settle, nextAt, nextOf}
 use Rattle.answer.specs.Kept.{Comes}
 use Rattle.answer.proofs.Following.{extends-none}
 use Rattle.answer.proofs.Coming.{comes-as, came-end}
@@ -43,7 +43,7 @@ renamed c a b st l k = ap₂ (λ (n t : Bytes). put n t st) (first-param c l) (s
 module _ {c : Laid} {s : State} {memory : Bytes} {a b : ℕ} {memory′ : Bytes} {x : Stored} (l : Lies (c .nums) 1 a) (k : Lies (c .nums) 2 b)
     (p : Puts memory (s .index) (part (c .bytes) 0 a) (part (c .bytes) 200 (200 + b)) memory′ x) where
   pub saves : {y : Index} {t : State} {r : Answer} → x ≡ Now y → t ≡ withIndex s y → r ≡ goesOn (c .head) t → Saves c s memory r memory′
-  unfolding saveText withStore param settle nextOf stepped stateWith
+  unfolding saveText withStore param settle nextAt nextOf stepped stateWith
   saves {y} {t} {r} e f g = record {
     comes = λ m text o line q h. by m text o line q h (subst (λ (es : Store). Holds memory′ y es) (renamed c a b (held (s .index .count) memory) l k) (p .done y e));
   }

@@ -74,7 +74,7 @@ pub fn begin_passes(
         d list to (now (line .entry)) n s r (now (nums .exit)) (now (params .exit)) ⌝ }
 {
     let p = start_pass(m, text, call, nums, params, d, &line[0..n], list, to);
-    go_or_end(p.ok, 17, p.call, s)
+    go_or_end(p.number == 0, p.number, p.call, s)
 }
 
 // F1 after the line's start: channel 0 drops the line.
@@ -183,5 +183,5 @@ pub fn pass_again(
     ensures { λ r. ⌜ PassesAgain m (now (text .entry)) (laid call (now (nums .entry)) (now (params .entry))) s r (now (nums .exit)) (now (params .exit)) ⌝ }
 {
     let p = end_pass(m, text, call, nums, params);
-    go_or_end(p.ok, 17, p.call, s)
+    go_or_end(p.number == 0, p.number, p.call, s)
 }

@@ -11,7 +11,7 @@ use Rattle.model.specs.declared.Marks.{Marks}
 use Rattle.model.specs.Text.{Bytes, upTo, lines}
 use Rattle.model.specs.Load.{Loaded}
 use Rattle.model.specs.Machine as Machine
-use Rattle.model.specs.Machine.{running, ended, stateWith, offered, outcome}
+use Rattle.model.specs.Machine.{running, ended, stateWith, outcome}
 use Rattle.model.proofs.Steps as Steps
 use Rattle.state.specs.declared.State.{State}
 use Rattle.state.specs.State.{sharedOf, stateOf, withInput}

@@ -17,12 +17,12 @@ use Rattle.nodes.specs.declared.Node.{Node}
 use Rattle.state.specs.declared.State.{State}
 use Rattle.state.specs.State.{sharedOf, stateOf, Sound, withInput}
 use Rattle.answer.specs.declared.Answer.{Answer}
-use Rattle.answer.specs.Answers.{endsWith, isEnd, linesBack, settle, nextOf, comesTo}
+use Rattle.answer.specs.Answers.{turn, endsWith, isEnd, linesBack, settle, nextOf, comesTo}
 use Rattle.answer.specs.Kept.{Extends}
 use Rattle.answer.proofs.Following.{extends-none, extends-more}
 use Rattle.answer.proofs.Expansion.{next-back, next-ends}
 use Rattle.matching.specs.Book.{Book}
-use Rattle.cycle.specs.Meets.{Meets}
+use Rattle.cycle_laws.specs.Meets.{Meets}
 use Rattle.input.specs.Expands.{TakesContent, DropsLines, Expands}
 use Rattle.input.proofs.Reading.{input-over, input-read, input-long}
 
@@ -84,7 +84,7 @@ module _ {m : Marks} {text : Bytes} {row : List Node} {bodies : List ℕ} {s₀ 
           (i .extends .long) (k .same t b [] refl [] [] [])
 
       -- the run has ended with this line
-      pub expands-ended : isEnd (r .turn) ≡ true → Expands m text row bodies s₀ o₀ w₀ r o′ w′
+      pub expands-ended : isEnd (turn r) ≡ true → Expands m text row bodies s₀ o₀ w₀ r o′ w′
       expands-ended e = record {
         sound = k .follows .sound;
         extends = extends-more (i .extends) (k .follows .extends);
@@ -97,15 +97,15 @@ module _ {m : Marks} {text : Bytes} {row : List Node} {bodies : List ℕ} {s₀ 
       pub read-few : s₀ .line ≤ 65536 → length text ≤ 65536 → r .state .line + length text ≤ 1000000
       read-few a b = omega (arith, k .follows .line, i .few, i .within)
 
-      module _ {n : ℕ} {z : State} (en : n ≡ linesBack (r .turn)) (d : DropsLines text n (r .state) z) where
-        drops : DropsLines text (linesBack (r .turn)) (r .state) z
+      module _ {n : ℕ} {z : State} (en : n ≡ linesBack (turn r)) (d : DropsLines text n (r .state) z) where
+        drops : DropsLines text (linesBack (turn r)) (r .state) z
         drops = subst (λ (j : ℕ). DropsLines text j (r .state) z) en d
 
         pub input-less : length text - z .at < length text - s .at
         input-less = omega (arith, k .follows .at, content .ahead, content .within, drops .from)
 
         -- the run goes on in the input
-        pub expanding-on : isEnd (r .turn) ≡ false → Expanding m text row bodies s₀ o₀ w₀ z o′ w′
+        pub expanding-on : isEnd (turn r) ≡ false → Expanding m text row bodies s₀ o₀ w₀ z o′ w′
         unfolding settle skipIn
         expanding-on e =
             let u = withInput (r .state) (z .at) (z .line) in

@@ -7,7 +7,7 @@ ghost use lib.ListN.{length};
 ghost use Rattle.model.specs.Text.{part};
 ghost use Rattle.state.specs.State.{Sound};
 ghost use Rattle.matching.specs.Book.{Prepared};
-ghost use Rattle.cycle.specs.Meets.{Meets};
+ghost use Rattle.cycle_laws.specs.Meets.{Meets};
 ghost use Rattle.input.specs.Expands.{TakesContent, DropsLines, Expands};
 ghost use Rattle.model.specs.Limits.{textMost, lineMost, fuelMost};
 use answer::Answer;

@@ -1,6 +1,6 @@
 -- Passes of iterations, by the calls that they make.
 use mathlib.Core.Path.{_≡_, refl, sym, ap, ap₂, subst, _∙_}
-use mathlib.Core.Bool.{Bool, true, false}
+use mathlib.Core.Bool.{true, false}
 use mathlib.Core.Option.{Option}
 use mathlib.Core.List.{List, [], _∷_}
 use Prim.Native.Nat.{ℕ, suc, _+_, _-_, _*_, _≤_, _<_}
@@ -9,10 +9,10 @@ use lib.ListN.{length, set, drop}
 use Rattle.model.specs.declared.Marks.{Marks}
 use Rattle.model.specs.Text.{Bytes, part}
 use Rattle.model.specs.Load.{bodyAt}
-use Rattle.model.specs.Machine.{Loop, byPieces, byCount, Frame, Shared, continues, param, withParam, resumeAt, Piece, passOf, takePass, nextPass, endPass}
+use Rattle.model.specs.Machine.{Loop, byPieces, byCount, Frame, Shared, continues, halts, param, withParam, resumeAt, Piece, passOf, noPass, takePass, nextPass, endPass}
 use Rattle.model.proofs.Text.{part-length, part-long, part-empty}
 use Rattle.pass.specs.declared.Taken.{Taken}
-use Rattle.pass.specs.Pass.{delimiterOf, Takes}
+use Rattle.pass.specs.Pass.{delimiterOf, Takes, ChoosesFault}
 use Rattle.pass.proofs.Pieces.{piece-taken, piece-lacking}
 use Rattle.call.specs.declared.Head.{Head}
 use Rattle.call.specs.Call.{Iteration, iteration, textsAt, restOf, oldOf, loopOf, loopsOf, Laid, laid, frameOf, PlacedLoop, Placed}
@@ -52,6 +52,15 @@ sets-pass {c} {nums} {bytes} {i} {piece} {delimiter} {rest} {nums₁} {nums₂} 
 
 -- ---- take_pass
 
+-- the number of a pass that finds nothing to take is not 0
+halts-with : (m : Marks) (text : Bytes) (r : Laid) (w : Shared) {list : Bytes} {n : ℕ} → ChoosesFault list n → halts (noPass list) w ≡ passStep m text n r w
+unfolding passStep
+halts-with m text r w {list} {n} f = by list ∙ ap (λ (k : ℕ). passStep m text k r w) (sym (f .is))
+  where
+    by : (ds : Bytes) → halts (noPass ds) w ≡ passStep m text (noPass ds) r w
+    by [] = refl
+    by (d ∷ ds) = refl
+
 module _ {m : Marks} {text : Bytes} {c : Head} {nums : List ℕ} {bytes : Bytes} {i : ℕ} {t : Taken} (p : Placed text (laid c nums bytes)) (h : PassesAt text c nums i)
     (k : Takes m (part bytes (1800 + 400 * i) (1800 + 400 * i + iteration nums i .to)) (iteration nums i .from) (part text (iteration nums i .list) (iteration nums i .end)) t) where
   line-long : length (part bytes (1800 + 400 * i) (1800 + 400 * i + iteration nums i .to)) ≡ iteration nums i .to
@@ -64,21 +73,22 @@ module _ {m : Marks} {text : Bytes} {c : Head} {nums : List ℕ} {bytes : Bytes}
   taken-from x e = ap (λ (s : Bytes). passOf m (part text (iteration nums i .list) (iteration nums i .end)) s)
       (sym (line-from bytes i (iteration nums i .to) (iteration nums i .from) (h .placed .to))) ∙ e
 
-  pub pass-fails : t .ok ≡ false → Passes m text (laid c nums bytes) i false (laid c nums bytes)
-  unfolding takePass passStep
-  pass-fails e =
+  pub pass-fails : {n : ℕ} → t .ok ≡ false → ChoosesFault (part text (iteration nums i .list) (iteration nums i .end)) n → Passes m text (laid c nums bytes) i n (laid c nums bytes)
+  unfolding takePass
+  pass-fails {n} e f =
       let x : Iteration = iteration nums i in
       record {
         step = λ w.
             ap (λ (o : Option Piece). takePass (x .param) o (part text (x .list) (x .end)) (oldOf (textsAt bytes i) x) (bodyAt m text (x .after)) (loopsOf m text nums bytes i)
             (frameOf m text (laid c nums bytes)) w)
-            (taken-from _ (k .is ∙ piece-lacking _ _ t e));
+            (taken-from _ (k .is ∙ piece-lacking _ _ t e))
+            ∙ halts-with m text (laid c nums bytes) w f;
         placed = p;
       }
 
   pub pass-goes-on : {r : Laid} → t .ok ≡ true
       → SetsPass (laid c nums bytes) i (part bytes (1800 + 400 * i + iteration nums i .from) (1800 + 400 * i + iteration nums i .from + (t .end - iteration nums i .from))) (t .delimiter) (t .rest) r
-      → Passes m text (laid c nums bytes) i true r
+      → Passes m text (laid c nums bytes) i 0 r
   unfolding takePass passStep
   pass-goes-on {r} e s =
       let x : Iteration = iteration nums i in
@@ -117,8 +127,8 @@ module _ {text : Bytes} {c : Head} {nums : List ℕ} {bytes : Bytes} {d : ℕ} {
         placed = subst (λ (z : Iteration). PlacedLoop text z) (sym (o .numbers .is)) (record { param = b; after = q; list = e; end = f; from = omega arith; to = g; old = o .old .short });
       }
 
-  pub starts-pass : {m : Marks} {ok : Bool} {r : Laid} → Passes m text (laid c nums′ bytes′) (c .depth) ok r → StartsPass m text (laid c nums bytes) d line list end ok r
-  starts-pass {m} {ok} {r} s =
+  pub starts-pass : {m : Marks} {k : ℕ} {r : Laid} → Passes m text (laid c nums′ bytes′) (c .depth) k r → StartsPass m text (laid c nums bytes) d line list end k r
+  starts-pass {m} {k} {r} s =
       let i : ℕ = c .depth in
       let x = o .numbers in
       let v = o .texts in
@@ -182,7 +192,7 @@ next-some m d [] ds old after ls f w h = absurd (omega arith)
 next-some m d (b ∷ s) ds old after ls f w h = refl
 
 module _ {m : Marks} {text : Bytes} {c : Head} {nums : List ℕ} {bytes : Bytes} {i : ℕ} (p : Placed text (laid c nums bytes)) (h : PassesAt text c nums i) where
-  pub piece-goes-on : {ok : Bool} {r : Laid} → iteration nums i .from < iteration nums i .to → Passes m text (laid c nums bytes) i ok r → EndsPiece m text (laid c nums bytes) i ok r
+  pub piece-goes-on : {k : ℕ} {r : Laid} → iteration nums i .from < iteration nums i .to → Passes m text (laid c nums bytes) i k r → EndsPiece m text (laid c nums bytes) i k r
   piece-goes-on u s =
       let x : Iteration = iteration nums i in
       let long = texts-long bytes i (h .place) (p .bytes) in
@@ -197,7 +207,7 @@ module _ {m : Marks} {text : Bytes} {c : Head} {nums : List ℕ} {bytes : Bytes}
 
   pub piece-ends : {nums′ : List ℕ} {bytes′ : Bytes} → iteration nums i .to ≤ iteration nums i .from
       → Sets nums bytes (iteration nums i .param) (part bytes (2000 + 400 * i) (2000 + 400 * i + iteration nums i .old)) nums′ bytes′
-      → EndsPiece m text (laid c nums bytes) i true (laid (record { number = c .number; next = c .next; depth = i }) nums′ bytes′)
+      → EndsPiece m text (laid c nums bytes) i 0 (laid (record { number = c .number; next = c .next; depth = i }) nums′ bytes′)
   unfolding nextPass passStep resumeAt withParam
   piece-ends {nums′} {bytes′} u st =
       let x : Iteration = iteration nums i in
@@ -221,12 +231,12 @@ pub pieces-inside : {text : Bytes} {c : Head} {nums : List ℕ} {bytes : Bytes} 
 pieces-inside {c = c} p h e = let d = p .depth in record { place = omega arith; within = omega arith; param = omega arith; placed = p .iterations (c .depth - 1) (omega arith) }
 
 module _ {m : Marks} {text : Bytes} {c : Head} {nums : List ℕ} {bytes : Bytes} (p : Placed text (laid c nums bytes)) where
-  pub pass-outside : c .depth ≡ 0 → EndsPass m text (laid c nums bytes) true (laid c nums bytes)
+  pub pass-outside : c .depth ≡ 0 → EndsPass m text (laid c nums bytes) 0 (laid c nums bytes)
   unfolding endPass passStep loopsOf
   pass-outside e = record { step = λ w. ap (λ (k : ℕ). endPass m (loopsOf m text nums bytes k) (frameOf m text (laid c nums bytes)) w) e; placed = p }
 
   pub pass-of-count : {r : Head} {nums′ : List ℕ} → (c .depth ≡ 0 → ⊥) → iteration nums (c .depth - 1) .param ≡ 0 → EndsCount c nums (c .depth - 1) r nums′
-      → EndsPass m text (laid c nums bytes) true (laid r nums′ bytes)
+      → EndsPass m text (laid c nums bytes) 0 (laid r nums′ bytes)
   unfolding passStep
   pass-of-count h e q =
       let i : ℕ = c .depth - 1 in
@@ -238,8 +248,8 @@ module _ {m : Marks} {text : Bytes} {c : Head} {nums : List ℕ} {bytes : Bytes}
         placed = q .placed text bytes p (omega arith);
       }
 
-  pub pass-of-pieces : {ok : Bool} {r : Laid} → (c .depth ≡ 0 → ⊥) → (iteration nums (c .depth - 1) .param ≡ 0 → ⊥) → EndsPiece m text (laid c nums bytes) (c .depth - 1) ok r
-      → EndsPass m text (laid c nums bytes) ok r
+  pub pass-of-pieces : {k : ℕ} {r : Laid} → (c .depth ≡ 0 → ⊥) → (iteration nums (c .depth - 1) .param ≡ 0 → ⊥) → EndsPiece m text (laid c nums bytes) (c .depth - 1) k r
+      → EndsPass m text (laid c nums bytes) k r
   unfolding endPass
   pass-of-pieces h e q =
       let i : ℕ = c .depth - 1 in

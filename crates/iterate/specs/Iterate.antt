@@ -1,9 +1,10 @@
 -- What the functions over a call's iterations answer.
 use mathlib.Core.Path.{_≡_}
-use mathlib.Core.Bool.{Bool, true, false}
+use mathlib.Core.Bool.{true, false}
 use mathlib.Core.Option.{some}
 use mathlib.Core.List.{List, _∷_}
 use Prim.Native.Nat.{ℕ, _+_, _-_, _*_, _≤_, _<_}
+use lib.Dec.{eqb}
 use lib.IntN.{ℤ, pos, negsuc}
 use lib.ListN.{length, getD, set, take}
 use Rattle.model.specs.Limits.{lineMost}
@@ -16,9 +17,9 @@ use Rattle.call.specs.declared.Head.{Head}
 use Rattle.call.specs.Call.{firstLoop, loopNumbers, Iteration, iteration, textsAt, restOf, oldOf, loopsOf, Laid, laid, frameOf, PlacedLoop, Placed, paramBytes, loopBytes, callBytes}
 use Rattle.call.specs.Params.{Lies}
 
--- what an answer comes to: the call goes on, or the run ends with 17
-unfoldable pub passStep : Marks → Bytes → Bool → Laid → Shared → Step
-passStep m text ok r w = elim ok [ true ↦ continues (frameOf m text r) w | false ↦ halts 17 w ]
+-- what an answer comes to: the call goes on, or a number ends the run
+unfoldable pub passStep : Marks → Bytes → ℕ → Laid → Shared → Step
+passStep m text k r w = elim (eqb k 0) [ true ↦ continues (frameOf m text r) w | false ↦ halts k w ]
 
 -- ---- numbers and texts
 
@@ -77,13 +78,13 @@ pub record SetsPass (c : Laid) (i : ℕ) (piece : Bytes) (delimiter rest : ℕ) 
   pub frame : (m : Marks) (text : Bytes) → frameOf m text r ≡ passed m text c i piece (delimiterOf delimiter) (part (textsAt (c .bytes) i) rest (iteration (c .nums) i .to))
   pub placed : (text : Bytes) → Placed text c → PassesAt text (c .head) (c .nums) i → rest ≤ iteration (c .nums) i .to → Placed text r
 
--- a pass of the ed7 at place i over the rest of its line
-pub record Passes (m : Marks) (text : Bytes) (c : Laid) (i : ℕ) (ok : Bool) (r : Laid) : Type 0 where
+-- a pass of the ed7 at place i over the rest of its line; k is the number that ends the run, or 0
+pub record Passes (m : Marks) (text : Bytes) (c : Laid) (i : ℕ) (k : ℕ) (r : Laid) : Type 0 where
   pub step : (w : Shared)
       → takePass (iteration (c .nums) i .param) (passOf m (part text (iteration (c .nums) i .list) (iteration (c .nums) i .end)) (restOf (textsAt (c .bytes) i) (iteration (c .nums) i)))
       (part text (iteration (c .nums) i .list) (iteration (c .nums) i .end)) (oldOf (textsAt (c .bytes) i) (iteration (c .nums) i)) (bodyAt m text (iteration (c .nums) i .after))
       (loopsOf m text (c .nums) (c .bytes) i) (frameOf m text c) w
-      ≡ passStep m text ok r w
+      ≡ passStep m text k r w
   pub placed : Placed text r
 
 -- the ed7 of parameter d is laid out at the next place, with n bytes as the old value. c is the call's head; nums and bytes are its
@@ -95,11 +96,11 @@ pub record OpensPass (c : Head) (nums : List ℕ) (bytes : Bytes) (d : ℕ) (lin
   pub numbers : Numbers nums (c .depth) (iterationOf d (c .next) 0 list end (length line) n) nums′
 
 -- ed7: the first pass of parameter d over `line`, with the delimiters text[list..end]. c is the call at entry and r at exit, both as
--- they are laid out; where ok is false a bracket begins no atom
-pub record StartsPass (m : Marks) (text : Bytes) (c : Laid) (d : ℕ) (line : Bytes) (list end : ℕ) (ok : Bool) (r : Laid) : Type 0 where
+-- they are laid out, and k the number that ends the run, or 0
+pub record StartsPass (m : Marks) (text : Bytes) (c : Laid) (d : ℕ) (line : Bytes) (list end : ℕ) (k : ℕ) (r : Laid) : Type 0 where
   pub step : (w : Shared)
       → takePass d (passOf m (part text list end) line) (part text list end) (param (frameOf m text c) d) (frameOf m text c .next) (frameOf m text c .loops) (frameOf m text c) w
-      ≡ passStep m text ok r w
+      ≡ passStep m text k r w
   pub placed : Placed text r
 
 -- eF8 of the eF7 at place i
@@ -110,16 +111,16 @@ pub record EndsCount (c : Head) (nums : List ℕ) (i : ℕ) (r : Head) (nums′ 
   pub placed : (text bytes : Bytes) → Placed text (laid c nums bytes) → i < c .depth → Placed text (laid r nums′ bytes)
 
 -- eF8 of the ed7 at place i
-pub record EndsPiece (m : Marks) (text : Bytes) (c : Laid) (i : ℕ) (ok : Bool) (r : Laid) : Type 0 where
+pub record EndsPiece (m : Marks) (text : Bytes) (c : Laid) (i : ℕ) (k : ℕ) (r : Laid) : Type 0 where
   pub step : (w : Shared)
       → nextPass m (iteration (c .nums) i .param) (restOf (textsAt (c .bytes) i) (iteration (c .nums) i)) (part text (iteration (c .nums) i .list) (iteration (c .nums) i .end))
       (oldOf (textsAt (c .bytes) i) (iteration (c .nums) i)) (bodyAt m text (iteration (c .nums) i .after)) (loopsOf m text (c .nums) (c .bytes) i) (frameOf m text c) w
-      ≡ passStep m text ok r w
+      ≡ passStep m text k r w
   pub placed : Placed text r
 
 -- eF8
-pub record EndsPass (m : Marks) (text : Bytes) (c : Laid) (ok : Bool) (r : Laid) : Type 0 where
-  pub step : (w : Shared) → endPass m (frameOf m text c .loops) (frameOf m text c) w ≡ passStep m text ok r w
+pub record EndsPass (m : Marks) (text : Bytes) (c : Laid) (k : ℕ) (r : Laid) : Type 0 where
+  pub step : (w : Shared) → endPass m (frameOf m text c .loops) (frameOf m text c) w ≡ passStep m text k r w
   pub placed : Placed text r
 
 -- ---- counted iterations

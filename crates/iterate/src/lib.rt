@@ -16,6 +16,7 @@ use call::regain;
 use call::set_delimiter;
 use model::LINE_MOST;
 use model::Marks;
+use pass::choose_fault;
 use pass::take_piece;
 ghost use mathlib.Core.Path.{_≡_};
 ghost use Prim.Native.Nat.{_+_, _≤_, _<_};
@@ -46,9 +47,9 @@ const OLD: usize = 7;
 // Where the first iteration keeps its parameter's old value among the bytes.
 const OLD_VALUES: usize = PARAM_BYTES + LINE_MOST;
 
-// The call after a pass was begun or its iteration ended. Not ok: a bracket begins no atom.
+// The call after a pass was begun or its iteration ended, where the number is 0; otherwise the number that ends the run.
 pub struct Passing {
-    pub ok: bool,
+    pub number: usize,
     pub call: Head,
 }
 
@@ -102,7 +103,7 @@ fn take_pass(
 ) -> Passing
     requires { ⌜ Placed (now text) (laid c (now nums) (now params)) ⌝ }
     requires { ⌜ PassesAt (now text) c (now nums) i ⌝ }
-    ensures { λ r. ⌜ Passes m (now (text .entry)) (laid c (now (nums .entry)) (now (params .entry))) i (r .ok) (laid (r .call) (now (nums .exit)) (now (params .exit))) ⌝ }
+    ensures { λ r. ⌜ Passes m (now (text .entry)) (laid c (now (nums .entry)) (now (params .entry))) i (r .number) (laid (r .call) (now (nums .exit)) (now (params .exit))) ⌝ }
 {
     let x = LOOPS + LOOP_NUMBERS * i;
     let list = nums[x + LIST];
@@ -123,9 +124,10 @@ fn take_pass(
             taken.delimiter,
             taken.rest,
         );
-        return Passing { ok: true, call };
+        return Passing { number: 0, call };
     }
-    Passing { ok: false, call: c }
+    let number = choose_fault(&text[list..end]);
+    Passing { number, call: c }
 }
 
 // The numbers of the iteration at place i.
@@ -201,7 +203,7 @@ pub fn start_pass(
     requires { ⌜ (c .depth < nestingMost) × ((1 ≤ d) × (d ≤ 9)) ⌝ }
     requires { ⌜ (length (now line) ≤ lineMost) × ((list ≤ end) × (end ≤ length (now text))) ⌝ }
     ensures { λ r. ⌜ StartsPass m (now (text .entry)) (laid c (now (nums .entry)) (now (params .entry))) d (now (line .entry)) list end
-        (r .ok) (laid (r .call) (now (nums .exit)) (now (params .exit))) ⌝ }
+        (r .number) (laid (r .call) (now (nums .exit)) (now (params .exit))) ⌝ }
 {
     open_pass(c, nums, params, d, line, list, end);
     take_pass(m, text, c, nums, params, c.depth)
@@ -242,7 +244,7 @@ fn end_piece(
 ) -> Passing
     requires { ⌜ Placed (now text) (laid c (now nums) (now params)) ⌝ }
     requires { ⌜ PassesAt (now text) c (now nums) i ⌝ }
-    ensures { λ r. ⌜ EndsPiece m (now (text .entry)) (laid c (now (nums .entry)) (now (params .entry))) i (r .ok) (laid (r .call) (now (nums .exit)) (now (params .exit))) ⌝ }
+    ensures { λ r. ⌜ EndsPiece m (now (text .entry)) (laid c (now (nums .entry)) (now (params .entry))) i (r .number) (laid (r .call) (now (nums .exit)) (now (params .exit))) ⌝ }
 {
     let x = LOOPS + LOOP_NUMBERS * i;
     if nums[x + FROM] < nums[x + TO] {
@@ -256,21 +258,21 @@ fn end_piece(
         next: c.next,
         depth: i,
     };
-    Passing { ok: true, call }
+    Passing { number: 0, call }
 }
 
 // eF8: the innermost iteration's next pass, or its end.
 pub fn end_pass(m: Marks, text: &[u8], c: Head, nums: &mut [usize], params: &mut [u8]) -> Passing
     requires { ⌜ Placed (now text) (laid c (now nums) (now params)) ⌝ }
-    ensures { λ r. ⌜ EndsPass m (now (text .entry)) (laid c (now (nums .entry)) (now (params .entry))) (r .ok) (laid (r .call) (now (nums .exit)) (now (params .exit))) ⌝ }
+    ensures { λ r. ⌜ EndsPass m (now (text .entry)) (laid c (now (nums .entry)) (now (params .entry))) (r .number) (laid (r .call) (now (nums .exit)) (now (params .exit))) ⌝ }
 {
     if c.depth == 0 {
-        return Passing { ok: true, call: c };
+        return Passing { number: 0, call: c };
     }
     let i = c.depth - 1;
     if nums[LOOPS + LOOP_NUMBERS * i] == 0 {
         let call = end_count(c, nums, i);
-        return Passing { ok: true, call };
+        return Passing { number: 0, call };
     }
     end_piece(m, text, c, nums, params, i)
 }

@@ -1,5 +1,6 @@
--- Each way that a skip ends in a call, and each answer to a line that a call offered. Assumes nothing.
+-- Each way that a skip ends in a call, and each answer to a line that a call offered.
 use mathlib.Core.Path.{_≡_, refl, sym, ap, _∙_, subst}
+use mathlib.Core.Logic.{_⊎_, inl, inr}
 use mathlib.Core.Bool.{false}
 use mathlib.Core.Option.{none}
 use mathlib.Core.List.{List, _∷_}
@@ -19,11 +20,11 @@ use Rattle.state.specs.State.{sharedOf, stateOf}
 use Rattle.call.specs.declared.Head.{Head}
 use Rattle.call.specs.Call.{Laid, laid, frameOf}
 use Rattle.call.specs.Params.{Moves}
-use Rattle.answer.specs.declared.Turn.the-variants.{Continues, Offers, Back, Halts}
 use Rattle.answer.specs.declared.Answer.{Answer}
-use Rattle.answer.specs.Answers.{goesOn, goesBack, endsWith, isLeft, isOffer, settle, nextOf}
+use Rattle.answer.specs.Answers.{Back, Halts, turnOf, turn, goesOn, goesBack, endsWith, isLeft, isOffer, settle, nextAt, nextOf}
 use Rattle.answer.proofs.Coming.{none-placed}
 use Rattle.answer.proofs.Expansion.{skip-same, next-as}
+use Rattle.answer.proofs.Turns.{not-back}
 use Rattle.landing.specs.Landing.{LandsSkip, LandsAnswer}
 
 -- ---- a skip in a call
@@ -39,7 +40,7 @@ skipped m text c n z q s fs o w =
 module _ {m : Marks} {text : Bytes} {c : Head} {n : ℕ} {s : State} {x : Passed} {r : Answer} (p : PassesOver m text (c .next) n x) where
   -- it lands on a line of the body
   pub lands-on : {i : ℕ} {c′ : Head} → x ≡ Landed i → Moves c i c′ → r ≡ goesOn c′ s → LandsSkip m text c n s r
-  unfolding settle nextOf skipFrom stateWith resumeAt
+  unfolding settle nextAt nextOf skipFrom stateWith resumeAt
   lands-on {i} {c′} q moves e = subst (LandsSkip m text c n s) (sym e) record {
     state = refl;
     settled = refl;
@@ -50,7 +51,7 @@ module _ {m : Marks} {text : Bytes} {c : Head} {n : ℕ} {s : State} {x : Passed
 
   -- it goes past the body's end
   pub lands-beyond : {k : ℕ} → x ≡ Beyond k → r ≡ goesBack k s → LandsSkip m text c n s r
-  unfolding nextOf skipFrom
+  unfolding nextAt nextOf skipFrom
   lands-beyond q e = subst (LandsSkip m text c n s) (sym e) record {
     state = refl;
     settled = refl;
@@ -60,7 +61,7 @@ module _ {m : Marks} {text : Bytes} {c : Head} {n : ℕ} {s : State} {x : Passed
 
   -- it ends inside an iteration
   pub lands-badly : x ≡ Bad → r ≡ endsWith 18 s → LandsSkip m text c n s r
-  unfolding settle nextOf skipFrom stateWith
+  unfolding settle nextAt nextOf skipFrom stateWith
   lands-badly q e = subst (LandsSkip m text c n s) (sym e) record {
     state = refl;
     settled = refl;
@@ -71,36 +72,32 @@ module _ {m : Marks} {text : Bytes} {c : Head} {n : ℕ} {s : State} {x : Passed
 -- ---- an answer
 
 module _ {m : Marks} {text : Bytes} {c : Head} {r : Answer} where
-  -- what was offered is done with, and n lines are skipped
-  pub answers-back : {n : ℕ} {a : Answer} → r .turn ≡ Back n → LandsSkip m text c n (r .state) a → LandsAnswer m text c r a
-  unfolding nextOf stateWith
-  answers-back {n} {a} e h = record {
-    state = h .state;
-    settled = λ _. h .settled;
-    placed = λ _ _. h .placed;
-    same = λ _ fs nums bytes line o w.
-        let f = frameOf m text (laid c nums bytes) in
-        next-as m text r (f ∷ fs) nums bytes line o w e
-        ∙ ap settle (skip-same m n (f ∷ fs) fs (sharedOf (r .state) o w) (sharedOf (r .state) o w) (stateOf text none (f ∷ fs) (r .state) o w))
-        ∙ h .same fs nums bytes line o w;
-  }
+  -- what was offered is done with, and lines are skipped
+  pub answers-back : {a : Answer} → r .kind ≡ 2 → LandsSkip m text c (r .count) (r .state) a → LandsAnswer m text c r a
+  unfolding nextOf nextAt stateWith
+  answers-back {a} e h =
+      let back : turn r ≡ Back (r .count) = ap (λ (k : ℕ). turnOf k (r .count)) e in
+      record {
+        state = h .state;
+        settled = λ _. h .settled;
+        placed = λ _ _. h .placed;
+        same = λ _ fs nums bytes line o w.
+            let f = frameOf m text (laid c nums bytes) in
+            next-as m text r (f ∷ fs) nums bytes line o w back
+            ∙ ap settle (skip-same m (r .count) (f ∷ fs) fs (sharedOf (r .state) o w) (sharedOf (r .state) o w) (stateOf text none (f ∷ fs) (r .state) o w))
+            ∙ h .same fs nums bytes line o w;
+      }
 
-  -- the run has ended
-  pub answers-end : {k : ℕ} → r .turn ≡ Halts k → LandsAnswer m text c r r
-  unfolding nextOf
-  answers-end e = record {
-    state = refl;
-    settled = λ _. ap isOffer e;
-    placed = λ f g. false-not-true (sym g ∙ f);
-    same = λ _ fs nums bytes line o w. next-as m text r (frameOf m text (laid c nums bytes) ∷ fs) nums bytes line o w e ∙ sym (next-as m text r fs nums bytes line o w e);
-  }
-
-  -- what leaves no call is no answer to an offer
-  answers-open : isLeft (r .turn) ≡ false → LandsAnswer m text c r r
-  answers-open e = record { state = refl; settled = λ f. false-not-true (sym e ∙ f); placed = λ f. false-not-true (sym e ∙ f); same = λ f. false-not-true (sym e ∙ f) }
-
-  pub answers-on : r .turn ≡ Continues → LandsAnswer m text c r r
-  answers-on e = answers-open (ap isLeft e)
-
-  pub answers-offer : {n : ℕ} → r .turn ≡ Offers n → LandsAnswer m text c r r
-  answers-offer e = answers-open (ap isLeft e)
+  -- any other turn ends the run, or leaves no call and is no answer to an offer
+  pub answers-else : ¬ (r .kind ≡ 2) → LandsAnswer m text c r r
+  unfolding nextAt
+  answers-else e = by (not-back (r .kind) (r .count) e)
+    where
+      by : (isLeft (turn r) ≡ false) ⊎ (turn r ≡ Halts (r .count)) → LandsAnswer m text c r r
+      by (inl f) = record { state = refl; settled = λ g. false-not-true (sym f ∙ g); placed = λ g. false-not-true (sym f ∙ g); same = λ g. false-not-true (sym f ∙ g) }
+      by (inr f) = record {
+        state = refl;
+        settled = λ _. ap isOffer f;
+        placed = λ g h. false-not-true (sym h ∙ g);
+        same = λ _ fs nums bytes line o w. next-as m text r (frameOf m text (laid c nums bytes) ∷ fs) nums bytes line o w f ∙ sym (next-as m text r fs nums bytes line o w f);
+      }

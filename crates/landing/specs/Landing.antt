@@ -12,12 +12,12 @@ use Rattle.state.specs.State.{sharedOf, stateOf}
 use Rattle.call.specs.declared.Head.{Head}
 use Rattle.call.specs.Call.{laid, frameOf, Placed}
 use Rattle.answer.specs.declared.Answer.{Answer}
-use Rattle.answer.specs.Answers.{isLeft, isOffer, settle, nextOf}
+use Rattle.answer.specs.Answers.{turn, isLeft, isOffer, settle, nextOf}
 
 -- r is what a skip of n lines comes to in the call c, for all its numbers and bytes
 pub record LandsSkip (m : Marks) (text : Bytes) (c : Head) (n : ℕ) (s : State) (r : Answer) : Type 0 where
   pub state : r .state ≡ s
-  pub settled : isOffer (r .turn) ≡ false
+  pub settled : isOffer (turn r) ≡ false
   pub placed : (nums : List ℕ) (bytes : Bytes) → Placed text (laid c nums bytes) → Placed text (laid (r .call) nums bytes)
   pub same : (fs : List Frame) (nums : List ℕ) (bytes line o w : Bytes)
       → settle (skipIn m n (frameOf m text (laid c nums bytes) ∷ fs) (sharedOf s o w) (stateOf text none fs s o w)) ≡ nextOf m text fs r nums bytes line o w
@@ -25,7 +25,7 @@ pub record LandsSkip (m : Marks) (text : Bytes) (c : Head) (n : ℕ) (s : State)
 -- a is what the answer r to a line that the call c offered comes to in c, for all its numbers and bytes
 pub record LandsAnswer (m : Marks) (text : Bytes) (c : Head) (r a : Answer) : Type 0 where
   pub state : a .state ≡ r .state
-  pub settled : isLeft (r .turn) ≡ true → isOffer (a .turn) ≡ false
-  pub placed : isLeft (r .turn) ≡ true → isLeft (a .turn) ≡ false → (nums : List ℕ) (bytes : Bytes) → Placed text (laid c nums bytes) → Placed text (laid (a .call) nums bytes)
-  pub same : isLeft (r .turn) ≡ true → (fs : List Frame) (nums : List ℕ) (bytes line o w : Bytes)
+  pub settled : isLeft (turn r) ≡ true → isOffer (turn a) ≡ false
+  pub placed : isLeft (turn r) ≡ true → isLeft (turn a) ≡ false → (nums : List ℕ) (bytes : Bytes) → Placed text (laid c nums bytes) → Placed text (laid (a .call) nums bytes)
+  pub same : isLeft (turn r) ≡ true → (fs : List Frame) (nums : List ℕ) (bytes line o w : Bytes)
       → nextOf m text (frameOf m text (laid c nums bytes) ∷ fs) r nums bytes line o w ≡ nextOf m text fs a nums bytes line o w

@@ -3,7 +3,7 @@ ghost use Prim.Native.Nat.{_≤_};
 ghost use lib.ListN.{length};
 ghost use Rattle.landing.specs.Landing.{LandsSkip, LandsAnswer};
 use answer::Answer;
-use answer::Turn;
+use answer::BACK;
 use answer::end_with;
 use answer::go_back;
 use answer::go_on;
@@ -24,17 +24,13 @@ pub fn land_skip(m: Marks, text: &[u8], call: Head, n: usize, s: State) -> Answe
     }
 }
 
-// What the answer r to a line that a call offered comes to in that call.
-pub fn land(m: Marks, text: &[u8], call: Head, r: Answer) -> Answer
-    requires { ⌜ call .next ≤ length (now text) ⌝ }
-    ensures { λ a. ⌜ LandsAnswer m (now (text .entry)) call r a ⌝ }
+// What the answer r comes to in the call whose answer q offered a line.
+pub fn land(m: Marks, text: &[u8], q: Answer, r: Answer) -> Answer
+    requires { ⌜ q .call .next ≤ length (now text) ⌝ }
+    ensures { λ a. ⌜ LandsAnswer m (now (text .entry)) (q .call) r a ⌝ }
 {
-    let turn = r.turn;
-    let s = r.state;
-    match turn {
-        Turn::Continues => r,
-        Turn::Offers(_) => r,
-        Turn::Back(n) => land_skip(m, text, call, n, s),
-        Turn::Halts(_) => r,
+    if r.kind == BACK {
+        return land_skip(m, text, q.call, r.count, r.state);
     }
+    r
 }

@@ -10,7 +10,7 @@ use lib.ListN.{length, getD, set, length-append, length-set, List·getD-append}
 use lib.Seq.{getD-at, getD-set-same, getD-set-other}
 use Rattle.model.specs.declared.Marks.{Marks}
 use Rattle.model.specs.Text.{Bytes, part}
-use Rattle.model.specs.Load.{Macro, noMacro, templates, bodyAt}
+use Rattle.model.specs.Load.{noMacro, templates, bodyAt}
 use Rattle.model.proofs.Loading.{templates-snoc}
 use Rattle.macros.specs.Table.{Table, tableSize, startIn, lenIn, lineIn, bodyIn, withMacro, HasBodies, templateIn, templatesIn, macroIn, macrosIn, Entries, EntriesInside}
 

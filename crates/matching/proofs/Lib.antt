@@ -1,2 +1,3 @@
 -- Laws of matching a line.
+mod Deciding
 pub mod Matching

@@ -1,9 +1,11 @@
--- What opening a reading of a line answers.
+-- What an offered line comes to up to a call, and what opening its reading answers.
 use mathlib.Core.Path.{_≡_}
+use mathlib.Core.Bool.{true, false}
 use mathlib.Core.Option.{some}
 use mathlib.Core.List.{List, []}
 use Prim.Native.Nat.{ℕ, _≤_, _<_}
 use lib.ListN.{length, getD, take, replicate}
+use Rattle.model.specs.Limits.{callsMost}
 use Rattle.model.specs.declared.Marks.{Marks}
 use Rattle.model.specs.Text.{Bytes}
 use Rattle.model.specs.Reading.{Reading, chosen}
@@ -14,6 +16,19 @@ use Rattle.call.specs.declared.Call.{Call}
 use Rattle.call.specs.Call.{openedOf}
 use Rattle.call.specs.Params.{PiecesInside, Opens}
 use Rattle.fit.specs.declared.Choice.{Choice}
+use Rattle.state.specs.declared.State.{State}
+use Rattle.state.specs.State.{countedEvent}
+use Rattle.answer.specs.declared.Answer.{Answer}
+use Rattle.answer.specs.Answers.{noCall, goesOn, goesBack, endsWith}
+use Rattle.write.specs.Output.{WritesLine}
+
+-- a is what the first n bytes of a line come to by their reading c, with `depth` calls open, up to the opening of a call; output′ is the
+-- output after it
+pub record Decides (c : Choice) (line : Bytes) (n depth : ℕ) (s : State) (output : Bytes) (a : Answer) (output′ : Bytes) : Type 0 where
+  pub spent : s .fuel ≡ 0 → (a ≡ endsWith 20 s) × (output′ ≡ output)
+  pub writes : 0 < s .fuel → c .found ≡ false → WritesLine line n (goesBack 0 (countedEvent s)) output a output′
+  pub deep : 0 < s .fuel → c .found ≡ true → depth ≡ callsMost → (a ≡ endsWith 14 (countedEvent s)) × (output′ ≡ output)
+  pub opens : 0 < s .fuel → c .found ≡ true → ¬ (depth ≡ callsMost) → (a ≡ goesOn noCall (countedEvent s)) × (output′ ≡ output)
 
 -- the pieces of a choice lie in the first n bytes of a line, and its template has a body
 pub record Opening (bodies : List ℕ) (line : Bytes) (n : ℕ) (c : Choice) : Type 0 where

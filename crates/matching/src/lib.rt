@@ -1,17 +1,65 @@
-// The call that a reading of a line opens (document 01, "Fitting a line"). open_reading asks what a choice of `fit` has in a text that is
-// loaded: its pieces lie in the line's first n bytes, and its template has a body (`Opening`).
-ghost use Rattle.matching.specs.Matches.{Opening, Opened};
+// What an offered line comes to up to a call, and the call that its reading opens (document 01, "Fitting a line" and "Events, store and
+// result"). open_reading asks what a choice of `fit` has in a text that is loaded: its pieces lie in the line's first n bytes, and its
+// template has a body (`Opening`).
+ghost use Prim.Native.Nat.{_+_, _≤_};
+ghost use mathlib.Core.Path.{_≡_};
+ghost use lib.ListN.{length};
+ghost use Rattle.model.specs.Limits.{fuelMost};
+ghost use Rattle.state.specs.State.{withCall};
+ghost use Rattle.matching.specs.Matches.{Decides, Opening, Opened};
+use answer::Answer;
+use answer::end_with;
+use answer::go_on;
 use call::Call;
+use call::Head;
 use fit::Choice;
+use model::CALLS_MOST;
+use state::State;
+use state::add_call;
+use state::count_event;
+use write::pass_through;
 
-// A call of the body of a reading's template, with the pieces of the first n bytes of a line as its parameters.
-pub fn open_reading(bodies: &[usize], line: &[u8], n: usize, c: Choice, number: usize) -> Call
+// What the first n bytes of a line come to by their reading, with `depth` calls open: the run is spent; without a reading the line is
+// written; a call more is one too many; or a call is to be opened, and the answer, which goes on, has the event counted.
+pub fn decide(c: Choice, line: &[u8], n: usize, output: &mut [u8], depth: usize, s: State) -> Answer
+    requires { ⌜ (n ≤ length (now line)) × (s .written ≤ length (now output)) × (s .events + s .fuel ≤ fuelMost) ⌝ }
+    ensures { λ a. ⌜ Decides c (now (line .entry)) n depth s (now (output .entry)) a (now (output .exit)) ⌝ }
+{
+    if s.fuel == 0 {
+        return end_with(20, s);
+    }
+    let t = count_event(s);
+    if !c.found {
+        return pass_through(line, n, output, t);
+    }
+    if depth == CALLS_MOST {
+        return end_with(14, t);
+    }
+    let none = Head {
+        number: 0,
+        next: 0,
+        depth: 0,
+    };
+    go_on(none, t)
+}
+
+// The state of an answer, with a call more counted.
+pub fn count_call(a: Answer) -> State
+    requires { ⌜ a .state .calls ≤ fuelMost ⌝ }
+    ensures { λ r. ⌜ r ≡ withCall (a .state) ⌝ }
+{
+    add_call(a.state)
+}
+
+// A call of the body of a reading's template, with the pieces of the first n bytes of a line as its parameters. Its number is that of
+// the last call that s counts.
+pub fn open_reading(bodies: &[usize], line: &[u8], n: usize, c: Choice, s: State) -> Call
     requires { ⌜ Opening (now bodies) (now line) n c ⌝ }
-    ensures { λ r. ⌜ Opened (now (bodies .entry)) (now (line .entry)) n c number r ⌝ }
+    ensures { λ r. ⌜ Opened (now (bodies .entry)) (now (line .entry)) n c (s .calls) r ⌝ }
 {
     let template = c.template;
     let next = bodies[template];
     let starts = c.starts;
     let lens = c.lens;
-    call::open_call(number, next, &line[0..n], starts, lens)
+    call::open_call(s.calls, next, &line[0..n], starts, lens)
 }

@@ -1,4 +1,4 @@
--- What a test decides: the two truth values differ, a definition that goes by a test, and two tests together. Assumes nothing.
+-- What a test decides: the two truth values differ, a definition that goes by a test, and two tests together.
 use mathlib.Core.Path.{_≡_, refl, sym, subst}
 use mathlib.Core.Bool.{Bool, true, false, _&&_, _||_}
 use Prim.Native.Nat.{ℕ}

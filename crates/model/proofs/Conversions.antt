@@ -1,6 +1,5 @@
--- A conversion's digit names it, and nothing else does. Assumes nothing.
+-- A conversion's digit names it, and nothing else does.
 use mathlib.Core.Path.{_≡_, refl}
-use mathlib.Core.Bool.{true, false}
 use mathlib.Core.Logic.{_↔_}
 use mathlib.Core.Option.{Option, some}
 use mathlib.Core.List.{List, [], _∷_}
@@ -9,7 +8,7 @@ use native.Mathlib.Omega.{arith}
 use borrow.Author.Tests.{eqb-true}
 use lib.Dec.{eqb}
 use Rattle.model.specs.declared.Conversion.{Conversion}
-use Rattle.model.specs.declared.Conversion.the-variants.{Itself, StoredText, Symbol, LatestDelimiter, ExpressionValue, Length, ByteValue}
+use Rattle.model.specs.declared.Conversion.the-variants.{Itself, StoredText, Symbol, LatestDelimiter, ExpressionValue, Length, CodePoint}
 use Rattle.model.specs.Code.{digitOf, conversions, firstNamed, conversionOf}
 use Rattle.model.proofs.Choices.{split}
 
@@ -22,7 +21,7 @@ digit-names Symbol = refl
 digit-names LatestDelimiter = refl
 digit-names ExpressionValue = refl
 digit-names Length = refl
-digit-names ByteValue = refl
+digit-names CodePoint = refl
 
 -- a byte that names one of these conversions is its digit
 first-named : (b : ℕ) (cs : List Conversion) (c : Conversion) → firstNamed b cs ≡ some c → b ≡ 48 + digitOf c

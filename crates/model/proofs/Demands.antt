@@ -52,7 +52,7 @@ module _ (text : Bytes) (t : Loaded) (loads : load text ≡ loaded t) (fuel : �
     exactly-spent = (λ e. exactly-spent fuel room t .0 (sym number ∙ e), λ p. number ∙ exactly-spent fuel room t .1 p);
     numbered = rw number (begun-numbered fuel room t);
     offers = run-offers text t loads fuel room;
-    events = omega (arith, events, run-events fuel room t .0);
+    events = omega (arith, events, run-events fuel room t);
     used = λ e. events ∙ spent-events fuel room t (sym number ∙ e);
     same = λ g l z. runs-as (sym (fuel-enough fuel g room (loaded t) l (λ e. z (number ∙ e))));
     adds = λ g l e. rw wrote (fuel-spent fuel g room (loaded t) l (sym number ∙ e));

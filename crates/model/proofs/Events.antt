@@ -3,13 +3,14 @@
 use mathlib.Core.Path.{_≡_, refl, ap, sym, _∙_, subst}
 use mathlib.Core.Logic.{_↔_}
 use mathlib.Core.List.{[]}
-use Prim.Native.Nat.{ℕ, zero, suc, _+_, _≤_, _<_}
+use Prim.Native.Nat.{ℕ, zero, suc, _+_, _≤_}
 use native.Mathlib.Omega.{arith}
 use Rattle.model.specs.Load.{Loaded, loaded}
 use Rattle.model.specs.Machine.{State, Next, running, ended, ready, event, follow, after, initial, Result, resultOf, outcome, run}
 use Rattle.model.specs.Demands.{EndsInFuel, GoesBeyond}
 use Rattle.model.proofs.Fuel.{Later, ready-later, event-later, after-ended, after-sum, after-since, Since, run-ended, run-spent}
 use Rattle.model.proofs.Steps.{after-event}
+use Rattle.model.proofs.NumberTable.{ended-unspent}
 
 -- ---- one event
 
@@ -67,15 +68,10 @@ module _ (n room : ℕ) (t : Loaded) where
 -- ---- ended or spent
 
 module _ (f room : ℕ) (t : Loaded) where
-  -- no expansion ends with 20
-  ended-below : (n k : ℕ) (s : State) → after n room t (running (initial t)) ≡ ended k s → k < 20
-  unfolding initial
-  ended-below n k s e = (subst (Since [] 0 n) e (after-since n room t (initial t))) .2
-
   -- a run's number is other than 20 exactly when the expansion ends within as many events as the fuel
   pub exactly-ended : (¬ (run f room (loaded t) .number ≡ 20)) ↔ EndsInFuel f room t
   unfolding run outcome resultOf
-  exactly-ended = (by (after f room t (running (initial t))) refl, λ p q. absurd (omega (arith, ended-below (p .0) (p .1) (p .2) (p .4), sym (number p) ∙ q)))
+  exactly-ended = (by (after f room t (running (initial t))) refl, λ p q. ended-unspent (p .0) room t (p .1) (p .2) (p .4) (sym (number p) ∙ q))
     where
       number : (p : EndsInFuel f room t) → run f room (loaded t) .number ≡ p .1
       number p = ap (λ (r : Result). r .number) (run-ended f room t (p .0) (p .1) (p .2) (omega (arith, p .3)) (p .4))
@@ -91,4 +87,4 @@ module _ (f room : ℕ) (t : Loaded) where
     where
       by : (x : Next) → after f room t (running (initial t)) ≡ x → outcome x .number ≡ 20 → GoesBeyond f room t
       by (running s) e z = (s, e)
-      by (ended k s) e z = absurd (omega (arith, ended-below f k s e))
+      by (ended k s) e z = absurd (ended-unspent f room t k s e z)

@@ -4,7 +4,7 @@ use mathlib.Core.Path.{_≡_, refl, ap, sym, _∙_, subst}
 use mathlib.Core.Bool.{Bool, true, false}
 use mathlib.Core.Option.{Option, none, some}
 use mathlib.Core.List.{List, [], _∷_, _++_, append-assoc, append-nil}
-use Prim.Native.Nat.{ℕ, zero, suc, _+_, _-_, _≤_, _<_}
+use Prim.Native.Nat.{ℕ, zero, suc, _+_, _-_, _≤_}
 use native.Mathlib.Nat.{zero-add, suc-add, add-sub-of-le}
 use native.Mathlib.Omega.{arith}
 use lib.Dec.{eqb, leb}
@@ -15,14 +15,15 @@ use Rattle.model.specs.Text.{Grows, Bytes, upTo}
 use Rattle.model.specs.Reading.{Reading, chosen}
 use Rattle.model.specs.Code.{Code, Part, Ending, byte, serial, convert, offer, assign, iterate, stop, write, layout, save, skip, skipText, skipValue, repeat, again, leave, malformed}
 use Rattle.model.specs.declared.Conversion.{Conversion}
-use Rattle.model.specs.declared.Conversion.the-variants.{Itself, StoredText, Symbol, LatestDelimiter, ExpressionValue, Length, ByteValue}
+use Rattle.model.specs.declared.Conversion.the-variants.{Itself, StoredText, Symbol, LatestDelimiter, ExpressionValue, Length, CodePoint}
 use Rattle.model.specs.declared.Comparison.{Comparison}
 use Rattle.model.specs.Store.{put, within, decimal}
 use Rattle.model.specs.Value.{written}
 use Rattle.model.specs.Load.{templates, Macro, Loaded, Load, refused, loaded}
-use Rattle.model.specs.Machine.{Loop, byPieces, byCount, Frame, Shared, Step, continues, offers, skips, leaves, halts, withStore, Building, built, failed, add, addSymbol, addValue, addLength, addByteValue, addConverted, addPart, build, Piece, takePass, nextPass, endPass, startRepeat, output, writeTo, writeLayout, saveText, skipBy, skipIf, skipCompared, finish, finishBuilt, carryOut, State, Next, running, ended, stateWith, Passed, landed, beyond, badLanding, passOver, skipIn, call, passThrough, offered, stepped, unfinished, readInput, ready, beginLine, counted, event, after, initial, resultOf, outcome, run, skipFrom, offeredAs, beginAt, eventFor, measured, readyIn, readyFor, closed, follow}
+use Rattle.model.specs.Machine.{Loop, byPieces, byCount, Frame, Shared, Step, continues, offers, skips, leaves, halts, withStore, Building, built, failed, add, addSymbol, addValue, addLength, addCodePoint, addConverted, addPart, build, Piece, takePass, nextPass, endPass, startRepeat, output, writeTo, writeLayout, saveText, skipBy, skipIf, skipCompared, finish, finishBuilt, carryOut, State, Next, running, ended, stateWith, Passed, landed, beyond, badLanding, passOver, skipIn, call, passThrough, offered, stepped, unfinished, readInput, ready, beginLine, counted, event, after, initial, resultOf, outcome, run, skipFrom, offeredAs, beginAt, eventFor, measured, readyIn, readyFor, closed, follow}
 use Rattle.model.specs.Text.{Grows}
 use Rattle.model.proofs.Choices.{both}
+use Rattle.model.proofs.NumberTable.{ended-unspent}
 
 -- ---- tools
 
@@ -38,41 +39,43 @@ grows-eq a b e = ([], e ∙ sym (append-nil a))
 pub grows-trans : (a b c : Bytes) → Grows a b → Grows b c → Grows a c
 grows-trans a b c p q = (p .0 ++ q .0, (q .1) ∙ (ap (λ (l : Bytes). l ++ q .0) (p .1) ∙ append-assoc a (p .0) (q .0)))
 
--- ---- building a line writes nothing, and fails with a number below 20
+-- ---- building a line writes nothing
 
--- the output is o, and a failure's number is below 20
+-- the output is o
 abbrev pub Kept : Bytes → Building → Type 0
 Kept o (built l v) = v .output ≡ o
-Kept o (failed n v) = (v .output ≡ o) × (n < 20)
+Kept o (failed n v) = v .output ≡ o
 
 -- adding bytes writes nothing
 pub add-kept : (l s : Bytes) (w : Shared) → Kept (w .output) (add l s w)
 unfolding add
-add-kept l s w = both (Kept (w .output)) (leb (length l + length s) 200) _ _ refl (refl, omega arith)
+add-kept l s w = both (Kept (w .output)) (leb (length l + length s) 200) _ _ refl refl
 
 -- nor does ed2
 pub addSymbol-kept : (l name : Bytes) (o : Option Bytes) (w : Shared) → Kept (w .output) (addSymbol l name o w)
 unfolding addSymbol
 addSymbol-kept l name (some s) w = add-kept l s w
-addSymbol-kept l name none w = both (Kept (w .output)) (within (put name (decimal (suc (w .symbols))) (w .store))) _ _ (add-kept l _ _) (refl, omega arith)
+addSymbol-kept l name none w = both (Kept (w .output)) (within (put name (decimal (suc (w .symbols))) (w .store))) _ _ (add-kept l _ _) refl
 
 -- nor does ed4
 pub addValue-kept : (m : Marks) (l : Bytes) (o : Option ℤ) (w : Shared) → Kept (w .output) (addValue m l o w)
 unfolding addValue
-addValue-kept m l none w = (refl, omega arith)
+addValue-kept m l none w = refl
 addValue-kept m l (some v) w = add-kept l (written m v) w
 
 -- nor does ed5
-pub addLength-kept : (l s : Bytes) (w : Shared) → Kept (w .output) (addLength l s w)
+pub addLength-kept : (l : Bytes) (o : Option (List ℕ)) (w : Shared) → Kept (w .output) (addLength l o w)
 unfolding addLength
-addLength-kept l s w = add-kept l _ w
+addLength-kept l none w = refl
+addLength-kept l (some vs) w = add-kept l _ w
 
 -- nor does ed8
-pub addByteValue-kept : (l s : Bytes) (w : Shared) → Kept (w .output) (addByteValue l s w)
-unfolding addByteValue
-addByteValue-kept l [] w = (refl, omega arith)
-addByteValue-kept l (x ∷ []) w = add-kept l (decimal x) w
-addByteValue-kept l (x ∷ y ∷ s) w = (refl, omega arith)
+pub addCodePoint-kept : (l : Bytes) (o : Option (List ℕ)) (w : Shared) → Kept (w .output) (addCodePoint l o w)
+unfolding addCodePoint
+addCodePoint-kept l none w = refl
+addCodePoint-kept l (some []) w = refl
+addCodePoint-kept l (some (v ∷ [])) w = add-kept l _ w
+addCodePoint-kept l (some (v ∷ u ∷ vs)) w = refl
 
 -- nor does any conversion of a parameter
 pub addConverted-kept : (m : Marks) (f : Frame) (d : ℕ) (c : Conversion) (l : Bytes) (w : Shared) → Kept (w .output) (addConverted m f d c l w)
@@ -83,7 +86,7 @@ addConverted-kept m f d Symbol l w = addSymbol-kept l _ _ w
 addConverted-kept m f d LatestDelimiter l w = add-kept l _ w
 addConverted-kept m f d ExpressionValue l w = addValue-kept m l _ w
 addConverted-kept m f d Length l w = addLength-kept l _ w
-addConverted-kept m f d ByteValue l w = addByteValue-kept l _ w
+addConverted-kept m f d CodePoint l w = addCodePoint-kept l _ w
 
 -- nor does any part of a code line
 pub addPart-kept : (m : Marks) (f : Frame) (p : Part) (l : Bytes) (w : Shared) → Kept (w .output) (addPart m f p l w)
@@ -103,20 +106,20 @@ build-kept m f (p ∷ ps) l w = then (addPart m f p l w) (addPart-kept m f p l w
     then (built k v) e ih = rw (← e) (ih k v)
     then (failed n v) e ih = e
 
--- ---- carrying out a code line only adds to the output, and ends with a number below 20
+-- ---- carrying out a code line only adds to the output
 
--- the output begins with o, and the number of an end is below 20
+-- the output begins with o
 abbrev pub Adds : Bytes → Step → Type 0
 Adds o (continues f v) = Grows o (v .output)
 Adds o (offers l f v) = Grows o (v .output)
 Adds o (skips n f v) = Grows o (v .output)
 Adds o (leaves v) = Grows o (v .output)
-Adds o (halts k v) = Grows o (v .output) × (k < 20)
+Adds o (halts k v) = Grows o (v .output)
 
 -- a pass
 pub takePass-adds : (d : ℕ) (p : Option Piece) (ds old : Bytes) (after : List Bytes) (ls : List Loop) (f : Frame) (w : Shared) → Adds (w .output) (takePass d p ds old after ls f w)
 unfolding takePass
-takePass-adds d none ds old after ls f w = (grows-refl _, omega arith)
+takePass-adds d none ds old after ls f w = grows-refl _
 takePass-adds d (some p) ds old after ls f w = grows-refl _
 
 -- the next pass
@@ -136,7 +139,7 @@ endPass-adds m (byPieces d rest ds old after ∷ ls) f w = nextPass-adds m d res
 -- eF7
 pub startRepeat-adds : (m : Marks) (v : Option ℤ) (f : Frame) (w : Shared) → Adds (w .output) (startRepeat m v f w)
 unfolding startRepeat
-startRepeat-adds m none f w = (grows-refl _, omega arith)
+startRepeat-adds m none f w = grows-refl _
 startRepeat-adds m (some (pos zero)) f w = grows-refl _
 startRepeat-adds m (some (pos (suc n))) f w = grows-refl _
 startRepeat-adds m (some (negsuc n)) f w = grows-refl _
@@ -144,7 +147,7 @@ startRepeat-adds m (some (negsuc n)) f w = grows-refl _
 -- a line written
 pub output-adds : (room : ℕ) (l : Bytes) (f : Frame) (w : Shared) → Adds (w .output) (output room l f w)
 unfolding output
-output-adds room l f w = both (Adds (w .output)) (leb (length (w .output) + length l + 1) room) _ _ (l ++ (10 ∷ []), refl) (grows-refl _, omega arith)
+output-adds room l f w = both (Adds (w .output)) (leb (length (w .output) + length l + 1) room) _ _ (l ++ (10 ∷ []), refl) (grows-refl _)
 
 -- a line written to a channel
 pub writeTo-adds : (room ch : ℕ) (l : Bytes) (f : Frame) (w : Shared) → Adds (w .output) (writeTo room ch l f w)
@@ -160,14 +163,14 @@ writeLayout-adds room m ch (c ∷ cs) f w = writeTo-adds room ch _ _ w
 -- a text stored
 pub saveText-adds : (name text : Bytes) (f : Frame) (w : Shared) → Adds (w .output) (saveText name text f w)
 unfolding saveText withStore
-saveText-adds name text f w = both (Adds (w .output)) (within (put name text (w .store))) _ _ (grows-refl _) (grows-refl _, omega arith)
+saveText-adds name text f w = both (Adds (w .output)) (within (put name text (w .store))) _ _ (grows-refl _) (grows-refl _)
 
 -- a skip
 pub skipBy-adds : (v : Option ℤ) (f : Frame) (w : Shared) → Adds (w .output) (skipBy v f w)
 unfolding skipBy
-skipBy-adds none f w = (grows-refl _, omega arith)
+skipBy-adds none f w = grows-refl _
 skipBy-adds (some (pos n)) f w = grows-refl _
-skipBy-adds (some (negsuc n)) f w = (grows-refl _, omega arith)
+skipBy-adds (some (negsuc n)) f w = grows-refl _
 
 -- a skip on a condition
 pub skipIf-adds : (m : Marks) (b : Bool) (f : Frame) (w : Shared) → Adds (w .output) (skipIf m b f w)
@@ -177,8 +180,8 @@ skipIf-adds m b f w = both (Adds (w .output)) b _ _ (skipBy-adds _ f w) (grows-r
 -- a skip on a comparison
 pub skipCompared-adds : (m : Marks) (o : Comparison) (a b : Option ℤ) (f : Frame) (w : Shared) → Adds (w .output) (skipCompared m o a b f w)
 unfolding skipCompared
-skipCompared-adds m o none b f w = (grows-refl _, omega arith)
-skipCompared-adds m o (some a) none f w = (grows-refl _, omega arith)
+skipCompared-adds m o none b f w = grows-refl _
+skipCompared-adds m o (some a) none f w = grows-refl _
 skipCompared-adds m o (some a) (some b) f w = skipIf-adds m _ f w
 
 -- what is done at a code line's end
@@ -187,7 +190,7 @@ unfolding finish
 finish-adds room m offer l f w = grows-refl _
 finish-adds room m (assign d) l f w = grows-refl _
 finish-adds room m (iterate d ds) l f w = takePass-adds d _ ds _ _ _ f w
-finish-adds room m stop l f w = (grows-refl _, omega arith)
+finish-adds room m stop l f w = grows-refl _
 finish-adds room m (write ch) l f w = writeTo-adds room ch l f w
 finish-adds room m (layout ch) l f w = writeLayout-adds room m ch _ f w
 finish-adds room m save l f w = saveText-adds _ _ f w
@@ -206,14 +209,14 @@ carryOut-adds room m c f w = then (build m f (c .parts) [] w) (build-kept m f (c
   where
     then : (b : Building) → Kept (w .output) b → Adds (w .output) (finishBuilt room m (c .ending) f b)
     then (built l v) e = rw (← e) (finish-adds room m (c .ending) l f v)
-    then (failed n v) e = (grows-eq _ _ (e .0), e .1)
+    then (failed n v) e = grows-eq _ _ e
 
 -- ---- an event and what comes without one: the output before is a beginning of that after, and this many events are counted by then
 
--- the output begins with o, e events are counted, and the number of an end is below 20
+-- the output begins with o, and e events are counted
 abbrev pub Later : Bytes → ℕ → Next → Type 0
 Later o e (running s) = Grows o (s .shared .output) × (s .events ≡ e)
-Later o e (ended k s) = Grows o (s .shared .output) × (s .events ≡ e) × (k < 20)
+Later o e (ended k s) = Grows o (s .shared .output) × (s .events ≡ e)
 
 -- a skip in one call
 pub skipFrom-later : (o : Bytes) (f : Frame) (fs : List Frame) (w : Shared) (s : State) (out : ℕ → Next) (p : Passed)
@@ -221,7 +224,7 @@ pub skipFrom-later : (o : Bytes) (f : Frame) (fs : List Frame) (w : Shared) (s :
 unfolding skipFrom stateWith
 skipFrom-later o f fs w s out (landed cs) g h = (g, refl)
 skipFrom-later o f fs w s out (beyond k) g h = h k
-skipFrom-later o f fs w s out badLanding g h = (g, refl, omega arith)
+skipFrom-later o f fs w s out badLanding g h = (g, refl)
 
 -- a skip through the open calls
 pub skipIn-later : (m : Marks) (o : Bytes) (n : ℕ) (fs : List Frame) (w : Shared) (s : State) → Grows o (w .output) → Later o (s .events) (skipIn m n fs w s)
@@ -236,17 +239,17 @@ stepped-later m o fs (continues f w) s g = (g, refl)
 stepped-later m o fs (offers l f w) s g = (g, refl)
 stepped-later m o fs (skips n f w) s g = skipIn-later m o n (f ∷ fs) w s g
 stepped-later m o fs (leaves w) s g = (g, refl)
-stepped-later m o fs (halts k w) s g = (g .0, refl, g .1)
+stepped-later m o fs (halts k w) s g = (g, refl)
 
 -- a line without a reading
 pub passThrough-later : (room : ℕ) (l : Bytes) (s : State) → Later (s .shared .output) (s .events) (passThrough room l s)
 unfolding passThrough stateWith
-passThrough-later room l s = both (Later (s .shared .output) (s .events)) (leb (length (s .shared .output) + length l + 1) room) _ _ ((l ++ (10 ∷ []), refl), refl) (grows-refl _, refl, omega arith)
+passThrough-later room l s = both (Later (s .shared .output) (s .events)) (leb (length (s .shared .output) + length l + 1) room) _ _ ((l ++ (10 ∷ []), refl), refl) (grows-refl _, refl)
 
 -- a call
 pub call-later : (x : Macro) (ps : List Bytes) (s : State) → Later (s .shared .output) (s .events) (call x ps s)
 unfolding call
-call-later x ps s = both (Later (s .shared .output) (s .events)) (leb 12 (length (s .frames))) _ _ (grows-refl _, refl, omega arith) (grows-refl _, refl)
+call-later x ps s = both (Later (s .shared .output) (s .events)) (leb 12 (length (s .frames))) _ _ (grows-refl _, refl) (grows-refl _, refl)
 
 -- a line offered, with its reading or none
 pub offeredAs-later : (room : ℕ) (t : Loaded) (l : Bytes) (s : State) (o : Option Reading) → Later (s .shared .output) (s .events) (offeredAs room t l s o)
@@ -281,12 +284,12 @@ event-later room t s = eventFor-later room t s (s .pending)
 pub measured-later : (s : State) (c : Bytes) (b : Bool) → Later (s .shared .output) (s .events) (measured s c b)
 unfolding measured
 measured-later s c true = (grows-refl _, refl)
-measured-later s c false = (grows-refl _, refl, omega arith)
+measured-later s c false = (grows-refl _, refl)
 
 -- an input line read
 pub readInput-later : (m : Marks) (ls : List Bytes) (s : State) → Later (s .shared .output) (s .events) (readInput m ls s)
 unfolding readInput stateWith
-readInput-later m [] s = (grows-refl _, refl, omega arith)
+readInput-later m [] s = (grows-refl _, refl)
 readInput-later m (l ∷ ls) s = measured-later _ (upTo (m .source) l) (leb (length (upTo (m .source) l)) 200)
 
 -- with these calls open
@@ -408,10 +411,10 @@ ended-stays n j room t x k s e = rw (after-sum, e) (after-ended j room t k s)
 
 -- ---- 2 and 3. output only grows; events are counted
 
--- n events later: the output begins with o; a machine that goes on has counted n, an ended one at most n, with a number below 20
+-- n events later: the output begins with o; a machine that goes on has counted n, an ended one at most n
 abbrev pub Since : Bytes → ℕ → ℕ → Next → Type 0
 Since o e n (running s) = Grows o (s .shared .output) × (s .events ≡ e + n)
-Since o e n (ended k s) = Grows o (s .shared .output) × (s .events ≤ e + n) × (k < 20)
+Since o e n (ended k s) = Grows o (s .shared .output) × (s .events ≤ e + n)
 
 -- n events later, by what is reached
 pub after-since : (n room : ℕ) (t : Loaded) (s : State) → Since (s .shared .output) (s .events) n (after n room t (running s))
@@ -420,13 +423,13 @@ after-since zero room t s = by (ready (t .marks) s) (ready-later (t .marks) s)
   where
     by : (r : Next) → Later (s .shared .output) (s .events) r → Since (s .shared .output) (s .events) 0 r
     by (running s′) h = (h .0, omega arith)
-    by (ended k s′) h = (h .0, omega arith, h .2)
+    by (ended k s′) h = (h .0, omega arith)
 after-since (suc n) room t s = by (ready (t .marks) s) (ready-later (t .marks) s) (λ s′. after-since n room t s′)
   where
     byEvent : (s′ : State) (r : Next) → Grows (s .shared .output) (s′ .shared .output) → s′ .events ≡ s .events → Later (s′ .shared .output) (suc (s′ .events)) r
         → ((s″ : State) → Since (s″ .shared .output) (s″ .events) n (after n room t (running s″)))
         → Since (s .shared .output) (s .events) (suc n) (after n room t r)
-    byEvent s′ (ended k s″) g e h ih = rw (after-ended n room t k s″) (grows-trans (s .shared .output) (s′ .shared .output) (s″ .shared .output) g (h .0), omega arith, h .2)
+    byEvent s′ (ended k s″) g e h ih = rw (after-ended n room t k s″) (grows-trans (s .shared .output) (s′ .shared .output) (s″ .shared .output) g (h .0), omega arith)
     byEvent s′ (running s″) g e h ih = widen (after n room t (running s″)) (ih s″)
       where
         g′ : Grows (s .shared .output) (s″ .shared .output)
@@ -434,11 +437,11 @@ after-since (suc n) room t s = by (ready (t .marks) s) (ready-later (t .marks) s
 
         widen : (r : Next) → Since (s″ .shared .output) (s″ .events) n r → Since (s .shared .output) (s .events) (suc n) r
         widen (running x) k = (grows-trans (s .shared .output) (s″ .shared .output) (x .shared .output) g′ (k .0), omega arith)
-        widen (ended j x) k = (grows-trans (s .shared .output) (s″ .shared .output) (x .shared .output) g′ (k .0), omega arith, k .2)
+        widen (ended j x) k = (grows-trans (s .shared .output) (s″ .shared .output) (x .shared .output) g′ (k .0), omega arith)
 
     by : (r : Next) → Later (s .shared .output) (s .events) r → ((s″ : State) → Since (s″ .shared .output) (s″ .events) n (after n room t (running s″)))
         → Since (s .shared .output) (s .events) (suc n) (follow (λ s′. after n room t (event room t s′)) r)
-    by (ended k s′) h ih = (h .0, omega arith, h .2)
+    by (ended k s′) h ih = (h .0, omega arith)
     by (running s′) h ih = byEvent s′ (event room t s′) (h .0) (h .1) (event-later room t s′) ih
 
 -- what was spent is gone on with: later output begins with it
@@ -475,23 +478,23 @@ fuel-spent f g room (loaded t) h e = rw (more-fuel f g room t (running (initial 
     by (running s) = grown (s .shared .output) (g - f) (s .events) (after (g - f) room t (running s)) (after-since (g - f) room t s)
     by (ended k s) = rw (after-ended (g - f) room t k s) (grows-refl (s .shared .output))
 
--- a run counts no more events than its fuel; spent, exactly as many; and only the spent run has number 20
-pub run-events : (f room : ℕ) (t : Loaded) → (run f room (loaded t) .events ≤ f) × (run f room (loaded t) .number ≤ 20)
+-- a run counts no more events than its fuel
+pub run-events : (f room : ℕ) (t : Loaded) → run f room (loaded t) .events ≤ f
 unfolding run initial outcome resultOf
 run-events f room t = by (after f room t (running (initial t))) (after-since f room t (initial t))
   where
-    by : (r : Next) → Since [] 0 f r → (outcome r .events ≤ f) × (outcome r .number ≤ 20)
+    by : (r : Next) → Since [] 0 f r → outcome r .events ≤ f
     by (running s) h = omega arith
     by (ended k s) h = omega arith
 
 -- a spent run counts as many events as it had fuel
 pub spent-events : (f room : ℕ) (t : Loaded) → run f room (loaded t) .number ≡ 20 → run f room (loaded t) .events ≡ f
 unfolding run initial outcome resultOf
-spent-events f room t = by (after f room t (running (initial t))) (after-since f room t (initial t))
+spent-events f room t = by (after f room t (running (initial t))) refl (after-since f room t (initial t))
   where
-    by : (r : Next) → Since [] 0 f r → outcome r .number ≡ 20 → outcome r .events ≡ f
-    by (running s) h e = omega arith
-    by (ended k s) h e = omega arith
+    by : (r : Next) → after f room t (running (initial t)) ≡ r → Since [] 0 f r → outcome r .number ≡ 20 → outcome r .events ≡ f
+    by (running s) d h e = omega arith
+    by (ended k s) d h e = absurd (ended-unspent f room t k s d e)
 
 -- a run is the expansion where that ends within the fuel
 pub run-ended : (f room : ℕ) (t : Loaded) (n k : ℕ) (s : State) → n ≤ f → after n room t (running (initial t)) ≡ ended k s → run f room (loaded t) ≡ resultOf k s

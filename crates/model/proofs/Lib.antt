@@ -3,11 +3,14 @@ pub mod Theorems
 -- Laws that the proofs here and in other crates cite: of tests, and of parts of a text.
 pub mod Choices
 pub mod Text
+-- Characters: decoding and encoding undo each other, and what is done with them.
+pub mod Utf8
+pub mod Characters
 -- The first reading.
 pub mod Chosen
 pub mod Parts
 pub mod FirstReading
--- The document's starred examples.
+-- The starred examples.
 pub mod Starred
 -- Conversions and their digits.
 pub mod Conversions

@@ -1,6 +1,6 @@
 -- Every number that a public call answers is one of document 01's table: cause by cause through loading and through the machine.
 -- The theorems, at the end: ten-is-none, check-numbered, fit-numbered, begun-numbered, run-numbered.
-use mathlib.Core.Path.{_≡_, refl}
+use mathlib.Core.Path.{_≡_, refl, subst}
 use mathlib.Core.Bool.{Bool, true, false, not, _&&_, _||_}
 use mathlib.Core.Option.{Option, none, some}
 use mathlib.Core.List.{List, [], _∷_, _++_}
@@ -13,7 +13,7 @@ use Rattle.model.specs.declared.Checked.{Checked}
 use Rattle.model.specs.declared.Fitted.{Fitted}
 use Rattle.model.specs.declared.Comparison.{Comparison}
 use Rattle.model.specs.declared.Conversion.{Conversion}
-use Rattle.model.specs.declared.Conversion.the-variants.{Itself, StoredText, Symbol, LatestDelimiter, ExpressionValue, Length, ByteValue}
+use Rattle.model.specs.declared.Conversion.the-variants.{Itself, StoredText, Symbol, LatestDelimiter, ExpressionValue, Length, CodePoint}
 use Rattle.model.specs.Text.{Bytes, has, startsWith, upTo, lines, marksOf}
 use Rattle.model.specs.Reading.{Reading, chosen}
 use Rattle.model.specs.Code.{Code, Part, Ending, byte, serial, convert, offer, assign, iterate, stop, write, layout, save, skip, skipText, skipValue, repeat, again, leave, malformed}
@@ -21,7 +21,7 @@ use Rattle.model.specs.Store.{put, within, decimal}
 use Rattle.model.specs.Load.{templates, Progress, Seen, fault, more, sectionEnds, lowest, templateFault, unless, templateLine, codeLine, endLine, lineSeen}
 use Rattle.model.specs.Load.{Loaded, Load, refused, loaded, lowestAt, loadOn, loadFrom, noneRead, loadLines, load}
 use Rattle.model.specs.Machine.{Loop, byPieces, byCount, Frame, Shared, Step, continues, offers, skips, leaves, halts}
-use Rattle.model.specs.Machine.{Building, built, failed, add, addSymbol, addValue, addLength, addByteValue, addConverted, addPart, build}
+use Rattle.model.specs.Machine.{Building, built, failed, add, addSymbol, addValue, addLength, addCodePoint, addConverted, addPart, build}
 use Rattle.model.specs.Machine.{Piece, takePass, nextPass, endPass, startRepeat, output, writeTo, writeLayout, saveText, skipBy, skipIf, skipCompared, finish, finishBuilt, carryOut}
 use Rattle.model.specs.Machine.{State, Next, running, ended, Passed, landed, beyond, badLanding, passOver, skipFrom, skipIn, call, passThrough, offeredAs, offered, stepped, unfinished}
 use Rattle.model.specs.Machine.{measured, readInput, readyIn, readyFor, ready, beginAt, beginLine, counted, eventFor, event, follow, after, initial, Result, resultOf, outcome, run}
@@ -145,17 +145,19 @@ unfolding addValue has
 addValue-numbered m l none w = refl
 addValue-numbered m l (some v) w = add-numbered l _ w
 
--- ed5
-addLength-numbered : (l s : Bytes) (w : Shared) → BuildingNumbered (addLength l s w)
-unfolding addLength
-addLength-numbered l s w = add-numbered l _ w
+-- ed5: 21
+addLength-numbered : (l : Bytes) (o : Option (List ℕ)) (w : Shared) → BuildingNumbered (addLength l o w)
+unfolding addLength has
+addLength-numbered l none w = refl
+addLength-numbered l (some vs) w = add-numbered l _ w
 
--- ed8: 16
-addByteValue-numbered : (l s : Bytes) (w : Shared) → BuildingNumbered (addByteValue l s w)
-unfolding addByteValue has
-addByteValue-numbered l [] w = refl
-addByteValue-numbered l (x ∷ []) w = add-numbered l _ w
-addByteValue-numbered l (x ∷ y ∷ s) w = refl
+-- ed8: 21 and 16
+addCodePoint-numbered : (l : Bytes) (o : Option (List ℕ)) (w : Shared) → BuildingNumbered (addCodePoint l o w)
+unfolding addCodePoint has
+addCodePoint-numbered l none w = refl
+addCodePoint-numbered l (some []) w = refl
+addCodePoint-numbered l (some (v ∷ [])) w = add-numbered l _ w
+addCodePoint-numbered l (some (v ∷ u ∷ vs)) w = refl
 
 -- any conversion of a parameter
 addConverted-numbered : (m : Marks) (f : Frame) (d : ℕ) (c : Conversion) (l : Bytes) (w : Shared) → BuildingNumbered (addConverted m f d c l w)
@@ -166,7 +168,7 @@ addConverted-numbered m f d Symbol l w = addSymbol-numbered l _ _ w
 addConverted-numbered m f d LatestDelimiter l w = add-numbered l _ w
 addConverted-numbered m f d ExpressionValue l w = addValue-numbered m l _ w
 addConverted-numbered m f d Length l w = addLength-numbered l _ w
-addConverted-numbered m f d ByteValue l w = addByteValue-numbered l _ w
+addConverted-numbered m f d CodePoint l w = addCodePoint-numbered l _ w
 
 -- any part of a code line
 addPart-numbered : (m : Marks) (f : Frame) (p : Part) (l : Bytes) (w : Shared) → BuildingNumbered (addPart m f p l w)
@@ -196,10 +198,11 @@ StepNumbered (skips n f w) = Unit {0}
 StepNumbered (leaves w) = Unit {0}
 StepNumbered (halts k w) = has k endNumbers ≡ true
 
--- a pass: 17
+-- a pass: 21 without a list, 17 with one
 takePass-numbered : (d : ℕ) (p : Option Piece) (ds old : Bytes) (after : List Bytes) (ls : List Loop) (f : Frame) (w : Shared) → StepNumbered (takePass d p ds old after ls f w)
 unfolding takePass has
-takePass-numbered d none ds old after ls f w = refl
+takePass-numbered d none [] old after ls f w = refl
+takePass-numbered d none (x ∷ ds) old after ls f w = refl
 takePass-numbered d (some p) ds old after ls f w = tt
 
 -- the next pass
@@ -404,7 +407,12 @@ fit-numbered rows text line = both (λ (f : Fitted). has (f .number) fitNumbers 
     by (refused k n) h = has-right k (11 ∷ 0 ∷ 1 ∷ []) loadNumbers h
     by (loaded t) h = both (λ (f : Fitted). has (f .number) fitNumbers ≡ true) (ltb 200 (length line)) _ _ refl (byReading t (chosen (t .marks) (templates (t .macros)) line))
 
--- a run of a text that loads: 0, 11 to 19, or 20 where it is spent
+-- no expansion ends with 20
+pub ended-unspent : (n room : ℕ) (t : Loaded) (k : ℕ) (s : State) → after n room t (running (initial t)) ≡ ended k s → ¬ (k ≡ 20)
+unfolding has
+ended-unspent n room t k s e d = false-not-true (subst (λ j. has j endNumbers ≡ true) d (subst NextNumbered e (after-numbered n room t (running (initial t)) tt)))
+
+-- a run of a text that loads: 0, 11 to 19 and 21, or 20 where it is spent
 pub begun-numbered : (fuel room : ℕ) (t : Loaded) → has (run fuel room (loaded t) .number) begunNumbers ≡ true
 unfolding run outcome resultOf has
 begun-numbered fuel room t = by (after fuel room t (running (initial t))) (after-numbered fuel room t (running (initial t)) tt)

@@ -1,26 +1,26 @@
--- How long the rows are that the programs print. The theorems, at the end: end-row-long, check-row-long, fit-prints-long. Assumes nothing.
-use mathlib.Core.Path.{_≡_, refl, ap, sym, _∙_, subst}
-use mathlib.Core.Bool.{Bool, true, false, not, _&&_, _||_}
+-- How long the rows are that the programs print. The theorems, at the end: end-row-long, check-row-long, fit-prints-long.
+use mathlib.Core.Path.{_≡_, refl, subst}
+use mathlib.Core.Bool.{Bool, not, _&&_, _||_}
 use mathlib.Core.Option.{Option, none, some}
 use mathlib.Core.List.{List, [], _∷_, _++_, map}
-use Prim.Native.Nat.{ℕ, zero, suc, _+_, _-_, _*_, _/_, _%_, _^_, _≤_, _<_, min}
+use Prim.Native.Nat.{ℕ, zero, suc, _+_, _-_, _*_, _/_, _^_, _≤_, _<_}
 use native.Mathlib.Omega.{arith}
-use native.Mathlib.Nat.{pow-suc, suc-mul, mul-add}
+use native.Mathlib.Nat.{pow-suc, suc-mul}
 use borrow.Author.Tests.{ltb-true, ltb-false, ne-eqb, eq-eqb}
-use lib.Dec.{eqb, leb, ltb}
+use lib.Dec.{eqb, ltb}
 use lib.ListN.{length, getD, drop, replicate, length-append, length-replicate}
 use Rattle.model.specs.declared.Marks.{Marks}
 use Rattle.model.specs.declared.Checked.{Checked}
 use Rattle.model.specs.declared.Fitted.{Fitted}
-use Rattle.model.specs.Text.{Bytes, has, startsWith, upTo, ontoFirst, lines, marksOf}
+use Rattle.model.specs.Text.{Bytes, has, startsWith, ontoFirst, lines, marksOf}
 use Rattle.model.specs.Reading.{Pieces, Reading, chosen}
 use Rattle.model.specs.Store.{digitsOf, decimal}
-use Rattle.model.specs.Load.{Macro, noMacro, templates, Progress, Seen, fault, more, sectionEnds, lowest, count, templateFault, effectHere, unless, templateLine, codeLine, endLine, lineSeen, Loaded, Load, refused, loaded, lowestAt, loadOn, loadFrom, noneRead, loadLines, load}
+use Rattle.model.specs.Load.{Macro, noMacro, templates, Progress, Seen, fault, more, sectionEnds, lowest, count, templateFault, unless, templateLine, codeLine, endLine, lineSeen, Loaded, Load, refused, loaded, lowestAt, loadOn, loadFrom, noneRead, loadLines, load}
 use Rattle.model.specs.Results.{shortRow, startsOf, nine, noPieces, fittedAs, fittedIn, fitLine}
-use Rattle.model.specs.Fitting.{Fits, end, literal, placeholder, First}
-use Rattle.model.specs.Legal.{At, MacrosAt}
+use Rattle.model.specs.Fitting.{Fits, end, literal, placeholder}
+use Rattle.model.specs.Legal.{MacrosAt}
 use Rattle.model.specs.Printed.{spaced, endRow, checkRow, pieceRow, fitRow, fitRows, fitPrints}
-use Rattle.model.proofs.Choices.{both, split, or-false, when-true, when-false}
+use Rattle.model.proofs.Choices.{both, split, or-false}
 use Rattle.model.proofs.Loading.{load-legal, loaded-chosen}
 use Rattle.model.proofs.Input.{load-at, line-number}
 

@@ -13,19 +13,21 @@ use lib.ListN.{length, getD, set, replicate, length-append, length-set, length-r
 use lib.IntN.{ℤ, pos, negsuc}
 use Rattle.model.specs.declared.Marks.{Marks}
 use Rattle.model.specs.Text.{Bytes, has, upTo, same}
+use Rattle.model.specs.Utf8.{Character, character}
 use Rattle.model.specs.Reading.{group, atom, Reading, Pieces, chosen}
 use Rattle.model.specs.Code.{Code, Part, Ending, byte, serial, convert, parse, offer, assign, iterate, stop, write, layout, save, skip, skipText, skipValue, repeat, again, leave, malformed}
 use Rattle.model.specs.declared.Conversion.{Conversion}
-use Rattle.model.specs.declared.Conversion.the-variants.{Itself, StoredText, Symbol, LatestDelimiter, ExpressionValue, Length, ByteValue}
+use Rattle.model.specs.declared.Conversion.the-variants.{Itself, StoredText, Symbol, LatestDelimiter, ExpressionValue, Length, CodePoint}
 use Rattle.model.specs.declared.Comparison.{Comparison}
 use Rattle.model.specs.Store.{Store, find, put, size, within, decimal, digitsOf}
 use Rattle.model.specs.Value.{written}
 use Rattle.model.specs.Load.{templates, Macro, Loaded, loaded, load, count}
-use Rattle.model.specs.Machine.{Loop, byPieces, byCount, Frame, Shared, Step, continues, offers, skips, leaves, halts, param, withParam, resumeAt, withStore, Building, built, failed, add, addSymbol, addValue, addLength, addByteValue, addConverted, addPart, build, Piece, longer, pieceOf, passOf, takePass, nextPass, endPass, startRepeat, output, writeTo, writeLayout, saveText, skipBy, skipIf, skipCompared, finish, finishBuilt, carryOut, State, Next, running, ended, stateWith, Passed, landed, beyond, badLanding, passOver, skipFrom, skipIn, padded, call, passThrough, offeredAs, offered, stepped, closed, unfinished, measured, readInput, readyIn, readyFor, ready, beginAt, beginLine, counted, eventFor, event, follow, after, initial}
+use Rattle.model.specs.Machine.{Loop, byPieces, byCount, Frame, Shared, Step, continues, offers, skips, leaves, halts, param, withParam, resumeAt, withStore, Building, built, failed, add, addSymbol, addValue, addLength, addCodePoint, addConverted, addPart, build, Piece, longer, pieceOf, onePass, passOf, takePass, nextPass, endPass, startRepeat, output, writeTo, writeLayout, saveText, skipBy, skipIf, skipCompared, finish, finishBuilt, carryOut, State, Next, running, ended, stateWith, Passed, landed, beyond, badLanding, passOver, skipFrom, skipIn, padded, call, passThrough, offeredAs, offered, stepped, closed, unfinished, measured, readInput, readyIn, readyFor, ready, beginAt, beginLine, counted, eventFor, event, follow, after, initial}
 use Rattle.model.specs.Fitting.{Fits, end, literal, placeholder}
 use Rattle.model.specs.Sizes.{AllShort, FramesOk, LoopsSmall, FrameSmall, FramesSmall, EntriesShort, SharedSmall, PendingSmall, Small, LoopsFew}
 use Rattle.model.proofs.Chosen.{chosen-reads}
 use Rattle.model.proofs.Choices.{both, split, and-left, and-right}
+use Rattle.model.proofs.Utf8.{CharacterIs, character-is}
 use Rattle.model.proofs.Frames.{NextOk, nested-loops, run-nested}
 use Rattle.model.proofs.Loading.{load-legal}
 
@@ -150,11 +152,17 @@ pieceOf-small (suc f) m ds (x ∷ s) =
     by none h ih = tt
     by (some a) h ih = longer-small (a .0) (length (a .1)) (suc (length s)) (pieceOf f m ds (a .1)) (ih (a .1)) (h .0)
 
+-- a character's bytes and the rest are the line
+pub onePass-small : (s : Bytes) (o : Option Character) → CharacterIs s o → PieceSmall (length s) (onePass o)
+unfolding onePass
+onePass-small s none h = tt
+onePass-small s (some c) h = (omega (arith, simp length-append at (ap length (h .joined))), omega arith)
+
 -- what a pass takes
 pub passOf-small : (m : Marks) (ds s : Bytes) → PieceSmall (length s) (passOf m ds s)
 unfolding passOf
 passOf-small m [] [] = (omega arith, omega arith)
-passOf-small m [] (x ∷ s) = (omega arith, omega arith)
+passOf-small m [] (x ∷ s) = onePass-small (x ∷ s) (character (x ∷ s)) (character-is (x ∷ s))
 passOf-small m (d ∷ ds) s = pieceOf-small (length s + 1) m (d ∷ ds) s
 
 -- ---- the store
@@ -239,16 +247,18 @@ module _ (room n : ℕ) where
   addValue-small m l (some v) w h = add-small l (written m v) w h
 
   -- ed5
-  pub addLength-small : (l s : Bytes) (w : Shared) → SharedSmall room w → BuildingSmall room (addLength l s w)
+  pub addLength-small : (l : Bytes) (o : Option (List ℕ)) (w : Shared) → SharedSmall room w → BuildingSmall room (addLength l o w)
   unfolding addLength
-  addLength-small l s w h = add-small l _ w h
+  addLength-small l none w h = h
+  addLength-small l (some vs) w h = add-small l _ w h
 
   -- ed8
-  pub addByteValue-small : (l s : Bytes) (w : Shared) → SharedSmall room w → BuildingSmall room (addByteValue l s w)
-  unfolding addByteValue
-  addByteValue-small l [] w h = h
-  addByteValue-small l (x ∷ []) w h = add-small l (decimal x) w h
-  addByteValue-small l (x ∷ y ∷ s) w h = h
+  pub addCodePoint-small : (l : Bytes) (o : Option (List ℕ)) (w : Shared) → SharedSmall room w → BuildingSmall room (addCodePoint l o w)
+  unfolding addCodePoint
+  addCodePoint-small l none w h = h
+  addCodePoint-small l (some []) w h = h
+  addCodePoint-small l (some (v ∷ [])) w h = add-small l _ w h
+  addCodePoint-small l (some (v ∷ u ∷ vs)) w h = h
 
   -- a parameter is short
   pub param-short : (f : Frame) (d : ℕ) → FrameSmall n f → length (param f d) ≤ 200
@@ -265,7 +275,7 @@ module _ (room n : ℕ) where
   addConverted-small m f d LatestDelimiter l w g h = add-small l _ w h
   addConverted-small m f d ExpressionValue l w g h = addValue-small m l _ w h
   addConverted-small m f d Length l w g h = addLength-small l _ w h
-  addConverted-small m f d ByteValue l w g h = addByteValue-small l _ w h
+  addConverted-small m f d CodePoint l w g h = addCodePoint-small l _ w h
 
   -- a part of a code line
   pub addPart-small : (m : Marks) (f : Frame) (p : Part) (l : Bytes) (w : Shared) → FrameSmall n f → SharedSmall room w → BuildingSmall room (addPart m f p l w)

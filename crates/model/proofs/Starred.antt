@@ -1,19 +1,24 @@
--- The document's starred examples ("Fitting a line", "Values"), one list, computed against the definitions in one proof.
+-- Document 01's starred examples ("Fitting a line", "Values") and that of document 02's ticket 1, one list, computed against the definitions in one proof.
 use mathlib.Core.Path.{_≡_, refl}
 use mathlib.Core.Option.{Option, none, some}
-use mathlib.Core.List.{List, [], _∷_, map}
+use mathlib.Core.List.{List, [], _∷_, _++_, map}
 use Prim.Native.Nat.{ℕ}
 use Prim.Native.Char.{code}
 use Prim.Native.String as S
 use Prim.Native.String.{String}
 use lib.IntN.{ℤ, pos, negsuc}
-use lib.ListN.{getD}
+use lib.ListN.{getD, replicate}
 use Rattle.model.specs.declared.Marks.{Marks}
-use Rattle.model.specs.Text.{isDigit, has}
+use Rattle.model.specs.declared.Conversion.{Conversion}
+use Rattle.model.specs.declared.Conversion.the-variants.{Length, CodePoint}
+use Rattle.model.specs.Text.{Bytes, isDigit, has}
+use Rattle.model.specs.Utf8.{pointsFault, isTail, ofTwo, character, ontoPoints, pointsFrom, points}
 use Rattle.model.specs.Reading.{Reading, chosen, balancedFrom, balanced, cuts, withPiece, withLiteral, readings, rank, less, asReadings, allReadings, leastOf, least}
-use Rattle.model.specs.Value.{valueOf, checked, quotient, divided, andThen, giving, number, isMark, nameOf, closing, expression, sum, product, factors, operand, whole}
+use Rattle.model.specs.Store.{decimal, digitsOf}
+use Rattle.model.specs.Value.{valueFault, valueOf, checked, quotient, divided, andThen, giving, number, isMark, nameOf, closing, expression, sum, product, factors, operand, whole}
+use Rattle.model.specs.Machine.{Frame, param, Building, built, failed, add, addLength, addCodePoint, addConverted, Piece, onePass, passOf, noPass}
 
--- the bytes of a quoted text
+-- the bytes of a quoted text, of characters of one byte
 unfoldable pub bytes : String → List ℕ
 bytes S.[] = []
 bytes (S._∷_ c s) = code c ∷ bytes s
@@ -27,14 +32,17 @@ pub data Told : Type 0 where
   call : (template : List ℕ) (pieces : List (List ℕ)) → Told
   no-call : Told
   value : ℤ → Told
-  fault-15 : Told
+  code-points : List ℕ → Told
+  line : (built : Bytes) → Told
+  piece : (taken rest : Bytes) → Told
+  fault : (number : ℕ) → Told
 
 abbrev toldReading : List String → Option Reading → Told
 toldReading ts none = no-call
 toldReading ts (some r) = call (getD (map bytes ts) (r .which) []) (r .pieces)
 
 abbrev toldValue : Option ℤ → Told
-toldValue none = fault-15
+toldValue none = fault (valueFault none)
 toldValue (some v) = value v
 
 -- a line fitted against templates
@@ -45,13 +53,41 @@ fitting ts l = toldReading ts (chosen session (map bytes ts) (bytes l))
 abbrev valued : String → Told
 valued s = toldValue (valueOf session [] (bytes s))
 
+-- a call whose parameter 1 is s
+abbrev calling : Bytes → Frame
+calling s = record { number = 1; params = s ∷ replicate 8 []; delimiters = replicate 9 []; next = []; loops = [] }
+
+abbrev toldPoints : Option (List ℕ) → Told
+toldPoints none = fault (pointsFault none)
+toldPoints (some vs) = code-points vs
+
+abbrev toldLine : Building → Told
+toldLine (built l w) = line l
+toldLine (failed k w) = fault k
+
+abbrev toldPiece : Option Piece → Told
+toldPiece none = fault (noPass [])
+toldPiece (some p) = piece (p .piece) (p .rest)
+
+-- a conversion of a parameter, in a line with nothing before it
+abbrev converted : Conversion → Bytes → Told
+converted c s = toldLine (addConverted session (calling s) 1 c [] (record { symbols = 0; store = []; output = [] }))
+
+-- a pass without a list
+abbrev passed : Bytes → Told
+passed s = toldPiece (passOf session [] s)
+
+-- `é`
+abbrev accent : Bytes
+accent = 195 ∷ 169 ∷ []
+
 abbrev reads : String → List String → Told
 reads t ps = call (bytes t) (map bytes ps)
 
 abbrev three : List String
 three = "AB!" ∷ "!B" ∷ "!=!" ∷ []
 
--- each example with what the document says of it
+-- each example with what its document says of it
 abbrev examples : List (Told × Told)
 examples =
     (fitting three "AB", reads "AB!" ("" ∷ []))
@@ -65,11 +101,15 @@ examples =
     ∷ (valued "", value (pos 0))
     ∷ (valued "2-3*4", value (negsuc 9))
     ∷ (valued "(-7)/2", value (negsuc 2))
-    ∷ (valued "2147483647+1", fault-15)
-    ∷ (valued "(-2147483647-1)/(-1)", fault-15)
+    ∷ (valued "2147483647+1", fault 15)
+    ∷ (valued "(-2147483647-1)/(-1)", fault 15)
+    ∷ (toldPoints (points accent), code-points (233 ∷ []))
+    ∷ (converted Length accent, line (bytes "1"))
+    ∷ (converted CodePoint accent, line (bytes "233"))
+    ∷ (passed (accent ++ accent), piece accent accent)
     ∷ []
 
--- what the definitions give is what the document says
+-- what the definitions give is what the documents say
 pub starred : map (λ e. e .0) examples ≡ map (λ e. e .1) examples
-unfolding bytes isDigit has chosen balancedFrom balanced cuts withPiece withLiteral readings rank less asReadings allReadings leastOf least valueOf checked quotient divided andThen giving number isMark nameOf closing expression sum product factors operand whole
+unfolding bytes isDigit has chosen balancedFrom balanced cuts withPiece withLiteral readings rank less asReadings allReadings leastOf least valueOf checked quotient divided andThen giving number isMark nameOf closing expression sum product factors operand whole isTail ofTwo character ontoPoints pointsFrom points digitsOf decimal param add addLength addCodePoint addConverted onePass passOf
 starred = refl

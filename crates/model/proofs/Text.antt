@@ -1,4 +1,4 @@
--- Laws of parts of a text. Assumes nothing.
+-- Laws of parts of a text.
 use mathlib.Core.Path.{_≡_, refl, ap, sym, _∙_}
 use mathlib.Core.List.{[], _∷_, _++_}
 use Prim.Native.Nat.{ℕ, zero, suc, _+_, _-_, _≤_, _<_}

@@ -1,22 +1,25 @@
 -- What is proved of document 01's definitions, in one place: the first reading, the fuels, the events, the numbers, what is demanded of a run, the sizes
--- of its states, the places of its lines, and the digits of conversions. Every statement is for all texts that load and all rooms; the proofs are in the
+-- of its states, the places of its lines, the digits of conversions, and characters. Every statement is for all texts that load and all rooms; the proofs are in the
 -- modules that each line cites.
 use mathlib.Core.Path.{_≡_}
 use mathlib.Core.Logic.{_↔_}
 use mathlib.Core.Bool.{true, false}
 use mathlib.Core.Option.{none, some}
+use mathlib.Core.List.{List, [], _∷_, _++_}
 use Prim.Native.Nat.{ℕ, _+_, _*_, _≤_}
 use lib.ListN.{length}
 use Rattle.model.specs.declared.Marks.{Marks}
 use Rattle.model.specs.declared.Ran.{Ran}
 use Rattle.model.specs.declared.Conversion.{Conversion}
+use Rattle.model.specs.declared.Conversion.the-variants.{Length, CodePoint}
 use Rattle.model.specs.Text.{Bytes, Grows, has, lines}
+use Rattle.model.specs.Utf8.{Character, character, points, Point, encode, encodeAll, Points, Leads, MalformedText, MalformedFront}
 use Rattle.model.specs.Reading.{Pieces, Reading, chosen}
 use Rattle.model.specs.Code.{digitOf, conversionOf}
-use Rattle.model.specs.Store.{Store}
+use Rattle.model.specs.Store.{Store, decimal}
 use Rattle.model.specs.Value.{expression, whole, valueOf}
 use Rattle.model.specs.Load.{templates, Loaded, Load, loaded, load}
-use Rattle.model.specs.Machine.{State, running, ended, pieceOf, counted, event, after, initial, resultOf, run}
+use Rattle.model.specs.Machine.{Loop, Frame, Shared, halts, param, failed, add, addConverted, pieceOf, passOf, takePass, State, running, ended, counted, event, after, initial, resultOf, run}
 use Rattle.model.specs.Results.{checkText, fitLine, runText}
 use Rattle.model.specs.Fitting.{Reads, First}
 use Rattle.model.specs.FirstReading.{FitsFirst, OffersFirst}
@@ -35,6 +38,8 @@ use Rattle.model.proofs.Nesting as Nesting
 use Rattle.model.proofs.Input as Input
 use Rattle.model.proofs.Sizes as Sizes
 use Rattle.model.proofs.Conversions as Conversions
+use Rattle.model.proofs.Utf8 as Utf8
+use Rattle.model.proofs.Characters as Characters
 use Rattle.model.proofs.Depth as Depth
 
 -- ---- the first reading of a line
@@ -92,7 +97,7 @@ module _ (f room : ℕ) (t : Loaded) where
 
   -- the events counted are at most the fuel
   pub events-counted : run f room (loaded t) .events ≤ f
-  events-counted = Fuel.run-events f room t .0
+  events-counted = Fuel.run-events f room t
 
   -- a spent run has used all of its fuel
   pub spent-used : run f room (loaded t) .number ≡ 20 → run f room (loaded t) .events ≡ f
@@ -130,7 +135,7 @@ run-number = NumberTable.run-numbered
 pub ten-is-none : (has 10 checkNumbers ≡ false) × (has 10 fitNumbers ≡ false) × (has 10 runNumbers ≡ false)
 ten-is-none = NumberTable.ten-is-none
 
--- that of a run of a text that loads is 0 or one of 11 to 20
+-- that of a run of a text that loads is 0 or one of 11 to 21
 pub begun-number : (fuel room : ℕ) (t : Loaded) → has (run fuel room (loaded t) .number) begunNumbers ≡ true
 begun-number = NumberTable.begun-numbered
 
@@ -184,6 +189,50 @@ module _ (text : Bytes) (t : Loaded) (loads : load text ≡ loaded t) where
 -- a conversion's digit names it, and no other byte does
 pub names-conversion : (b : ℕ) (c : Conversion) → conversionOf b ≡ some c ↔ b ≡ 48 + digitOf c
 names-conversion = Conversions.names-exactly
+
+-- ---- characters
+
+-- the encoding of a code point decodes to it, whatever follows
+pub encoding-decodes : (v : ℕ) (s : Bytes) → Point v → character (encode v ++ s) ≡ some (record { code = v; bytes = encode v; rest = s })
+encoding-decodes = Utf8.encoded-character
+
+-- whatever decodes is such an encoding, at the front of the bytes
+pub decoded-is-encoding : (s : Bytes) (c : Character) → character s ≡ some c → Leads s c
+decoded-is-encoding = Utf8.decoded-is
+
+-- a text's code points are those of which it is the row of encodings
+pub text-points : (s : Bytes) (vs : List ℕ) → points s ≡ some vs ↔ (Points vs × (s ≡ encodeAll vs))
+text-points s vs = (Utf8.points-encoded s vs, λ h. Utf8.points-of s vs (h .0) (h .1))
+
+module _ (m : Marks) (f : Frame) (d : ℕ) (l : Bytes) (w : Shared) where
+  -- ed5 counts the characters of parameter d
+  pub length-counts : (vs : List ℕ) → Points vs → param f d ≡ encodeAll vs → addConverted m f d Length l w ≡ add l (decimal (length vs)) w
+  length-counts = Characters.length-counts m f d l w
+
+  -- and gives 21 where one of them is malformed
+  pub length-malformed : MalformedText (param f d) → addConverted m f d Length l w ≡ failed 21 w
+  length-malformed = Characters.length-malformed m f d l w
+
+  -- ed8 gives the code point of exactly one character
+  pub point-of-one : (v : ℕ) → Point v → param f d ≡ encode v → addConverted m f d CodePoint l w ≡ add l (decimal v) w
+  point-of-one = Characters.point-of-one m f d l w
+
+  -- 16 where there are none or several
+  pub point-of-others : (vs : List ℕ) → Points vs → param f d ≡ encodeAll vs → ¬ (length vs ≡ 1) → addConverted m f d CodePoint l w ≡ failed 16 w
+  point-of-others = Characters.point-of-others m f d l w
+
+  -- and 21 where one is malformed, however many there are
+  pub point-malformed : MalformedText (param f d) → addConverted m f d CodePoint l w ≡ failed 21 w
+  point-malformed = Characters.point-malformed m f d l w
+
+-- a pass without a list takes the character at the front, whatever follows
+pub pass-takes : (m : Marks) (v : ℕ) (s : Bytes) → Point v → passOf m [] (encode v ++ s) ≡ some (record { piece = encode v; delimiter = []; rest = s })
+pass-takes = Characters.pass-takes
+
+-- and gives 21 where that is malformed
+pub pass-malformed : (m : Marks) (d x : ℕ) (s old : Bytes) (after : List Bytes) (ls : List Loop) (f : Frame) (w : Shared) → MalformedFront (x ∷ s)
+    → takePass d (passOf m [] (x ∷ s)) [] old after ls f w ≡ halts 21 w
+pass-malformed = Characters.pass-malformed
 
 -- ---- bounds inside the definitions
 

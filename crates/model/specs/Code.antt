@@ -10,7 +10,7 @@ use Rattle.model.specs.declared.Effect.the-variants.{Malformed, Plain, O
 use Rattle.model.specs.declared.Comparison.{Comparison}
 use Rattle.model.specs.declared.Comparison.the-variants.{Equal, Unequal, Less, Greater}
 use Rattle.model.specs.declared.Conversion.{Conversion}
-use Rattle.model.specs.declared.Conversion.the-variants.{Itself, StoredText, Symbol, LatestDelimiter, ExpressionValue, Length, ByteValue}
+use Rattle.model.specs.declared.Conversion.the-variants.{Itself, StoredText, Symbol, LatestDelimiter, ExpressionValue, Length, CodePoint}
 use Rattle.model.specs.Text.{isDigit}
 
 -- ---- conversions and their digits
@@ -23,11 +23,11 @@ digitOf Symbol = 2
 digitOf LatestDelimiter = 3
 digitOf ExpressionValue = 4
 digitOf Length = 5
-digitOf ByteValue = 8
+digitOf CodePoint = 8
 
 -- every conversion
 unfoldable pub conversions : List Conversion
-conversions = Itself ∷ StoredText ∷ Symbol ∷ LatestDelimiter ∷ ExpressionValue ∷ Length ∷ ByteValue ∷ []
+conversions = Itself ∷ StoredText ∷ Symbol ∷ LatestDelimiter ∷ ExpressionValue ∷ Length ∷ CodePoint ∷ []
 
 -- the first of these conversions whose digit is the byte b
 unfoldable pub firstNamed : ℕ → List Conversion → Option Conversion

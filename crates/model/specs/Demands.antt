@@ -38,7 +38,7 @@ pub record FollowsExpansion (t : Loaded) (fuel : ℕ) (output store : Bytes) (r 
   -- so its number is other than 20 exactly when the expansion ends within as many events as the fuel, and 20 exactly when it goes on
   pub exactly-ended : (¬ (r .number ≡ 20)) ↔ EndsInFuel fuel (length output) t
   pub exactly-spent : r .number ≡ 20 ↔ GoesBeyond fuel (length output) t
-  -- the number is 0 or one of 11 to 20
+  -- the number is 0 or one of 11 to 21
   pub numbered : has (r .number) begunNumbers ≡ true
   -- every line offered on the way is passed through exactly when it has no reading, and otherwise calls its first
   pub offers : OffersInRun fuel (length output) t

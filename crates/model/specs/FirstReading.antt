@@ -8,7 +8,7 @@ use lib.ListN.{length, getD}
 use Rattle.model.specs.declared.Fitted.{Fitted}
 use Rattle.model.specs.Text.{Bytes}
 use Rattle.model.specs.Reading.{Pieces}
-use Rattle.model.specs.Load.{Macro, noMacro, templates, Loaded}
+use Rattle.model.specs.Load.{noMacro, templates, Loaded}
 use Rattle.model.specs.Machine.{State, Next, call, passThrough}
 use Rattle.model.specs.Results.{startsOf, nine}
 use Rattle.model.specs.Fitting.{Reads, First}

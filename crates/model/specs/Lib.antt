@@ -1,6 +1,7 @@
 -- Document 01 as definitions, in reading order.
 pub mod Limits
 pub mod Text
+pub mod Utf8
 pub mod Reading
 pub mod Code
 pub mod Store

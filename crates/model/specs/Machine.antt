@@ -9,17 +9,17 @@ use lib.IntN.{ℤ, pos, negsuc}
 use Rattle.model.specs.Limits.{lineMost, callsMost}
 use Rattle.model.specs.declared.Marks.{Marks}
 use Rattle.model.specs.Text.{Bytes, same, has, upTo}
+use Rattle.model.specs.Utf8.{Character, characterFault, character, points, pointsFault}
 use Rattle.model.specs.Reading.{Reading, chosen, atom}
 use Rattle.model.specs.Code.{Code, Part, Ending, byte, serial, convert, parse, offer, assign, iterate, stop, write, layout, save, skip, skipText, skipValue, repeat, again, leave, malformed, effect}
-use Rattle.model.specs.declared.Effect.{Effect}
 use Rattle.model.specs.declared.Effect.the-variants.{Malformed, Plain, Opens, Closes, Owns}
 use Rattle.model.specs.declared.Conversion.{Conversion}
-use Rattle.model.specs.declared.Conversion.the-variants.{Itself, StoredText, Symbol, LatestDelimiter, ExpressionValue, Length, ByteValue}
+use Rattle.model.specs.declared.Conversion.the-variants.{Itself, StoredText, Symbol, LatestDelimiter, ExpressionValue, Length, CodePoint}
 use Rattle.model.specs.declared.Comparison.{Comparison}
 use Rattle.model.specs.declared.Comparison.the-variants.{Equal, Unequal, Less, Greater}
 use Rattle.model.specs.Store.{Store, find, put, within, memoryFault, decimal, listing}
 use Rattle.model.specs.Value.{valueFault, valueOf, written}
-use Rattle.model.specs.Load.{templates, Macro, Loaded, Load, refused, loaded, load, noMacro}
+use Rattle.model.specs.Load.{templates, Macro, Loaded, Load, refused, loaded, noMacro}
 
 -- an open iteration. ed7 has the rest of the built line, the list of delimiters and d's old value; eF7 the passes left. `after` are the
 -- code lines after the opening line
@@ -96,15 +96,24 @@ unfoldable pub addValue : Marks → Bytes → Option ℤ → Shared → Building
 addValue m l none w = failed (valueFault none) w
 addValue m l (some v) w = add l (written m v) w
 
--- ed5: the length
-unfoldable pub addLength : Bytes → Bytes → Shared → Building
-addLength l s w = add l (decimal (length s)) w
+-- ed5: the number of its characters, or 21
+unfoldable pub addLength : Bytes → Option (List ℕ) → Shared → Building
+addLength l none w = failed (pointsFault none) w
+addLength l (some vs) w = add l (decimal (length vs)) w
 
--- ed8: the byte value of exactly one byte, or 16
-unfoldable pub addByteValue : Bytes → Bytes → Shared → Building
-addByteValue l [] w = failed 16 w
-addByteValue l (x ∷ []) w = add l (decimal x) w
-addByteValue l (x ∷ y ∷ s) w = failed 16 w
+-- document 01's number for ed8, by its parameter's code points: 21 where a character is malformed, and else 16 unless there is exactly one
+abbrev pub codePointFault : Option (List ℕ) → ℕ
+codePointFault none = pointsFault none
+codePointFault (some []) = 16
+codePointFault (some (v ∷ [])) = 0
+codePointFault (some (v ∷ u ∷ vs)) = 16
+
+-- ed8: the code point of its only character, or 21 or 16
+unfoldable pub addCodePoint : Bytes → Option (List ℕ) → Shared → Building
+addCodePoint l none w = failed (codePointFault none) w
+addCodePoint l (some []) w = failed (codePointFault (some [])) w
+addCodePoint l (some (v ∷ [])) w = add l (decimal v) w
+addCodePoint l (some (v ∷ u ∷ vs)) w = failed (codePointFault (some (v ∷ u ∷ vs))) w
 
 -- a conversion of parameter d
 unfoldable pub addConverted : Marks → Frame → ℕ → Conversion → Bytes → Shared → Building
@@ -113,8 +122,8 @@ addConverted m f d StoredText l w = add l (orNothing (find (param f d) (w .store
 addConverted m f d Symbol l w = addSymbol l (param f d) (find (param f d) (w .store)) w
 addConverted m f d LatestDelimiter l w = add l (getD (f .delimiters) (d - 1) []) w
 addConverted m f d ExpressionValue l w = addValue m l (valueOf m (w .store) (param f d)) w
-addConverted m f d Length l w = addLength l (param f d) w
-addConverted m f d ByteValue l w = addByteValue l (param f d) w
+addConverted m f d Length l w = addLength l (points (param f d)) w
+addConverted m f d CodePoint l w = addCodePoint l (points (param f d)) w
 
 -- a byte is copied; e0k is the call's number times 10, plus k
 unfoldable pub addPart : Marks → Frame → Part → Bytes → Shared → Building
@@ -150,15 +159,26 @@ pieceOf (suc f) m ds (x ∷ s) =
       | false ↦ elim (atom m (x ∷ s)) [ none ↦ none | some a ↦ longer (a .0) (pieceOf f m ds (a .1)) ]
     ]
 
--- what a pass takes: with no list, one byte
+-- a character as a piece
+unfoldable pub onePass : Option Character → Option Piece
+onePass none = none
+onePass (some c) = some (record { piece = c .bytes; delimiter = []; rest = c .rest })
+
+-- what a pass takes: with no list, one character, or nothing of an empty line
 unfoldable pub passOf : Marks → Bytes → Bytes → Option Piece
 passOf m [] [] = some (record { piece = []; delimiter = []; rest = [] })
-passOf m [] (x ∷ s) = some (record { piece = x ∷ []; delimiter = []; rest = s })
+passOf m [] (x ∷ s) = onePass (character (x ∷ s))
 passOf m (d ∷ ds) s = pieceOf (length s + 1) m (d ∷ ds) s
 
--- a pass sets d and its delimiter, and goes on after the opening line; 17 where a bracket begins no atom
+-- document 01's number where a pass finds nothing to take, by the list: 21 without one, for a character is malformed; 17 with one, for a bracket begins
+-- no atom
+abbrev pub noPass : Bytes → ℕ
+noPass [] = characterFault none
+noPass (d ∷ ds) = 17
+
+-- a pass sets d and its delimiter, and goes on after the opening line; 17 or 21 where it finds nothing to take
 unfoldable pub takePass : ℕ → Option Piece → Bytes → Bytes → List Bytes → List Loop → Frame → Shared → Step
-takePass d none ds old after ls f w = halts 17 w
+takePass d none ds old after ls f w = halts (noPass ds) w
 takePass d (some p) ds old after ls f w =
     continues (record {
       number = f .number;

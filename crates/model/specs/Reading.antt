@@ -1,10 +1,10 @@
 -- Templates, pieces, readings and their order (document 01, "Fitting a line").
-use mathlib.Core.Bool.{Bool, true, false, not, _&&_, _||_}
+use mathlib.Core.Bool.{Bool, true, false, _&&_}
 use mathlib.Core.Option.{Option, none, some}
 use mathlib.Core.List.{List, [], _∷_, _++_, map}
-use Prim.Native.Nat.{ℕ, zero, suc, _+_, _-_}
-use lib.Dec.{eqb, leb, ltb}
-use lib.ListN.{length, take, drop}
+use Prim.Native.Nat.{ℕ, suc, _+_, _-_}
+use lib.Dec.{eqb, ltb}
+use lib.ListN.{length}
 use Rattle.model.specs.declared.Marks.{Marks}
 use Rattle.model.specs.Text.{Bytes}
 

@@ -1,10 +1,10 @@
 -- Bytes, lines and marks of a text (document 01, "The text").
 use mathlib.Core.Path.{_≡_}
-use mathlib.Core.Bool.{Bool, true, false, not, _&&_, _||_}
+use mathlib.Core.Bool.{Bool, true, false, not, _&&_}
 use mathlib.Core.Option.{Option, none, some}
 use mathlib.Core.List.{List, [], _∷_, _++_}
-use Prim.Native.Nat.{ℕ, zero, suc, _+_, _-_}
-use lib.Dec.{eqb, leb, ltb}
+use Prim.Native.Nat.{ℕ, _+_, _-_}
+use lib.Dec.{eqb, leb}
 use lib.ListN.{length, getD, take, drop}
 use Rattle.model.specs.declared.Marks.{Marks}
 

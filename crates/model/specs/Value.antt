@@ -1,11 +1,11 @@
 -- Values of expressions (document 01, "Values").
-use mathlib.Core.Bool.{Bool, true, false, not, _&&_, _||_}
+use mathlib.Core.Bool.{Bool, true, false, _&&_}
 use mathlib.Core.Option.{Option, none, some}
-use mathlib.Core.List.{List, [], _∷_, _++_}
-use Prim.Native.Nat.{ℕ, zero, suc, _+_, _-_, _*_, _/_, _%_}
-use lib.Dec.{eqb, leb, ltb}
+use mathlib.Core.List.{List, [], _∷_}
+use Prim.Native.Nat.{ℕ, zero, suc, _+_, _-_, _*_, _/_}
+use lib.Dec.{eqb, leb}
 use lib.ListN.{length}
-use lib.IntN.{ℤ, pos, negsuc, negℤ, _+ℤ_, _-ℤ_, _*ℤ_, natAbs}
+use lib.IntN.{ℤ, pos, negsuc, negℤ, _+ℤ_, _-ℤ_, _*ℤ_}
 use Rattle.model.specs.declared.Marks.{Marks}
 use Rattle.model.specs.Text.{isDigit, has}
 use Rattle.model.specs.Store.{Store, find, decimal}

@@ -83,10 +83,10 @@ pub enum Conversion {
     LatestDelimiter,
     // ed4, its value as an expression
     ExpressionValue,
-    // ed5, its length
+    // ed5, the number of its characters
     Length,
-    // ed8, the value of its only byte
-    ByteValue,
+    // ed8, the code point of its only character
+    CodePoint,
 }
 
 // What checking a text answers.

@@ -1,24 +1,29 @@
--- The pieces of a pass, byte by byte and atom by atom.
-use mathlib.Core.Path.{_≡_, refl, sym, _∙_, ap, ap₂}
+-- The pieces of a pass: a character, or a row of atoms.
+use mathlib.Core.Path.{_≡_, refl, sym, _∙_, ap, ap₂, subst}
 use mathlib.Core.Bool.{Bool, true, false}
 use mathlib.Core.Option.{Option, none, some}
 use mathlib.Core.List.{[], _∷_, _++_, append-nil, append-assoc}
 use Prim.Native.Nat.{ℕ, suc, _+_, _-_, _≤_, _<_}
 use native.Mathlib.Numerals.{add-one}
 use native.Mathlib.Omega.{arith}
-use lib.ListN.{length, getD, take, drop, drop-of-length-le, length-drop}
-use lib.Seq.{drop-cons, take-length}
+use lib.ListN.{length, getD, drop, drop-of-length-le, length-drop}
+use lib.Seq.{drop-cons}
 use borrow.Author.Tests.{lt-ltb, le-ltb}
 use Rattle.model.specs.declared.Marks.{Marks}
 use Rattle.model.specs.Text.{Bytes, part, has}
 use Rattle.model.specs.Reading.{atom}
-use Rattle.model.specs.Machine.{Piece, longer, pieceOf, passOf}
+use Rattle.model.specs.Utf8.{Character, character}
+use Rattle.model.specs.Machine.{Piece, longer, pieceOf, onePass, passOf}
 use Rattle.model.proofs.Text.{part-join}
 use Rattle.model.proofs.Depth.{piece-enough}
 use Rattle.atom.specs.Atoms.{AtomAt}
 use Rattle.scan.specs.Lines.{Has}
+use Rattle.character.specs.declared.Decoded.{Decoded}
+use Rattle.character.specs.declared.Decoded.the-variants.{One, Malformed, Nothing}
+use Rattle.character.specs.Decoding.{ReadsCharacter}
+use Rattle.character.proofs.Decoding.{one-bounds, one-is, malformed-bounds, malformed-is, nothing-bounds}
 use Rattle.pass.specs.declared.Taken.{Taken}
-use Rattle.pass.specs.Pass.{delimiterOf, pieceAt, Takes}
+use Rattle.pass.specs.Pass.{delimiterOf, pieceAt, Takes, TakesCharacter, ChoosesFault}
 
 -- ---- a delimiter
 
@@ -152,37 +157,89 @@ module _ {m : Marks} {line : Bytes} {at : ℕ} {list : Bytes} where
 
 -- ---- with no list
 
-no-list : (m : Marks) (list s : Bytes) → length list ≤ 0 → passOf m list s ≡ passOf m [] s
-no-list m list s h = let z : length list ≡ 0 = omega arith in ap (λ (l : Bytes). passOf m l s) (sym (take-length list) ∙ ap (λ (n : ℕ). take n list) z)
+-- a pass takes the character at the front, or finds none
+pass-none : (m : Marks) (x : ℕ) (s : Bytes) → character (x ∷ s) ≡ none → passOf m [] (x ∷ s) ≡ none
+unfolding passOf onePass
+pass-none m x s e = ap onePass e
 
-module _ {m : Marks} {line : Bytes} {at : ℕ} {list : Bytes} where
-  pub takes-nothing : length list ≤ 0 → at ≡ length line → Takes m line at list (record { ok = true; end = at; delimiter = 256; rest = at })
+pass-one : (m : Marks) (x : ℕ) (s : Bytes) (c : Character) → character (x ∷ s) ≡ some c → passOf m [] (x ∷ s) ≡ some (record { piece = c .bytes; delimiter = []; rest = c .rest })
+unfolding passOf onePass
+pass-one m x s c e = ap onePass e
+
+module _ {line : Bytes} {at : ℕ} {d : Decoded} (k : ReadsCharacter line at d) where
+  -- a character
+  pub takes-one : {code len : ℕ} → d ≡ One code len → TakesCharacter line at (record { ok = true; end = at + len; delimiter = 256; rest = at + len })
+  unfolding pieceAt
+  takes-one {code} {len} e =
+      let b = one-bounds k e in
+      let low = b .1 .0 in
+      let high = b .1 .1 .1 in
+      let n : drop at line ≡ getD line at 0 ∷ drop (suc at) line = drop-cons line at 0 (omega arith) in
+      let c : Character = record { code = code; bytes = part line at (at + len); rest = drop (at + len) line } in
+      record {
+        takes = λ m. record {
+          is = ap (passOf m []) n ∙ pass-one m (getD line at 0) (drop (suc at) line) c (ap character (sym n) ∙ one-is k e)
+              ∙ ap (λ (x : Bytes). some (record { piece = c .bytes; delimiter = x; rest = c .rest })) (sym (delimiter-none 256 (omega arith)));
+          low = omega arith;
+          high = omega arith;
+          within = high;
+          delimiter = omega arith;
+          ahead = λ _. omega arith;
+        };
+      }
+
+  -- malformed bytes
+  pub takes-malformed : at ≤ length line → d ≡ Malformed → TakesCharacter line at (record { ok = false; end = at; delimiter = 256; rest = length line })
+  unfolding pieceAt
+  takes-malformed h e =
+      let n : drop at line ≡ getD line at 0 ∷ drop (suc at) line = drop-cons line at 0 (malformed-bounds k e) in
+      record {
+        takes = λ m. record {
+          is = ap (passOf m []) n ∙ pass-none m (getD line at 0) (drop (suc at) line) (ap character (sym n) ∙ malformed-is k e);
+          low = omega arith;
+          high = h;
+          within = omega arith;
+          delimiter = omega arith;
+          ahead = λ l. l;
+        };
+      }
+
+  -- nothing at the line's end
+  pub takes-nothing : at ≤ length line → d ≡ Nothing → TakesCharacter line at (record { ok = true; end = at; delimiter = 256; rest = at })
   unfolding passOf pieceAt delimiterOf
   takes-nothing h e =
-      let n : drop at line ≡ [] = drop-of-length-le line {i = at} (omega arith) in
+      let l = nothing-bounds k e in
+      let n : drop at line ≡ [] = drop-of-length-le line {i = at} l in
       let z : at - at ≡ 0 = omega arith in
       record {
-        is = no-list m list (drop at line) h ∙ rw (n, passOf, z) refl;
-        low = omega arith;
-        high = omega arith;
-        within = omega arith;
-        delimiter = omega arith;
-        ahead = λ l. absurd (omega arith);
+        takes = λ m. record {
+          is = rw (n, passOf, z) refl;
+          low = omega arith;
+          high = omega arith;
+          within = h;
+          delimiter = omega arith;
+          ahead = λ q. absurd (omega arith);
+        };
       }
 
-  pub takes-byte : length list ≤ 0 → at ≤ length line → ¬ (at ≡ length line) → Takes m line at list (record { ok = true; end = at + 1; delimiter = 256; rest = at + 1 })
-  unfolding passOf pieceAt delimiterOf
-  takes-byte h l k =
-      let n : drop at line ≡ getD line at 0 ∷ drop (suc at) line = drop-cons line at 0 (omega arith) in
-      let z : at + 1 - at ≡ 1 = omega arith in
-      record {
-        is = no-list m list (drop at line) h ∙ rw (n, passOf, z, add-one) refl;
-        low = omega arith;
-        high = omega arith;
-        within = omega arith;
-        delimiter = omega arith;
-        ahead = λ _. omega arith;
-      }
+-- an empty list is no list
+no-list : (list : Bytes) → length list ≤ 0 → list ≡ []
+no-list [] h = refl
+no-list (d ∷ ds) h = absurd (omega arith)
+
+-- what a pass takes with an empty list
+pub takes-character : {m : Marks} {line : Bytes} {at : ℕ} {list : Bytes} {r : Taken} → length list ≤ 0 → TakesCharacter line at r → Takes m line at list r
+takes-character {m} {line} {at} {list} {r} h t = subst (λ (l : Bytes). Takes m line at l r) (sym (no-list list h)) (t .takes m)
+
+-- ---- the number of a pass that finds nothing
+
+pub fault-with : {list : Bytes} → 0 < length list → ChoosesFault list 17
+fault-with {list = []} h = absurd (omega arith)
+fault-with {list = d ∷ ds} h = record { is = refl }
+
+pub fault-without : {list : Bytes} → length list ≤ 0 → ChoosesFault list 21
+fault-without {list = []} h = record { is = refl }
+fault-without {list = d ∷ ds} h = absurd (omega arith)
 
 -- ---- what a caller learns by the flag
 

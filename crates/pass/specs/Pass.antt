@@ -8,7 +8,7 @@ use lib.Dec.{ltb}
 use lib.ListN.{length, drop}
 use Rattle.model.specs.declared.Marks.{Marks}
 use Rattle.model.specs.Text.{Bytes, part}
-use Rattle.model.specs.Machine.{Piece, passOf}
+use Rattle.model.specs.Machine.{Piece, passOf, noPass}
 use Rattle.pass.specs.declared.Taken.{Taken}
 
 -- a delimiter as bytes: a number that is no byte is none
@@ -31,3 +31,11 @@ pub record Takes (m : Marks) (line : Bytes) (at : ℕ) (list : Bytes) (r : Taken
   pub within : r .rest ≤ length line
   pub delimiter : r .delimiter ≤ 256
   pub ahead : at < length line → at < r .rest
+
+-- what a pass takes without a list, whatever the marks
+pub record TakesCharacter (line : Bytes) (at : ℕ) (r : Taken) : Type 0 where
+  pub takes : (m : Marks) → Takes m line at [] r
+
+-- k is document 01's number where a pass with this list finds nothing to take
+pub record ChoosesFault (list : Bytes) (k : ℕ) : Type 0 where
+  pub is : k ≡ noPass list

@@ -2,16 +2,18 @@
 // in the line or at its end; nothing else is asked.
 use atom::next_atom;
 use buffer::wide;
+use character::Decoded;
+use character::read_character;
 use model::Marks;
 use scan::has_byte;
 ghost use Prim.Native.Nat.{_≤_, _<_};
 ghost use lib.ListN.{length};
-ghost use Rattle.pass.specs.Pass.{Takes};
+ghost use Rattle.pass.specs.Pass.{Takes, TakesCharacter, ChoosesFault};
 
 // In place of a delimiter: none.
 pub const NO_DELIMITER: usize = 256;
 
-// What a pass takes: the piece ends before `end`, and the rest starts at `rest`. Not ok: a bracket begins no atom.
+// What a pass takes: the piece ends before `end`, and the rest starts at `rest`. Not ok: it finds nothing to take.
 pub struct Taken {
     pub ok: bool,
     pub end: usize,
@@ -56,7 +58,37 @@ fn take_atoms(m: Marks, line: &[u8], at: usize, list: &[u8]) -> Taken
     }
 }
 
-// What a pass takes from the line, from `at` on. With no list, it takes one byte.
+// With no list, a pass takes one character, or nothing at the line's end.
+fn take_character(line: &[u8], at: usize) -> Taken
+    requires { ⌜ at ≤ length (now line) ⌝ }
+    ensures { λ r. ⌜ TakesCharacter (now (line .entry)) at r ⌝ }
+{
+    match read_character(line, at) {
+        Decoded::One { code: _, len } => {
+            let end = at + len;
+            Taken {
+                ok: true,
+                end,
+                delimiter: NO_DELIMITER,
+                rest: end,
+            }
+        }
+        Decoded::Malformed => Taken {
+            ok: false,
+            end: at,
+            delimiter: NO_DELIMITER,
+            rest: line.len(),
+        },
+        Decoded::Nothing => Taken {
+            ok: true,
+            end: at,
+            delimiter: NO_DELIMITER,
+            rest: at,
+        },
+    }
+}
+
+// What a pass takes from the line, from `at` on.
 pub fn take_piece(m: Marks, line: &[u8], at: usize, list: &[u8]) -> Taken
     requires { ⌜ at ≤ length (now line) ⌝ }
     ensures { λ r. ⌜ Takes m (now (line .entry)) at (now (list .entry)) r ⌝ }
@@ -64,18 +96,15 @@ pub fn take_piece(m: Marks, line: &[u8], at: usize, list: &[u8]) -> Taken
     if 0 < list.len() {
         return take_atoms(m, line, at, list);
     }
-    if at == line.len() {
-        return Taken {
-            ok: true,
-            end: at,
-            delimiter: NO_DELIMITER,
-            rest: at,
-        };
+    take_character(line, at)
+}
+
+// The number of a pass that finds nothing to take: 17 with a list, for a bracket begins no atom; 21 without one, for a character is malformed.
+pub fn choose_fault(list: &[u8]) -> usize
+    ensures { λ r. ⌜ ChoosesFault (now (list .entry)) r ⌝ }
+{
+    if 0 < list.len() {
+        return 17;
     }
-    Taken {
-        ok: true,
-        end: at + 1,
-        delimiter: NO_DELIMITER,
-        rest: at + 1,
-    }
+    21
 }

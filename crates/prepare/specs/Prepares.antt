@@ -1,7 +1,7 @@
 -- A text that is ready for fitting its lines: loaded into a table of macros, with the tree of its templates in the row of nodes.
 use mathlib.Core.Path.{_≡_}
 use mathlib.Core.List.{List}
-use Prim.Native.Nat.{ℕ, _≤_}
+use Prim.Native.Nat.{_≤_}
 use lib.ListN.{length}
 use Rattle.model.specs.Limits.{textMost}
 use Rattle.model.specs.Text.{Bytes}

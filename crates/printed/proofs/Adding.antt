@@ -1,4 +1,4 @@
--- Rows that are added part by part. Assumes nothing.
+-- Rows that are added part by part.
 use mathlib.Core.Path.{_≡_, refl, sym, ap, subst, _∙_}
 use mathlib.Core.List.{[], _∷_, _++_, append-assoc}
 use Prim.Native.Nat.{ℕ, _+_, _-_, _≤_}

@@ -1,5 +1,5 @@
 -- What each program prints: the room suffices, and the parts make the whole. Two of them are loops, over the pieces of a reading and
--- over the lines of a file. Assumes nothing.
+-- over the lines of a file.
 use mathlib.Core.Path.{_≡_, refl, sym, ap, subst, _∙_}
 use mathlib.Core.List.{List, [], _∷_, _++_, append-nil, append-assoc}
 use Prim.Native.Nat.{ℕ, suc, _+_, _*_, _≤_, _<_}

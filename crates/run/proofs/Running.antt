@@ -9,7 +9,7 @@ use lib.Seq.{length-take-le}
 use Rattle.model.specs.declared.Ran.{Ran}
 use Rattle.model.specs.Text.{Bytes}
 use Rattle.model.specs.Store.{listing}
-use Rattle.model.specs.Load.{loaded, load}
+use Rattle.model.specs.Load.{load}
 use Rattle.model.specs.Machine.{Next, running, after, initial, Result, outcome, run}
 use Rattle.model.specs.Results.{ranAs}
 use Rattle.nodes.specs.declared.Node.{Node}
@@ -29,7 +29,7 @@ use Rattle.matching.specs.Book.{Prepared}
 use Rattle.prepare.specs.declared.Tables.{Tables}
 use Rattle.prepare.specs.Prepares.{Prepares}
 use Rattle.answer.specs.declared.Answer.{Answer}
-use Rattle.answer.specs.Answers.{endNumber, resultAfter}
+use Rattle.answer.specs.Answers.{turn, endNumber, resultAfter}
 use Rattle.input.specs.Expands.{Expands}
 use Rattle.model.specs.Runs.{Runs}
 use Rattle.run.specs.Inner.{refusal, ReadyToRun, startOf, EndsRun}
@@ -89,7 +89,7 @@ ready {text} {row} {t} p z b =
 -- ---- the expansion of a text that is ready
 
 -- the answer, once memory is listed
-pub ended-as : {q : Answer} {memory store store′ : Bytes} {a b c d e k n : ℕ} → Lists memory (q .state .index) store n store′ → k ≡ endNumber (q .turn) → a ≡ k
+pub ended-as : {q : Answer} {memory store store′ : Bytes} {a b c d e k n : ℕ} → Lists memory (q .state .index) store n store′ → k ≡ endNumber (turn q) → a ≡ k
     → b ≡ q .state .line → c ≡ q .state .events → d ≡ q .state .written → e ≡ n → EndsRun q memory store (record { number = a; line = b; events = c; output = d; store = e }) store′
 ended-as {q} {memory} {store} {store′} {e = e} h z u v w x y =
     record {
@@ -130,7 +130,7 @@ module _ {text : Bytes} {row : List Node} {bodies : List ℕ} {l : Loading} (y :
             let w = length-take-le (q .state .written) output′ (e .sound .written) in
             let o : r .output ≡ q .state .written = ap (λ (z : Ran). z .output) (d .is) in
             same-runs whole (record {
-              is = d .is ∙ (λ i. record { number = endNumber (q .turn); line = q .state .line; events = q .state .events; output = sym w i; store = sym (d .lists .long) i });
+              is = d .is ∙ (λ i. record { number = endNumber (turn q); line = q .state .line; events = q .state .events; output = sym w i; store = sym (d .lists .long) i });
               writes = sym (take-append-drop (q .state .written) output′) ∙ ap (λ (z : Bytes). take (q .state .written) output′ ++ z) (e .extends .rest)
                   ∙ ap (λ (n : ℕ). take (q .state .written) output′ ++ drop n output) (sym w);
               lists = d .lists .is ∙ ap (λ (n : ℕ). listing (held (q .state .index .count) memory′) ++ drop n store) (sym (d .lists .long));

@@ -9,7 +9,6 @@ use Rattle.model.specs.Text.{Bytes, lines}
 use Rattle.model.specs.Store.{listing}
 use Rattle.model.specs.Load.{Loaded, loaded, load}
 use Rattle.model.specs.Machine.{Result}
-use Rattle.model.specs.Results.{illegal}
 use Rattle.buffer.specs.Written.{Written}
 use Rattle.nodes.specs.declared.Node.{Node}
 use Rattle.store.specs.declared.Index.{Index}
@@ -18,7 +17,7 @@ use Rattle.state.specs.declared.State.{State}
 use Rattle.load.specs.declared.Loading.{Loading}
 use Rattle.matching.specs.Book.{Book}
 use Rattle.answer.specs.declared.Answer.{Answer}
-use Rattle.answer.specs.Answers.{endNumber}
+use Rattle.answer.specs.Answers.{turn, endNumber}
 
 -- the result of a text that is refused, or of illegal arguments
 abbrev pub refusal : ℕ → ℕ → Result
@@ -40,5 +39,5 @@ startOf r x fuel = record { at = r .input; line = r .line; calls = 0; symbols = 
 
 -- r is the answer of a run that ended with q, and what memory holds is listed in the store
 pub record EndsRun (q : Answer) (memory store : Bytes) (r : Ran) (store′ : Bytes) : Type 0 where
-  pub is : r ≡ record { number = endNumber (q .turn); line = q .state .line; events = q .state .events; output = q .state .written; store = r .store }
+  pub is : r ≡ record { number = endNumber (turn q); line = q .state .line; events = q .state .events; output = q .state .written; store = r .store }
   pub lists : Written store (listing (held (q .state .index .count) memory)) (r .store) store′

@@ -1,4 +1,4 @@
--- F4 to F6: code lines are skipped. Assumes nothing.
+-- F4 to F6: code lines are skipped.
 use mathlib.Core.Path.{_≡_, refl, sym, ap, ap₂, subst, _∙_}
 use mathlib.Core.Bool.{Bool, true, false, not}
 use mathlib.Core.Option.{Option, none, some}
@@ -32,10 +32,8 @@ use Rattle.number.proofs.Signed.{above-zero}
 use Rattle.value.specs.Reads.{Values}
 use Rattle.write.specs.Layout.{bare}
 use Rattle.write.proofs.Fields.{lies-param}
-use Rattle.answer.specs.declared.Turn.{Turn}
-use Rattle.answer.specs.declared.Turn.the-variants.{Continues, Offers, Back, Halts}
 use Rattle.answer.specs.declared.Answer.{Answer}
-use Rattle.answer.specs.Answers.{goesOn, endsWith, isOffer, offeredLength, settle}
+use Rattle.answer.specs.Answers.{turn, Turn, Continues, Offers, Back, Halts, goesOn, endsWith, isOffer, offeredLength, settle}
 use Rattle.answer.specs.Kept.{Extends, Stays, Comes}
 use Rattle.answer.proofs.Following.{extends-none, stays-same}
 use Rattle.answer.proofs.Coming.{comes-as, came-on, came-end}
@@ -57,7 +55,7 @@ lands-come {m} {text} {c} {n} {nums} {bytes} {s} {o} {memory} {b} {r} h q l = re
   same = λ fs. ap (λ (x : State). settle (skipIn m n (frameOf m text (laid c nums bytes) ∷ fs) (sharedOf s o memory) (stateOf text none fs x o memory))) (l .state) ∙ l .same fs nums bytes b o memory;
   sound = subst (λ (x : State). Sound x o memory) (sym (l .state)) h;
   placed = l .placed nums bytes q;
-  short = no-offer (r .turn) (l .settled);
+  short = no-offer (turn r) (l .settled);
   stays = subst (Stays s) (sym (l .state)) (stays-same s);
   extends = subst (λ (x : State). Extends o (s .written) o (x .written)) (sym (l .state)) (extends-none (h .written));
 }

@@ -1,4 +1,4 @@
--- An answer of C's read by its sign. Assumes nothing.
+-- An answer of C's read by its sign.
 use mathlib.Core.Path.{_≡_, refl, sym, ap}
 use mathlib.Core.Bool.{true, false}
 use Prim.Native.Nat.{ℕ}

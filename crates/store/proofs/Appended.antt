@@ -1,4 +1,4 @@
--- A new name and its text, appended. Assumes nothing.
+-- A new name and its text, appended.
 use mathlib.Core.Path.{_≡_, sym, ap, ap₂, _∙_}
 use mathlib.Core.List.{List, [], _∷_, _++_, append-assoc, append-nil}
 use Prim.Native.Nat.{ℕ, suc, _+_, _*_, _≤_, _<_}

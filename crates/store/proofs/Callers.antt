@@ -1,4 +1,4 @@
--- What callers take from the contracts, over the store that memory holds. Assumes nothing.
+-- What callers take from the contracts, over the store that memory holds.
 use mathlib.Core.Path.{_≡_, refl, sym, ap, _∙_, subst}
 use mathlib.Core.Bool.{true, false}
 use mathlib.Core.Option.{Option, none, some}

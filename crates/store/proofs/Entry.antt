@@ -1,4 +1,4 @@
--- The entry of a name: among the entries, in memory, and as `seek` answers it. Assumes nothing.
+-- The entry of a name: among the entries, in memory, and as `seek` answers it.
 use mathlib.Core.Path.{_≡_, refl, sym, ap, ap₂, _∙_}
 use mathlib.Core.Bool.{Bool, true, false}
 use mathlib.Core.Option.{none, some}

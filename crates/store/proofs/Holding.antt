@@ -1,4 +1,4 @@
--- When memory holds entries, and when `put` is done or refused. Assumes nothing.
+-- When memory holds entries, and when `put` is done or refused.
 use mathlib.Core.Path.{_≡_, refl, sym, ap, ap₂, _∙_, subst}
 use mathlib.Core.Bool.{Bool, false, _&&_}
 use mathlib.Core.List.{List, [], _++_}

@@ -1,4 +1,4 @@
--- The whole listing: names, the byte 10, texts. Assumes nothing.
+-- The whole listing: names, the byte 10, texts.
 use mathlib.Core.Path.{_≡_, refl, sym, ap, _∙_, subst}
 use mathlib.Core.Bool.{true, false}
 use mathlib.Core.List.{List, [], _∷_, _++_, append-assoc}

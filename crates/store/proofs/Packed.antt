@@ -1,4 +1,4 @@
--- From bytes to entries and back. Assumes nothing.
+-- From bytes to entries and back.
 use mathlib.Core.Path.{_≡_, refl, sym, ap, _∙_}
 use mathlib.Core.List.{List, [], _∷_, _++_, append-assoc}
 use Prim.Native.Nat.{ℕ, zero, suc, _+_, _*_, _≤_}

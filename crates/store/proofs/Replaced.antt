@@ -1,4 +1,4 @@
--- The text of a name that is there, replaced. Assumes nothing.
+-- The text of a name that is there, replaced.
 use mathlib.Core.Path.{_≡_, refl, sym, ap, ap₂, _∙_}
 use mathlib.Core.List.{List, [], _∷_, _++_, append-assoc}
 use Prim.Native.Nat.{ℕ, _+_, _-_, _*_, _≤_, _<_}

@@ -1,4 +1,4 @@
--- The search for a name. Assumes nothing.
+-- The search for a name.
 use mathlib.Core.Path.{_≡_, refl, sym, ap, _∙_}
 use mathlib.Core.Bool.{Bool, true, false}
 use mathlib.Core.List.{List}

@@ -1,4 +1,4 @@
--- A walk through memory, entry by entry. Assumes nothing.
+-- A walk through memory, entry by entry.
 use mathlib.Core.Path.{_≡_, sym, ap, ap₂, _∙_}
 use mathlib.Core.List.{List, [], _∷_}
 use Prim.Native.Nat.{ℕ, zero, suc, _+_, _-_, _≤_, _<_}

@@ -1,4 +1,4 @@
--- Each name, or each text, written with a mark after it. Assumes nothing.
+-- Each name, or each text, written with a mark after it.
 use mathlib.Core.Path.{_≡_, refl, sym, ap, ap₂, _∙_, subst}
 use mathlib.Core.Bool.{Bool, true, false, cond}
 use mathlib.Core.List.{List, [], _∷_, _++_, append-assoc, append-nil}

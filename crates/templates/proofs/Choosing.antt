@@ -7,7 +7,7 @@ use borrow.Author.Tests.{eq-eqb, ne-eqb}
 use lib.ListN.{length, getD, set, length-set}
 use lib.Seq.{getD-set-same, getD-set-other}
 use Rattle.model.specs.Text.{Bytes, part}
-use Rattle.macros.specs.Table.{startIn, lenIn, templateIn, templatesIn}
+use Rattle.macros.specs.Table.{startIn, lenIn, templatesIn}
 use Rattle.templates.specs.Keys.{keyOf, keys, Key, Least, LeastOfAll, moveTo, MovedOn}
 use Rattle.macros.proofs.Table.{one-more, entry-is, templates-in-length, templates-in-at}
 

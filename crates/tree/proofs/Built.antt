@@ -16,7 +16,7 @@ use Rattle.nodes.specs.Rows.{noNode, elem, code, firstOf, countOf, templateOf, 
 use Rattle.nodes.proofs.Rows.{front-node}
 use Rattle.nodes.specs.Templates.{Beginnings}
 use Rattle.nodes.proofs.Templates.{represents}
-use Rattle.templates.specs.Count.{known, beginnings}
+use Rattle.templates.specs.Count.{known}
 use Rattle.templates.specs.Keys.{keys, codeOf, Share, one, cnt, holed}
 use Rattle.tree.specs.Nodes.{columns, Half, Made}
 use Rattle.tree.specs.Built.{ReadyToBuild, order, Built, Growing, NodesMade}

@@ -1,10 +1,10 @@
--- Bytes that come after the first w of a list, one part after the other. Assumes nothing.
+-- Bytes that come after the first w of a list, one part after the other.
 use mathlib.Core.Path.{_≡_, refl, sym, ap, subst, _∙_}
 use mathlib.Core.List.{[], _∷_, _++_, append-assoc, append-nil}
 use Prim.Native.Nat.{ℕ, _+_, _-_, _≤_, _<_}
 use native.Mathlib.Omega.{arith}
-use lib.ListN.{length, set, take, drop, replicate, length-append, replicate-append-replicate}
-use lib.Seq.{length-take-le, take-at, take-take, drop-drop}
+use lib.ListN.{length, set, take, replicate, length-append, replicate-append-replicate}
+use lib.Seq.{length-take-le, take-at, take-take}
 use Rattle.model.specs.Text.{Bytes}
 use Rattle.buffer.specs.Pasted.{Pasted}
 use Rattle.buffer.specs.Written.{Written}

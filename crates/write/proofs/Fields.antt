@@ -1,4 +1,4 @@
--- The text of a layout: its fields and its other bytes. Assumes nothing.
+-- The text of a layout: its fields and its other bytes.
 use mathlib.Core.Path.{_≡_, refl, sym, ap, ap₂, _∙_}
 use mathlib.Core.Bool.{Bool, true, false, _&&_}
 use mathlib.Core.List.{List, [], _∷_, _++_, append-assoc, append-nil}

@@ -1,4 +1,4 @@
--- A line written whole, or not at all, and what that comes to. Assumes nothing.
+-- A line written whole, or not at all, and what that comes to.
 use mathlib.Core.Path.{_≡_, refl, sym, ap, subst, _∙_}
 use mathlib.Core.Bool.{Bool, true, false}
 use mathlib.Core.Option.{none}
@@ -10,7 +10,7 @@ use lib.ListN.{length, take, set}
 use lib.Seq.{length-take-le}
 use Rattle.model.specs.declared.Marks.{Marks}
 use Rattle.model.specs.Text.{Bytes, part}
-use Rattle.model.specs.Machine.{Frame, Shared, Step, continues, halts, output, Next, running, ended, stateWith, stepped, passThrough}
+use Rattle.model.specs.Machine.{Frame, continues, output, running, ended, stateWith, stepped, passThrough}
 use Rattle.model.proofs.Choices.{when-true, when-false, false-not-true}
 use Rattle.model.proofs.Text.{part-front}
 use Rattle.buffer.specs.Pasted.{Pasted}
@@ -19,7 +19,7 @@ use Rattle.state.specs.State.{sharedOf, stateOf, withWritten, Sound}
 use Rattle.call.specs.declared.Head.{Head}
 use Rattle.call.specs.Call.{Laid, laid, frameOf, Placed}
 use Rattle.answer.specs.declared.Answer.{Answer}
-use Rattle.answer.specs.Answers.{goesOn, goesBack, endsWith, isLeft, settle, nextOf}
+use Rattle.answer.specs.Answers.{turn, goesOn, goesBack, endsWith, isLeft, settle, nextAt, nextOf}
 use Rattle.answer.specs.Kept.{Extends, Comes, Follows}
 use Rattle.answer.proofs.Following.{extends-none, follows-itself}
 use Rattle.answer.proofs.Coming.{comes-as, came-end}
@@ -30,8 +30,8 @@ use Rattle.write.proofs.Adding.{adds-as, adds-copy, adds-store, adds-mo
 use Rattle.write.proofs.Fields.{layout-long}
 
 pub closes : {o : Bytes} {at : ℕ} {r : Answer} {t : State} → at < length o → t ≡ withWritten (r .state) (at + 1)
-    → ClosesLine o at r (record { turn = r .turn; call = r .call; state = t }) (set o at 10)
-closes {r = r} h e = record { adds = adds-store 10 h; is = ap (λ (x : State). record { turn = r .turn; call = r .call; state = x }) e }
+    → ClosesLine o at r (record { kind = r .kind; count = r .count; call = r .call; state = t }) (set o at 10)
+closes {r = r} h e = record { adds = adds-store 10 h; is = ap (λ (x : State). record { kind = r .kind; count = r .count; call = r .call; state = x }) e }
 
 module _ {l : Bytes} {r : Answer} {o : Bytes} {n : ℕ} where
   -- the line and a byte 10 are there
@@ -75,6 +75,15 @@ module _ {line : Bytes} {n : ℕ} {r : Answer} {o : Bytes} {a : Answer} (h : n �
       let l : length (part line 0 n) ≡ n = ap (λ (x : Bytes). length x) f ∙ length-take-le n line h in
       record { writes = writes (adds-as (adds-copy g (omega arith)) f l) c }
 
+-- ---- a line that is done with
+
+-- what the writer asks
+pub back-room : {t : State} {q : Answer} {n : ℕ} → q ≡ goesBack 0 t → t .written ≤ n → q .state .written ≤ n
+back-room {n = n} e h = subst (λ (x : Answer). x .state .written ≤ n) (sym e) h
+
+pub passed-through : {line o o′ : Bytes} {n : ℕ} {s : State} {r a : Answer} → r ≡ goesBack 0 s → WritesLine line n r o a o′ → WritesLine line n (goesBack 0 s) o a o′
+passed-through {line} {o} {o′} {n} {a = a} e h = subst (λ (x : Answer). WritesLine line n x o a o′) e h
+
 -- ---- a layout
 
 module _ {m : Marks} {text : Bytes} {at to : ℕ} {c : Laid} {r : Answer} {o : Bytes} {a : Answer} (h : to ≤ length text) where
@@ -94,7 +103,7 @@ written-sound h x = record { written = omega (arith, x .long, x .fits); kept = h
 -- F1: the call goes on
 pub wrote-on : {m : Marks} {text : Bytes} {c : Head} {nums : List ℕ} {bytes l : Bytes} {s : State} {o memory b : Bytes} {r a : Answer} {o′ : Bytes} → Sound s o memory → Placed text (laid c nums bytes)
     → r ≡ goesOn c s → Writes l r o a o′ → Comes m text (output (length o) l (frameOf m text (laid c nums bytes)) (sharedOf s o memory)) s o b a nums bytes o′ memory
-unfolding output settle nextOf stepped stateWith
+unfolding output settle nextAt nextOf stepped stateWith
 wrote-on {m} {text} {c} {nums} {bytes} {l} {s} {o} {memory} {b} {r} {a} {o′} h q e v = by (hasRoom l s o) refl (subst (λ (x : Answer). Writes l x o a o′) e v)
   where
     by : (k : Bool) → hasRoom l s o ≡ k → Writes l (goesOn c s) o a o′ → Comes m text (output (length o) l (frameOf m text (laid c nums bytes)) (sharedOf s o memory)) s o b a nums bytes o′ memory
@@ -122,7 +131,7 @@ module _ {l : Bytes} {s : State} {o : Bytes} {r a : Answer} {o′ : Bytes} (e : 
 
   pub wrote-back : (m : Marks) (text : Bytes) (fs : List Frame) (nums : List ℕ) (bytes line memory : Bytes)
       → settle (passThrough (length o) l (stateOf text none fs s o memory)) ≡ nextOf m text fs a nums bytes line o′ memory
-  unfolding passThrough settle nextOf stateWith
+  unfolding passThrough settle nextAt nextOf stateWith
   wrote-back m text fs nums bytes line memory = by (hasRoom l s o) refl
     where
       by : (k : Bool) → hasRoom l s o ≡ k → settle (passThrough (length o) l (stateOf text none fs s o memory)) ≡ nextOf m text fs a nums bytes line o′ memory
@@ -143,12 +152,12 @@ module _ {l : Bytes} {s : State} {o : Bytes} {r a : Answer} {o′ : Bytes} (e : 
       by false k = subst (λ (x : Bytes). Follows s o (a .state) x memory) (sym (back .full k .1))
           (subst (λ (x : State). Follows s o x o memory) (sym (ap (λ (x : Answer). x .state) (back .full k .0))) (follows-itself h))
 
-  pub wrote-left : isLeft (a .turn) ≡ true
+  pub wrote-left : isLeft (turn a) ≡ true
   wrote-left = by (hasRoom l s o) refl
     where
-      by : (k : Bool) → hasRoom l s o ≡ k → isLeft (a .turn) ≡ true
-      by true k = ap (λ (x : Answer). isLeft (x .turn)) (back .fits k .0)
-      by false k = ap (λ (x : Answer). isLeft (x .turn)) (back .full k .0)
+      by : (k : Bool) → hasRoom l s o ≡ k → isLeft (turn a) ≡ true
+      by true k = ap (λ (x : Answer). isLeft (turn x)) (back .fits k .0)
+      by false k = ap (λ (x : Answer). isLeft (turn x)) (back .full k .0)
 
   pub wrote-fuel : a .state .fuel ≡ s .fuel
   wrote-fuel = by (hasRoom l s o) refl

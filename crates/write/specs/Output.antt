@@ -23,7 +23,7 @@ hasRoom l s o = leb (length (take (s .written) o) + length l + 1) (length o)
 
 -- an answer with n bytes written
 abbrev pub wroteTo : Answer → ℕ → Answer
-wroteTo r n = record { turn = r .turn; call = r .call; state = withWritten (r .state) n }
+wroteTo r n = record { kind = r .kind; count = r .count; call = r .call; state = withWritten (r .state) n }
 
 -- the line l and a byte 10 are written and the answer is r, or there is no room for them, nothing changes and the run ends with 13
 pub record Writes (l : Bytes) (r : Answer) (o : Bytes) (a : Answer) (o′ : Bytes) : Type 0 where

@@ -1,11 +1,13 @@
 // What is written to the output: a line, or a layout with the parameters in its fields, and a byte 10 after it.
 use answer::Answer;
 use answer::end_with;
+use answer::go_back;
 use buffer::copy;
 use buffer::wide;
 use call::param_len;
 use model::LINE_MOST;
 use model::Marks;
+use state::State;
 use state::set_written;
 ghost use mathlib.Core.Path.{_≡_};
 ghost use Prim.Native.Nat.{_+_, _-_, _≤_, _<_};
@@ -13,6 +15,7 @@ ghost use lib.ListN.{length, replicate};
 ghost use Rattle.write.specs.Output.{AddsAt, WritesLine, ClosesLine};
 ghost use Rattle.write.specs.Layout.{bare, NamesField, RunEnds, PutsField, PutsPart, PutsLayout, WritesLayout};
 ghost use Rattle.call.specs.Call.{Sized};
+ghost use Rattle.answer.specs.Answers.{goesBack};
 
 // A byte 10 ends a line. The answer is r, with what is written up to there.
 fn end_line(output: &mut [u8], at: usize, r: Answer) -> Answer
@@ -20,11 +23,11 @@ fn end_line(output: &mut [u8], at: usize, r: Answer) -> Answer
     ensures { λ a. ⌜ ClosesLine (now (output .entry)) at r a (now (output .exit)) ⌝ }
 {
     output[at] = b'\n';
-    let turn = r.turn;
     let call = r.call;
     let s = r.state;
     Answer {
-        turn,
+        kind: r.kind,
+        count: r.count,
         call,
         state: set_written(s, at + 1),
     }
@@ -44,6 +47,14 @@ pub fn write_line(line: &[u8], n: usize, output: &mut [u8], r: Answer) -> Answer
     let content = &line[0..n];
     copy(output, w, content);
     end_line(output, w + n, r)
+}
+
+// A line without a reading is written as it is, and is done with.
+pub fn pass_through(line: &[u8], n: usize, output: &mut [u8], s: State) -> Answer
+    requires { ⌜ (n ≤ length (now line)) × (s .written ≤ length (now output)) ⌝ }
+    ensures { λ a. ⌜ WritesLine (now (line .entry)) n (goesBack 0 s) (now (output .entry)) a (now (output .exit)) ⌝ }
+{
+    write_line(line, n, output, go_back(0, s))
 }
 
 // The byte b, n times from offset `at` on.

@@ -12,6 +12,9 @@ use std::fmt::Write;
 const NODES: usize = 2048;
 const STORE: usize = 8704;
 
+/// One text of so many is about characters, beside those that any text may hold.
+const CHARACTERS: u64 = 13;
+
 fn main() {
     let words: Vec<String> = std::env::args().collect();
     if words.len() != 5 {
@@ -34,7 +37,8 @@ fn main() {
 
 /// The three equations of one text.
 fn equations(k: u64, generator: &mut Generator, unfolds: &str) -> String {
-    let text = generator.text(Size::Small);
+    let text =
+        if k.is_multiple_of(CHARACTERS) { generator.character_text() } else { generator.text(Size::Small) };
     let line = generator.line(&text);
     let fuel = generator.fuel().clamp(1, 60);
     let room = generator.room().min(400);
@@ -92,7 +96,7 @@ fn list<T: Copy + Into<u64>>(items: &[T]) -> String {
 
 /// The `use` lines for all definitions, and the names that the equations unfold.
 fn names(specs: &str) -> (String, String) {
-    let modules = ["Text", "Reading", "Code", "Store", "Value", "Load", "Machine", "Results"];
+    let modules = ["Text", "Utf8", "Reading", "Code", "Store", "Value", "Load", "Machine", "Results"];
     let (mut uses, mut unfolds) = (String::new(), Vec::new());
     for module in modules {
         let source =

@@ -84,6 +84,11 @@ fn contents(all: &mut Vec<Vector>) {
     add(all, "limit-input-200", input(200), written + &end(0, 6, 3));
     add(all, "number-11-input-201", input(201), "first\n".to_string() + &end(11, 5, 1));
 
+    // Limits count bytes: 100 characters of two bytes are a content of 200.
+    let accents = |count| format!("!$\n!15!F1\n$$\n{}\n", row("é", count));
+    add(all, "limit-input-200-in-100-characters", accents(100), "100\n".to_string() + &end(0, 5, 2));
+    add(all, "number-11-input-202-in-101-characters", accents(101), end(11, 5, 0));
+
     let dropped = format!("S:!$\n!F4\n$$\nS:1\n{}\nlast\n", row("x", 201));
     add(all, "limit-input-201-dropped", dropped, "last\n".to_string() + &end(0, 7, 3));
 }

@@ -1,5 +1,6 @@
 //! Random bodies: code lines that load, and mostly do something.
 
+use super::characters;
 use super::random::Random;
 use super::style::Style;
 use super::Size;
@@ -9,6 +10,11 @@ const FAULTS: [&[u8]; 4] = [b"A", b"1A", b"2147483648", b"B1"];
 
 /// Function 1 with the digits it may have.
 const CHANNELS: [&[u8]; 4] = [b"1", b"1", b"13", b"10"];
+
+/// How likely each conversion is; 5 and 8 are likelier where there are
+/// characters of several bytes.
+const CONVERSION_WEIGHTS: [usize; 8] = [48, 10, 10, 8, 4, 8, 3, 9];
+const ACCENT_WEIGHTS: [usize; 8] = [44, 8, 8, 8, 4, 14, 6, 8];
 
 pub struct Bodies<'a> {
     pub random: &'a mut Random,
@@ -78,7 +84,7 @@ impl Bodies<'_> {
         let mut used = Vec::new();
         for _ in 0..self.random.below(most + 1) {
             if self.random.chance(55) {
-                row.push(self.row_byte());
+                row.extend(self.row_bytes());
                 continue;
             }
             let parameter = self.parameter();
@@ -91,14 +97,27 @@ impl Bodies<'_> {
         row
     }
 
+    /// A byte, or a character of several bytes, without a meaning in code.
+    fn row_bytes(&mut self) -> Vec<u8> {
+        if !self.style.has_accents() || self.random.chance(75) {
+            return vec![self.row_byte()];
+        }
+        let mut bytes = characters::bytes(self.random);
+        bytes.retain(|&byte| !self.is_reserved(byte));
+        bytes
+    }
+
+    fn is_reserved(&self, byte: u8) -> bool {
+        byte == self.style.code_end() || byte == self.style.escape()
+    }
+
     fn row_byte(&mut self) -> u8 {
         match self.random.weighted(&[80, 10, 10]) {
             0 => self.style.literal(self.random),
             1 => self.random.pick(b"012"),
             _ => {
                 let byte = self.style.syntax(self.random);
-                let reserved = byte == self.style.code_end() || byte == self.style.escape();
-                if reserved {
+                if self.is_reserved(byte) {
                     b'A'
                 } else {
                     byte
@@ -108,7 +127,8 @@ impl Bodies<'_> {
     }
 
     fn conversion(&mut self, parameter: u8) -> Vec<u8> {
-        match self.random.weighted(&[48, 10, 10, 8, 4, 8, 3, 9]) {
+        let weights = if self.style.has_accents() { ACCENT_WEIGHTS } else { CONVERSION_WEIGHTS };
+        match self.random.weighted(&weights) {
             0 => self.escape(parameter, b'0'),
             1 => self.escape(parameter, b'1'),
             2 => self.escape(parameter, b'2'),
@@ -286,12 +306,23 @@ impl Bodies<'_> {
         let parameter = self.parameter();
         opening.extend(self.escape(parameter, b'7'));
         for _ in 0..self.random.below(3) {
-            let byte = if self.random.chance(15) { self.row_byte() } else { self.random.pick(b",,=A") };
+            let byte = self.delimiter();
             if byte != self.style.code_end() {
                 opening.push(byte);
             }
         }
         self.iteration(opening, depth, parameter)
+    }
+
+    /// A byte for a list of delimiters, half a character among them.
+    fn delimiter(&mut self) -> u8 {
+        if self.random.chance(15) {
+            self.row_byte()
+        } else if self.style.has_accents() && self.random.chance(10) {
+            self.random.pick(characters::HALVES)
+        } else {
+            self.random.pick(b",,=A")
+        }
     }
 
     /// A list with brackets, or a parameter.
@@ -302,18 +333,18 @@ impl Bodies<'_> {
         }
         let mut list = Vec::new();
         for _ in 0..self.random.between(1, 4) {
-            let part = self.style.literal(self.random);
+            let mut part = self.style.letter(self.random);
             if self.random.chance(25) {
-                list.extend(self.style.bracketed(&[part, b',']));
-            } else {
-                list.push(part);
+                part.push(b',');
+                part = self.style.bracketed(&part);
             }
+            list.extend(part);
             list.push(self.random.pick(b",,,="));
         }
-        if self.random.chance(12) {
+        if self.random.chance(15) {
             list.push(self.style.syntax(self.random));
         }
-        list.retain(|&byte| byte != self.style.code_end() && byte != self.style.escape());
+        list.retain(|&byte| !self.is_reserved(byte));
         list
     }
 

@@ -3,6 +3,7 @@
 //! A seed decides everything, so a difference found once can be found again.
 
 mod body;
+mod characters;
 mod edges;
 mod mutation;
 mod random;
@@ -39,19 +40,25 @@ impl Generator {
     /// A text. About nine of ten load.
     pub fn text(&mut self, size: Size) -> Vec<u8> {
         loop {
-            let text = match self.random.weighted(&[72, 18, 10]) {
+            let text = match self.random.weighted(&[70, 19, 11, 7]) {
                 0 => self.plain_text(size),
                 1 => {
                     let mut text = self.plain_text(size);
                     mutation::mutate(&mut self.random, &mut text);
                     text
                 }
-                _ => edges::text(&mut self.random, size),
+                2 => edges::text(&mut self.random, size),
+                _ => self.character_text(),
             };
             if size == Size::Large || text.len() <= SMALL_TEXT {
                 return text;
             }
         }
+    }
+
+    /// A small text that counts, values and takes apart characters.
+    pub fn character_text(&mut self) -> Vec<u8> {
+        characters::text(&mut self.random)
     }
 
     /// A line for fitting that resembles one of the text's templates.

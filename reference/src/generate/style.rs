@@ -1,5 +1,6 @@
 //! The marks of a random text, and rows of bytes that go with them.
 
+use super::characters;
 use super::random::Random;
 
 /// Flag lines to choose from: the session's, equal and different pairs,
@@ -21,28 +22,33 @@ const FLAG_WEIGHTS: [usize; 9] = [50, 12, 8, 8, 8, 4, 3, 3, 4];
 /// The bytes that templates and lines are made of, likelier ones repeated.
 const LITERALS: &[u8] = b"AAAABBB,=1";
 
-/// The marks of a text.
+/// The marks of a text, and whether there are characters of several bytes in it.
 #[derive(Clone, Debug)]
 pub struct Style {
     flags: [u8; 12],
+    accents: bool,
 }
 
 impl Style {
     pub fn any(random: &mut Random) -> Style {
-        Style { flags: *FLAGS[random.weighted(&FLAG_WEIGHTS)] }
+        Style { flags: *FLAGS[random.weighted(&FLAG_WEIGHTS)], accents: random.chance(20) }
     }
 
     /// The session's marks.
     pub fn usual() -> Style {
-        Style { flags: *FLAGS[0] }
+        Style { flags: *FLAGS[0], accents: false }
     }
 
-    /// The marks of a text, or the session's if it has no twelve bytes.
+    /// The style of a text; the marks are the session's if it has no twelve bytes.
     pub fn of_text(text: &[u8]) -> Style {
         match text.first_chunk() {
-            Some(flags) => Style { flags: *flags },
+            Some(flags) => Style { flags: *flags, accents: !text.is_ascii() },
             None => Style::usual(),
         }
+    }
+
+    pub fn has_accents(&self) -> bool {
+        self.accents
     }
 
     pub fn code_end(&self) -> u8 {
@@ -113,8 +119,19 @@ impl Style {
         }
     }
 
+    /// The bytes of a letter: a literal, or now and then a character of several bytes.
+    pub fn letter(&self, random: &mut Random) -> Vec<u8> {
+        if self.accents && random.chance(30) {
+            characters::bytes(random)
+        } else {
+            vec![self.literal(random)]
+        }
+    }
+
+    /// Half a character among them, so that a template may split one.
     pub fn template_byte(&self, random: &mut Random) -> u8 {
         match random.weighted(&[60, 32, 4, 4]) {
+            0 if self.accents && random.chance(8) => random.pick(characters::HALVES),
             0 => self.literal(random),
             1 => self.placeholder(),
             2 => self.left(),
@@ -127,7 +144,7 @@ impl Style {
         let mut piece = Vec::new();
         for _ in 0..random.below(most + 1) {
             match random.weighted(&[80, 9, 4, 3, 4]) {
-                0 => piece.push(self.literal(random)),
+                0 => piece.extend(self.letter(random)),
                 1 => piece = self.bracketed(&piece),
                 2 => piece.push(random.pick(b"0123")),
                 3 => piece.push(self.syntax(random)),

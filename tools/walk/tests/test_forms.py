@@ -4,8 +4,10 @@ import tempfile
 import unittest
 
 import harness
+import source
 import walks
 from fault import Fault
+from proof import Program
 
 
 class Forms(unittest.TestCase):
@@ -52,6 +54,13 @@ class Forms(unittest.TestCase):
     def test_a_fact_without_an_answer_is_a_hole(self):
         self.change("tools/walk/answers/a_loop", lambda text: text.replace("count.ret1", "# count.ret1"))
         self.assertIn("(?)", "".join(walks.write_all(self.root, ["a_loop"]).values()))
+
+    def test_other_walks_of_a_cycle_are_left_out(self):
+        answers = walks.read_answers(self.root, "a_cycle")
+        answers.only = "tell"
+        (written,) = walks.write(Program(self.root, "a_cycle", source.Source(self.root)), answers).values()
+        self.assertRegex(written, r"\n    walk-wait [^=]*=\n *\?\n")
+        self.assertRegex(written, r"\n    walk-tell [^=]*=\n *Kit.qed")
 
     def test_an_answer_of_no_fact(self):
         self.change("tools/walk/answers/a_loop", lambda text: text + "count.ret2: refl\n")

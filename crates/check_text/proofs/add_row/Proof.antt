@@ -1,6 +1,6 @@
 -- add_row adds a row where there is room for it.
 use borrow.Author.Needs.{needs}
-use Rattle.check_text.proofs.Files.{adds-not, adds-row}
+use Rattle.check_text.proofs.Files.{adds-not}
 use Rattle.check_text.proofs.add_row.Statement.{statement}
 use Rattle.check_text.proofs.add_row.Tie as tie
 

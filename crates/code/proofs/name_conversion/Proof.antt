@@ -1,7 +1,7 @@
 -- name_conversion: each digit names its conversion, and no other byte names one.
 use mathlib.Core.Path.{sym, _∙_}
 use borrow.Author.Needs.{needs}
-use Rattle.model.specs.declared.Conversion.the-variants.{Itself, StoredText, Symbol, LatestDelimiter, ExpressionValue, Length, ByteValue}
+use Rattle.model.specs.declared.Conversion.the-variants.{Itself, StoredText, Symbol, LatestDelimiter, ExpressionValue, Length, CodePoint}
 use Rattle.model.specs.Code.{digitOf}
 use Rattle.code.proofs.Laws.{chain, names-digit, named-by}
 use Rattle.code.proofs.name_conversion.Statement.{statement}
@@ -33,7 +33,7 @@ returns-6 c = names-digit Length (search needs)
 
 returns-7 : tie.Need-returns-7
 unfolding digitOf
-returns-7 c = names-digit ByteValue (search needs)
+returns-7 c = names-digit CodePoint (search needs)
 
 returns-8 : tie.Need-returns-8
 returns-8 c = record { is = sym (named-by _ ∙ search chain) }

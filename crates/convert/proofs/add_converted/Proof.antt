@@ -1,6 +1,6 @@
 -- add_converted: each case is what the expansion adds for it.
 use borrow.Author.Needs.{needs}
-use Rattle.convert.proofs.Converting.{converts-itself, converts-stored, converts-symbol, converts-delimiter, converts-value, converts-length, converts-byte}
+use Rattle.convert.proofs.Converting.{converts-itself, converts-stored, converts-symbol, converts-delimiter, converts-value, converts-length, converts-point}
 use Rattle.convert.proofs.add_converted.Statement.{statement}
 use Rattle.convert.proofs.add_converted.Tie as tie
 
@@ -52,8 +52,8 @@ add-length-requires c κs = search needs
 enum-told-7 : tie.Need-enum-told-7
 enum-told-7 c = search needs
 
-add-byte-value-requires : tie.Need-add-byte-value-requires
-add-byte-value-requires c κs = search needs
+add-code-point-requires : tie.Need-add-code-point-requires
+add-code-point-requires c κs = search needs
 
 same-length : tie.Need-same-length
 same-length c = search needs
@@ -113,7 +113,7 @@ same-length-13 : tie.Need-same-length-13
 same-length-13 c = search needs
 
 returns-7 : tie.Need-returns-7
-returns-7 c = search converts-byte
+returns-7 c = search converts-point
 
 pub add-converted-spec : {M : Type 1} → statement M
 add-converted-spec =
@@ -135,7 +135,7 @@ add-converted-spec =
     enum-told-6
     add-length-requires
     enum-told-7
-    add-byte-value-requires
+    add-code-point-requires
     same-length
     same-length-2
     returns

@@ -1,4 +1,4 @@
--- begin_passes begins the first pass, or ends the run with 17.
+-- begin_passes begins the first pass, or ends the run with the number of a pass that finds nothing.
 use borrow.Author.Needs.{needs}
 use Rattle.finish.proofs.Iterating.{begins}
 use Rattle.finish.proofs.begin_passes.Statement.{statement}

@@ -1,4 +1,4 @@
--- pass_again begins the next pass or ends the iteration, or ends the run with 17.
+-- pass_again begins the next pass or ends the iteration, or ends the run with the number of a pass that finds nothing.
 use borrow.Author.Needs.{needs}
 use Rattle.finish.proofs.Iterating.{passes-again}
 use Rattle.finish.proofs.pass_again.Statement.{statement}

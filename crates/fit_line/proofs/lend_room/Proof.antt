@@ -1,5 +1,4 @@
 -- lend_room lends an array that is as long as the rows may be. Its length goes by a law: the list is too long to be counted.
-use borrow.Author.Needs.{needs}
 use mathlib.Core.Path.{sym, subst}
 use Prim.Native.Nat.{ℕ, _≤_}
 use native.Mathlib.Nat.{le-refl}

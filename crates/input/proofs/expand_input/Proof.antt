@@ -331,18 +331,18 @@ module _ {M : Type 1} (𝓤 : URA M) (H : Heap 𝓤) (A : Atoms 𝓤) (W : Given
         Kit.use1 W (raw (emp 𝓤)) (id⊢ 𝓤 _) $ Kit.drop ! $ Kit.drop ! $
         Run.land ! (Run.from ! (Run.stop !)) (Run.init ! 2 refl (LL.lawful Answer-T.the-type Answer-L.the-laws 𝓤 H A W .typed r3 _ is3′ .0)) $
         Kit.rewrite ! 2 (λ (w : Val). ‵ (fat fullShare Answer-L.mir l₀ 0 w)) (ap only (LL.tells Answer-T.the-type Answer-L.the-laws r3 _ is3′)) refl $
-        let is3 : Is Answer-T.the-row r3 ((LL.val Answer-T.the-type Answer-L.the-laws r3) ∷
-        []) = subst (λ (vs : List Val). Is Answer-T.the-row r3 vs) (LL.tells Answer-T.the-type Answer-L.the-laws r3 _ is3′) is3′ in
+        let is3 : Is Answer-T.the-row r3 ((Answer-L.lowered r3) ∷ []) = subst (λ (vs : List Val). Is Answer-T.the-row r3 vs)
+        (LL.tells Answer-T.the-type Answer-L.the-laws r3 _ is3′) is3′ in
         Walk.written-out ! (‵ (flft κ₀ q₀) ∷ ‵ (T-text .own text (sliceVal (text .ptr) (length (text .now)) ∷ [])) ∷
-        ‵ (fat fullShare Answer-L.mir l₀ 0 (LL.val Answer-T.the-type Answer-L.the-laws r3)) ∷
-        ‵ (fat fullShare Marks-L.mir l₁ 0 (Marks-L.lowered m)) ∷ ‵ (fat fullShare Y-text l₂ 0 (sliceVal (text .ptr) (length (text .now)))) ∷
-        ‵ (fat fullShare Y-nodes l₃ 0 (sliceVal (nodes .ptr) (length (nodes .now)))) ∷ ‵ (fat fullShare Y-bodies l₄ 0 (sliceVal (bodies .ptr)
-        (length (bodies .now)))) ∷ ‵ (fat fullShare Y-output l₅ 0 (sliceVal (output .ptr) (length output-now))) ∷
-        ‵ (fat fullShare Y-memory l₆ 0 (sliceVal (memory .ptr) (length memory-now))) ∷ ‵ (fat fullShare State-L.mir l₇ 0 (State-L.lowered s)) ∷
-        ‵ (fat fullShare State-L.mir l₈ 0 (State-L.lowered st)) ∷ ‵ (fat fullShare (tyInt w64) l₉ 0 (vint w64 (st .at))) ∷
-        ‵ (fat fullShare Line-L.mir l₁₀ 0 (Line-L.lowered r1)) ∷ ‵ (fat fullShare (tyInt w64) l₁₁ 0 (vint w64 (r1 .end))) ∷
-        ‵ (fat fullShare State-L.mir l₁₂ 0 (State-L.lowered r2)) ∷ ‵ (froom Answer-L.mir l₁₃ 0) ∷ ‵ (froom (tyInt w64) l₁₄ 0) ∷
-        ‵ (froom State-L.mir l₁₅ 0) ∷ ‵ (fat fullShare (tyInt w64) l₁₆ 0 (vint w64 ((r1 .end) - (st .at)))) ∷
+        ‵ (fat fullShare Answer-L.mir l₀ 0 (Answer-L.lowered r3)) ∷ ‵ (fat fullShare Marks-L.mir l₁ 0 (Marks-L.lowered m)) ∷
+        ‵ (fat fullShare Y-text l₂ 0 (sliceVal (text .ptr) (length (text .now)))) ∷ ‵ (fat fullShare Y-nodes l₃ 0 (sliceVal (nodes .ptr)
+        (length (nodes .now)))) ∷ ‵ (fat fullShare Y-bodies l₄ 0 (sliceVal (bodies .ptr) (length (bodies .now)))) ∷
+        ‵ (fat fullShare Y-output l₅ 0 (sliceVal (output .ptr) (length output-now))) ∷ ‵ (fat fullShare Y-memory l₆ 0 (sliceVal (memory .ptr)
+        (length memory-now))) ∷ ‵ (fat fullShare State-L.mir l₇ 0 (State-L.lowered s)) ∷ ‵ (fat fullShare State-L.mir l₈ 0 (State-L.lowered st)) ∷
+        ‵ (fat fullShare (tyInt w64) l₉ 0 (vint w64 (st .at))) ∷ ‵ (fat fullShare Line-L.mir l₁₀ 0 (Line-L.lowered r1)) ∷
+        ‵ (fat fullShare (tyInt w64) l₁₁ 0 (vint w64 (r1 .end))) ∷ ‵ (fat fullShare State-L.mir l₁₂ 0 (State-L.lowered r2)) ∷
+        ‵ (froom Answer-L.mir l₁₃ 0) ∷ ‵ (froom (tyInt w64) l₁₄ 0) ∷ ‵ (froom State-L.mir l₁₅ 0) ∷
+        ‵ (fat fullShare (tyInt w64) l₁₆ 0 (vint w64 ((r1 .end) - (st .at)))) ∷
         ‵ (fat fullShare tyBool l₁₇ 0 (vbool (ltb 200 ((r1 .end) - (st .at))))) ∷
         ‵ (froom (tyRef erased mut (pointee ((UInt w8) .written))) l₁₈ 0) ∷
         ‵ (froom (sliceTy (tyRef erased mut (pointee ((UInt w8) .written)))) l₁₉ 0) ∷
@@ -356,15 +356,15 @@ module _ {M : Type 1} (𝓤 : URA M) (H : Heap 𝓤) (A : Atoms 𝓤) (W : Given
         (𝓣 .Λ) E _ _ Post (Walk.through-turn 𝓤 H E _ _ Post (Walk.through-block 𝓤 H E _ Post (Walk.through 𝓤 H (𝓣 .C) (𝓣 .Λ) E _ _ Post refl))))
         (Run.look ! 2 refl) $
         Kit.move ! (2 ∷ 3 ∷ 4 ∷ 5 ∷ 6 ∷ 7 ∷ 8 ∷ 9 ∷ 10 ∷ 11 ∷ 12 ∷ 13 ∷ 14 ∷ 15 ∷ 16 ∷ 17 ∷ 18 ∷ 19 ∷ 20 ∷ 21 ∷ 22 ∷ 23 ∷ 24 ∷ 25 ∷ []) $
-        Walk.frees-gathered ! (Walk.full Answer-L.mir l₀ (LL.val Answer-T.the-type Answer-L.the-laws r3) ∷
-        Walk.full Marks-L.mir l₁ (Marks-L.lowered m) ∷ Walk.full Y-text l₂ (sliceVal (text .ptr) (length (text .now))) ∷
-        Walk.full Y-nodes l₃ (sliceVal (nodes .ptr) (length (nodes .now))) ∷ Walk.full Y-bodies l₄ (sliceVal (bodies .ptr) (length (bodies .now))) ∷
-        Walk.full Y-output l₅ (sliceVal (output .ptr) (length output-now)) ∷ Walk.full Y-memory l₆ (sliceVal (memory .ptr) (length memory-now)) ∷
-        Walk.full State-L.mir l₇ (State-L.lowered s) ∷ Walk.full State-L.mir l₈ (State-L.lowered st) ∷
-        Walk.full (tyInt w64) l₉ (vint w64 (st .at)) ∷ Walk.full Line-L.mir l₁₀ (Line-L.lowered r1) ∷
-        Walk.full (tyInt w64) l₁₁ (vint w64 (r1 .end)) ∷ Walk.full State-L.mir l₁₂ (State-L.lowered r2) ∷ Walk.bare Answer-L.mir l₁₃ ∷
-        Walk.bare (tyInt w64) l₁₄ ∷ Walk.bare State-L.mir l₁₅ ∷ Walk.full (tyInt w64) l₁₆ (vint w64 ((r1 .end) - (st .at))) ∷
-        Walk.full tyBool l₁₇ (vbool (ltb 200 ((r1 .end) - (st .at)))) ∷ Walk.bare (tyRef erased mut (pointee ((UInt w8) .written))) l₁₈ ∷
+        Walk.frees-gathered ! (Walk.full Answer-L.mir l₀ (Answer-L.lowered r3) ∷ Walk.full Marks-L.mir l₁ (Marks-L.lowered m) ∷
+        Walk.full Y-text l₂ (sliceVal (text .ptr) (length (text .now))) ∷ Walk.full Y-nodes l₃ (sliceVal (nodes .ptr) (length (nodes .now))) ∷
+        Walk.full Y-bodies l₄ (sliceVal (bodies .ptr) (length (bodies .now))) ∷ Walk.full Y-output l₅ (sliceVal (output .ptr) (length output-now)) ∷
+        Walk.full Y-memory l₆ (sliceVal (memory .ptr) (length memory-now)) ∷ Walk.full State-L.mir l₇ (State-L.lowered s) ∷
+        Walk.full State-L.mir l₈ (State-L.lowered st) ∷ Walk.full (tyInt w64) l₉ (vint w64 (st .at)) ∷
+        Walk.full Line-L.mir l₁₀ (Line-L.lowered r1) ∷ Walk.full (tyInt w64) l₁₁ (vint w64 (r1 .end)) ∷
+        Walk.full State-L.mir l₁₂ (State-L.lowered r2) ∷ Walk.bare Answer-L.mir l₁₃ ∷ Walk.bare (tyInt w64) l₁₄ ∷ Walk.bare State-L.mir l₁₅ ∷
+        Walk.full (tyInt w64) l₁₆ (vint w64 ((r1 .end) - (st .at))) ∷ Walk.full tyBool l₁₇ (vbool (ltb 200 ((r1 .end) - (st .at)))) ∷
+        Walk.bare (tyRef erased mut (pointee ((UInt w8) .written))) l₁₈ ∷
         Walk.bare (sliceTy (tyRef erased mut (pointee ((UInt w8) .written)))) l₁₉ ∷
         Walk.bare (tyRef erased mut (pointee ((UInt w8) .written))) l₂₀ ∷
         Walk.bare (sliceTy (tyRef erased mut (pointee ((UInt w8) .written)))) l₂₁ ∷ Walk.bare tyBool l₂₂ ∷ []) Fd ed (‵ (flft κ₀ q₀) ∷
@@ -373,8 +373,7 @@ module _ {M : Type 1} (𝓤 : URA M) (H : Heap 𝓤) (A : Atoms 𝓤) (W : Given
         ‵ (T-output .own (at-last output output-now) (sliceVal (output .ptr) (length output-now) ∷ [])) ∷
         ‵ (T-bodies .own bodies (sliceVal (bodies .ptr) (length (bodies .now)) ∷ [])) ∷ ‵ (T-nodes .own nodes (sliceVal (nodes .ptr)
         (length (nodes .now)) ∷ [])) ∷ []) $
-        Kit.use0 W (‵ (Answer-T.the-row .own r3 ((LL.val Answer-T.the-type Answer-L.the-laws r3) ∷ [])))
-        (LL.makes Answer-T.the-type Answer-L.the-plain 𝓤 H A r3 _ is3) $
+        Kit.use0 W (‵ (Answer-T.the-row .own r3 ((Answer-L.lowered r3) ∷ []))) (LL.makes Answer-T.the-type Answer-L.the-plain 𝓤 H A r3 _ is3) $
         Kit.move ! (8 ∷ []) $
         Kit.use1 W (‵ (finally (UInt w8) (output .name) output-now)) (Walk.ended-slice 𝓤 H A W (named 3) κ₃ (UInt w8) output output-now _) $
         Kit.move ! (8 ∷ []) $
@@ -385,7 +384,7 @@ module _ {M : Type 1} (𝓤 : URA M) (H : Heap 𝓤) (A : Atoms 𝓤) (W : Given
         Kit.move ! (5 ∷ 0 ∷ []) $ Kit.join ! $ Kit.move ! (3 ∷ 0 ∷ []) $ Kit.join ! $
         Kit.use1 W (raw (alive 𝓤 H A f-expand-input.signature (κ₀, (κ₁, (κ₂, (κ₃, (κ₄, tt))))) (q₀, (q₁, (q₂, (q₃, (q₄, tt))))))) (id⊢ 𝓤 _) $
         Kit.keep ! (0 ∷ 1 ∷ 2 ∷ []) $
-        Kit.by ! (Walk.leave-by 𝓤 H A W f-expand-input.ended (f-expand-input.clauses 𝓤 H A mem run) stayed-expand-input bound (LL.val Answer-T.the-type Answer-L.the-laws r3) r3 (tt, (tt, (tt, (tt, (output-now, (memory-now, (tt, tt))))))) (tt, (tt, (tt, (tt, (kept-output, (kept-memory, (tt, tt))))))) (factI 𝓤 _ (emp 𝓤) (expands-long inv1 e1 e2 (ltb-true 200 (r1 .end - st .at) t2) e3)))))
+        Kit.by ! (Walk.leave-by 𝓤 H A W f-expand-input.ended (f-expand-input.clauses 𝓤 H A mem run) stayed-expand-input bound (Answer-L.lowered r3) r3 (tt, (tt, (tt, (tt, (output-now, (memory-now, (tt, tt))))))) (tt, (tt, (tt, (tt, (kept-output, (kept-memory, (tt, tt))))))) (factI 𝓤 _ (emp 𝓤) (expands-long inv1 e1 e2 (ltb-true 200 (r1 .end - st .at) t2) e3)))))
         (λ h2. let t2 : (ltb 200 ((r1 .end) - (st .at))) ≡ false = Walk.is-false _ h2 in
         Walk.skips-then ! $
         Run.assigns ! (Run.addr ! (Run.from ! (Run.fld ! refl (Run.hop ! (Part.look-in ! 7 (Part.sub ! 0 refl (Part.whole !))) (Run.stop !)))))
@@ -471,8 +470,8 @@ module _ {M : Type 1} (𝓤 : URA M) (H : Heap 𝓤) (A : Atoms 𝓤) (W : Given
         Run.land ! (Run.from ! (Run.stop !)) (Run.init ! 23 refl (LL.lawful Answer-T.the-type Answer-L.the-laws 𝓤 H A W .typed r4 _ is4′ .0)) $
         Kit.rewrite ! 23 (λ (w : Val). ‵ (fat fullShare Answer-L.mir l₁₃ 0 w))
         (ap only (LL.tells Answer-T.the-type Answer-L.the-laws r4 _ is4′)) refl $
-        let is4 : Is Answer-T.the-row r4 ((LL.val Answer-T.the-type Answer-L.the-laws r4) ∷
-        []) = subst (λ (vs : List Val). Is Answer-T.the-row r4 vs) (LL.tells Answer-T.the-type Answer-L.the-laws r4 _ is4′) is4′ in
+        let is4 : Is Answer-T.the-row r4 ((Answer-L.lowered r4) ∷ []) = subst (λ (vs : List Val). Is Answer-T.the-row r4 vs)
+        (LL.tells Answer-T.the-type Answer-L.the-laws r4 _ is4′) is4′ in
         Walk.written-out ! (‵ (T-memory .own (at-last memory (ws4 .1 .1 .1 .1 .1 .0)) (sliceVal (memory .ptr) (length (ws4 .1 .1 .1 .1 .1 .0)) ∷
         [])) ∷ ‵ (flft κ₄ q₄) ∷ ‵ (T-output .own (at-last output (ws4 .1 .1 .1 .1 .0)) (sliceVal (output .ptr) (length (ws4 .1 .1 .1 .1 .0)) ∷
         [])) ∷ ‵ (flft κ₃ q₃) ∷ ‵ (flft κ₂ q₂) ∷ ‵ (flft κ₁ q₁) ∷ ‵ (flft κ₀ q₀) ∷ ‵ (T-text .own text (sliceVal (text .ptr) (length (text .now)) ∷
@@ -485,8 +484,8 @@ module _ {M : Type 1} (𝓤 : URA M) (H : Heap 𝓤) (A : Atoms 𝓤) (W : Given
         ‵ (fat fullShare State-L.mir l₇ 0 (State-L.lowered s)) ∷ ‵ (fat fullShare State-L.mir l₈ 0 (State-L.lowered st)) ∷
         ‵ (fat fullShare (tyInt w64) l₉ 0 (vint w64 (st .at))) ∷ ‵ (fat fullShare Line-L.mir l₁₀ 0 (Line-L.lowered r1)) ∷
         ‵ (fat fullShare (tyInt w64) l₁₁ 0 (vint w64 (r1 .end))) ∷ ‵ (fat fullShare State-L.mir l₁₂ 0 (State-L.lowered r2)) ∷
-        ‵ (fat fullShare Answer-L.mir l₁₃ 0 (LL.val Answer-T.the-type Answer-L.the-laws r4)) ∷ ‵ (froom (tyInt w64) l₁₄ 0) ∷
-        ‵ (froom State-L.mir l₁₅ 0) ∷ ‵ (fat fullShare (tyInt w64) l₁₆ 0 (vint w64 ((r1 .end) - (st .at)))) ∷
+        ‵ (fat fullShare Answer-L.mir l₁₃ 0 (Answer-L.lowered r4)) ∷ ‵ (froom (tyInt w64) l₁₄ 0) ∷ ‵ (froom State-L.mir l₁₅ 0) ∷
+        ‵ (fat fullShare (tyInt w64) l₁₆ 0 (vint w64 ((r1 .end) - (st .at)))) ∷
         ‵ (fat fullShare tyBool l₁₇ 0 (vbool (ltb 200 ((r1 .end) - (st .at))))) ∷
         ‵ (fat fullShare (tyRef erased mut (pointee ((UInt w8) .written))) l₁₈ 0 (vptr (output .ptr .0) (output .ptr .1))) ∷
         ‵ (fat fullShare (sliceTy (tyRef erased mut (pointee ((UInt w8) .written)))) l₁₉ 0 (sliceVal (output .ptr) (length output-now))) ∷
@@ -496,11 +495,10 @@ module _ {M : Type 1} (𝓤 : URA M) (H : Heap 𝓤) (A : Atoms 𝓤) (W : Given
         -- [memory; κ₄; output; κ₃; κ₂; κ₁; κ₀; text; nodes; bodies; the locals; their ends]
         -- call 5: is_end (r4)
         Walk.nothing ! $
-        Kit.use0 W (‵ (Answer-T.the-row .own r4 ((LL.val Answer-T.the-type Answer-L.the-laws r4) ∷ [])))
-        (LL.makes Answer-T.the-type Answer-L.the-plain 𝓤 H A r4 _ is4) $
+        Kit.use0 W (‵ (Answer-T.the-row .own r4 ((Answer-L.lowered r4) ∷ []))) (LL.makes Answer-T.the-type Answer-L.the-plain 𝓤 H A r4 _ is4) $
         Kit.fjoin ! $ Walk.nothing-raw ! $ Kit.use1 W (raw (alive 𝓤 H A g-is-end.signature tt tt)) (id⊢ 𝓤 _) $
         Walk.asks ! fm g-is-end.ended (g-is-end.clauses 𝓤 H A mem run)
-        ((tt, tt, tt, (r4, tt), ((LL.val Answer-T.the-type Answer-L.the-laws r4) ∷ [], tt)), tt) _ (known-is-end ((tt, tt, tt, (r4, tt), ((LL.val Answer-T.the-type Answer-L.the-laws r4) ∷ [], tt)), tt)) (id⊢ 𝓤 (emp 𝓤)) (λ r ws. id⊢ 𝓤 _)
+        ((tt, tt, tt, (r4, tt), ((Answer-L.lowered r4) ∷ [], tt)), tt) _ (known-is-end ((tt, tt, tt, (r4, tt), ((Answer-L.lowered r4) ∷ [], tt)), tt)) (id⊢ 𝓤 (emp 𝓤)) (λ r ws. id⊢ 𝓤 _)
         (Run.and-then ! (Run.load ! (Run.from ! (Run.stop !)) (Run.look ! 24 refl)) (Run.no-more !)) (λ u5 r5 is5′ e5.
         Kit.use1 W (raw (emp 𝓤)) (id⊢ 𝓤 _) $ Kit.drop ! $ Kit.drop ! $
         Run.land ! (Run.from ! (Run.stop !)) (Run.init ! 32 refl (bool-lawful 𝓤 H A W .typed r5 _ is5′ .0)) $
@@ -518,8 +516,8 @@ module _ {M : Type 1} (𝓤 : URA M) (H : Heap 𝓤) (A : Atoms 𝓤) (W : Given
         ‵ (fat fullShare State-L.mir l₇ 0 (State-L.lowered s)) ∷ ‵ (fat fullShare State-L.mir l₈ 0 (State-L.lowered st)) ∷
         ‵ (fat fullShare (tyInt w64) l₉ 0 (vint w64 (st .at))) ∷ ‵ (fat fullShare Line-L.mir l₁₀ 0 (Line-L.lowered r1)) ∷
         ‵ (fat fullShare (tyInt w64) l₁₁ 0 (vint w64 (r1 .end))) ∷ ‵ (fat fullShare State-L.mir l₁₂ 0 (State-L.lowered r2)) ∷
-        ‵ (fat fullShare Answer-L.mir l₁₃ 0 (LL.val Answer-T.the-type Answer-L.the-laws r4)) ∷ ‵ (froom (tyInt w64) l₁₄ 0) ∷
-        ‵ (froom State-L.mir l₁₅ 0) ∷ ‵ (fat fullShare (tyInt w64) l₁₆ 0 (vint w64 ((r1 .end) - (st .at)))) ∷
+        ‵ (fat fullShare Answer-L.mir l₁₃ 0 (Answer-L.lowered r4)) ∷ ‵ (froom (tyInt w64) l₁₄ 0) ∷ ‵ (froom State-L.mir l₁₅ 0) ∷
+        ‵ (fat fullShare (tyInt w64) l₁₆ 0 (vint w64 ((r1 .end) - (st .at)))) ∷
         ‵ (fat fullShare tyBool l₁₇ 0 (vbool (ltb 200 ((r1 .end) - (st .at))))) ∷
         ‵ (fat fullShare (tyRef erased mut (pointee ((UInt w8) .written))) l₁₈ 0 (vptr (output .ptr .0) (output .ptr .1))) ∷
         ‵ (fat fullShare (sliceTy (tyRef erased mut (pointee ((UInt w8) .written)))) l₁₉ 0 (sliceVal (output .ptr) (length output-now))) ∷
@@ -534,14 +532,14 @@ module _ {M : Type 1} (𝓤 : URA M) (H : Heap 𝓤) (A : Atoms 𝓤) (W : Given
         (𝓣 .Λ) E _ _ Post (Walk.through-turn 𝓤 H E _ _ Post (Walk.through-block 𝓤 H E _ Post (Walk.through 𝓤 H (𝓣 .C) (𝓣 .Λ) E _ _ Post refl))))
         (Run.look ! 10 refl) $
         Kit.move ! (10 ∷ 11 ∷ 12 ∷ 13 ∷ 14 ∷ 15 ∷ 16 ∷ 17 ∷ 18 ∷ 19 ∷ 20 ∷ 21 ∷ 22 ∷ 23 ∷ 24 ∷ 25 ∷ 26 ∷ 27 ∷ 28 ∷ 29 ∷ 30 ∷ 31 ∷ 32 ∷ 33 ∷ []) $
-        Walk.frees-gathered ! (Walk.full Answer-L.mir l₀ (LL.val Answer-T.the-type Answer-L.the-laws r4) ∷
-        Walk.full Marks-L.mir l₁ (Marks-L.lowered m) ∷ Walk.full Y-text l₂ (sliceVal (text .ptr) (length (text .now))) ∷
-        Walk.full Y-nodes l₃ (sliceVal (nodes .ptr) (length (nodes .now))) ∷ Walk.full Y-bodies l₄ (sliceVal (bodies .ptr) (length (bodies .now))) ∷
-        Walk.full Y-output l₅ (sliceVal (output .ptr) (length (ws4 .1 .1 .1 .1 .0))) ∷ Walk.full Y-memory l₆ (sliceVal (memory .ptr)
-        (length (ws4 .1 .1 .1 .1 .1 .0))) ∷ Walk.full State-L.mir l₇ (State-L.lowered s) ∷ Walk.full State-L.mir l₈ (State-L.lowered st) ∷
+        Walk.frees-gathered ! (Walk.full Answer-L.mir l₀ (Answer-L.lowered r4) ∷ Walk.full Marks-L.mir l₁ (Marks-L.lowered m) ∷
+        Walk.full Y-text l₂ (sliceVal (text .ptr) (length (text .now))) ∷ Walk.full Y-nodes l₃ (sliceVal (nodes .ptr) (length (nodes .now))) ∷
+        Walk.full Y-bodies l₄ (sliceVal (bodies .ptr) (length (bodies .now))) ∷ Walk.full Y-output l₅ (sliceVal (output .ptr)
+        (length (ws4 .1 .1 .1 .1 .0))) ∷ Walk.full Y-memory l₆ (sliceVal (memory .ptr) (length (ws4 .1 .1 .1 .1 .1 .0))) ∷
+        Walk.full State-L.mir l₇ (State-L.lowered s) ∷ Walk.full State-L.mir l₈ (State-L.lowered st) ∷
         Walk.full (tyInt w64) l₉ (vint w64 (st .at)) ∷ Walk.full Line-L.mir l₁₀ (Line-L.lowered r1) ∷
         Walk.full (tyInt w64) l₁₁ (vint w64 (r1 .end)) ∷ Walk.full State-L.mir l₁₂ (State-L.lowered r2) ∷
-        Walk.full Answer-L.mir l₁₃ (LL.val Answer-T.the-type Answer-L.the-laws r4) ∷ Walk.bare (tyInt w64) l₁₄ ∷ Walk.bare State-L.mir l₁₅ ∷
+        Walk.full Answer-L.mir l₁₃ (Answer-L.lowered r4) ∷ Walk.bare (tyInt w64) l₁₄ ∷ Walk.bare State-L.mir l₁₅ ∷
         Walk.full (tyInt w64) l₁₆ (vint w64 ((r1 .end) - (st .at))) ∷ Walk.full tyBool l₁₇ (vbool (ltb 200 ((r1 .end) - (st .at)))) ∷
         Walk.full (tyRef erased mut (pointee ((UInt w8) .written))) l₁₈ (vptr (output .ptr .0) (output .ptr .1)) ∷
         Walk.full (sliceTy (tyRef erased mut (pointee ((UInt w8) .written)))) l₁₉ (sliceVal (output .ptr) (length output-now)) ∷
@@ -552,8 +550,7 @@ module _ {M : Type 1} (𝓤 : URA M) (H : Heap 𝓤) (A : Atoms 𝓤) (W : Given
         (length (ws4 .1 .1 .1 .1 .0)) ∷ [])) ∷ ‵ (flft κ₃ q₃) ∷ ‵ (flft κ₂ q₂) ∷ ‵ (flft κ₁ q₁) ∷ ‵ (flft κ₀ q₀) ∷
         ‵ (T-text .own text (sliceVal (text .ptr) (length (text .now)) ∷ [])) ∷ ‵ (T-nodes .own nodes (sliceVal (nodes .ptr) (length (nodes .now)) ∷
         [])) ∷ ‵ (T-bodies .own bodies (sliceVal (bodies .ptr) (length (bodies .now)) ∷ [])) ∷ []) $
-        Kit.use0 W (‵ (Answer-T.the-row .own r4 ((LL.val Answer-T.the-type Answer-L.the-laws r4) ∷ [])))
-        (LL.makes Answer-T.the-type Answer-L.the-plain 𝓤 H A r4 _ is4) $
+        Kit.use0 W (‵ (Answer-T.the-row .own r4 ((Answer-L.lowered r4) ∷ []))) (LL.makes Answer-T.the-type Answer-L.the-plain 𝓤 H A r4 _ is4) $
         Kit.move ! (3 ∷ []) $
         Kit.use1 W (‵ (finally (UInt w8) (output .name) (ws4 .1 .1 .1 .1 .0)))
         (Walk.ended-slice 𝓤 H A W (named 3) κ₃ (UInt w8) output (ws4 .1 .1 .1 .1 .0) _) $
@@ -566,17 +563,16 @@ module _ {M : Type 1} (𝓤 : URA M) (H : Heap 𝓤) (A : Atoms 𝓤) (W : Given
         Kit.move ! (3 ∷ 0 ∷ []) $ Kit.join ! $ Kit.move ! (3 ∷ 0 ∷ []) $ Kit.join ! $
         Kit.use1 W (raw (alive 𝓤 H A f-expand-input.signature (κ₀, (κ₁, (κ₂, (κ₃, (κ₄, tt))))) (q₀, (q₁, (q₂, (q₃, (q₄, tt))))))) (id⊢ 𝓤 _) $
         Kit.keep ! (0 ∷ 1 ∷ 2 ∷ []) $
-        Kit.by ! (Walk.leave-by 𝓤 H A W f-expand-input.ended (f-expand-input.clauses 𝓤 H A mem run) stayed-expand-input bound (LL.val Answer-T.the-type Answer-L.the-laws r4) r4 (tt, (tt, (tt, (tt, ((ws4 .1 .1 .1 .1 .0), ((ws4 .1 .1 .1 .1 .1 .0), (tt, tt))))))) (tt, (tt, (tt, (tt, ((len1 ∙ kept-output), ((len2 ∙ kept-memory), (tt, tt))))))) (factI 𝓤 _ (emp 𝓤) (expands-ended inv1 e1 e2 (ltb-false 200 (r1 .end - st .at) t2) e4 (sym e5 ∙ t3)))))
+        Kit.by ! (Walk.leave-by 𝓤 H A W f-expand-input.ended (f-expand-input.clauses 𝓤 H A mem run) stayed-expand-input bound (Answer-L.lowered r4) r4 (tt, (tt, (tt, (tt, ((ws4 .1 .1 .1 .1 .0), ((ws4 .1 .1 .1 .1 .1 .0), (tt, tt))))))) (tt, (tt, (tt, (tt, ((len1 ∙ kept-output), ((len2 ∙ kept-memory), (tt, tt))))))) (factI 𝓤 _ (emp 𝓤) (expands-ended inv1 e1 e2 (ltb-false 200 (r1 .end - st .at) t2) e4 (sym e5 ∙ t3)))))
         (λ h3. let t3 : r5 ≡ false = Walk.is-false _ h3 in
         Walk.skips-then ! $
         -- [memory; κ₄; output; κ₃; κ₂; κ₁; κ₀; text; nodes; bodies; the locals; their ends]
         -- call 6: lines_back (r4)
         Walk.nothing ! $
-        Kit.use0 W (‵ (Answer-T.the-row .own r4 ((LL.val Answer-T.the-type Answer-L.the-laws r4) ∷ [])))
-        (LL.makes Answer-T.the-type Answer-L.the-plain 𝓤 H A r4 _ is4) $
+        Kit.use0 W (‵ (Answer-T.the-row .own r4 ((Answer-L.lowered r4) ∷ []))) (LL.makes Answer-T.the-type Answer-L.the-plain 𝓤 H A r4 _ is4) $
         Kit.fjoin ! $ Walk.nothing-raw ! $ Kit.use1 W (raw (alive 𝓤 H A g-lines-back.signature tt tt)) (id⊢ 𝓤 _) $
         Walk.asks ! fm g-lines-back.ended (g-lines-back.clauses 𝓤 H A mem run)
-        ((tt, tt, tt, (r4, tt), ((LL.val Answer-T.the-type Answer-L.the-laws r4) ∷ [], tt)), tt) _ (known-lines-back ((tt, tt, tt, (r4, tt), ((LL.val Answer-T.the-type Answer-L.the-laws r4) ∷ [], tt)), tt)) (id⊢ 𝓤 (emp 𝓤)) (λ r ws. id⊢ 𝓤 _)
+        ((tt, tt, tt, (r4, tt), ((Answer-L.lowered r4) ∷ [], tt)), tt) _ (known-lines-back ((tt, tt, tt, (r4, tt), ((Answer-L.lowered r4) ∷ [], tt)), tt)) (id⊢ 𝓤 (emp 𝓤)) (λ r ws. id⊢ 𝓤 _)
         (Run.and-then ! (Run.load ! (Run.from ! (Run.stop !)) (Run.look ! 24 refl)) (Run.no-more !)) (λ u6 r6 is6′ e6.
         Kit.use1 W (raw (emp 𝓤)) (id⊢ 𝓤 _) $ Kit.drop ! $ Kit.drop ! $
         Run.land ! (Run.from ! (Run.stop !)) (Run.init ! 24 refl (uint-lawful 𝓤 H A W w64 .typed r6 _ is6′ .0)) $
@@ -594,7 +590,7 @@ module _ {M : Type 1} (𝓤 : URA M) (H : Heap 𝓤) (A : Atoms 𝓤) (W : Given
         ‵ (fat fullShare State-L.mir l₇ 0 (State-L.lowered s)) ∷ ‵ (fat fullShare State-L.mir l₈ 0 (State-L.lowered st)) ∷
         ‵ (fat fullShare (tyInt w64) l₉ 0 (vint w64 (st .at))) ∷ ‵ (fat fullShare Line-L.mir l₁₀ 0 (Line-L.lowered r1)) ∷
         ‵ (fat fullShare (tyInt w64) l₁₁ 0 (vint w64 (r1 .end))) ∷ ‵ (fat fullShare State-L.mir l₁₂ 0 (State-L.lowered r2)) ∷
-        ‵ (fat fullShare Answer-L.mir l₁₃ 0 (LL.val Answer-T.the-type Answer-L.the-laws r4)) ∷ ‵ (fat fullShare (tyInt w64) l₁₄ 0 (vint w64 r6)) ∷
+        ‵ (fat fullShare Answer-L.mir l₁₃ 0 (Answer-L.lowered r4)) ∷ ‵ (fat fullShare (tyInt w64) l₁₄ 0 (vint w64 r6)) ∷
         ‵ (froom State-L.mir l₁₅ 0) ∷ ‵ (fat fullShare (tyInt w64) l₁₆ 0 (vint w64 ((r1 .end) - (st .at)))) ∷
         ‵ (fat fullShare tyBool l₁₇ 0 (vbool (ltb 200 ((r1 .end) - (st .at))))) ∷
         ‵ (fat fullShare (tyRef erased mut (pointee ((UInt w8) .written))) l₁₈ 0 (vptr (output .ptr .0) (output .ptr .1))) ∷
@@ -602,14 +598,14 @@ module _ {M : Type 1} (𝓤 : URA M) (H : Heap 𝓤) (A : Atoms 𝓤) (W : Given
         ‵ (fat fullShare (tyRef erased mut (pointee ((UInt w8) .written))) l₂₀ 0 (vptr (memory .ptr .0) (memory .ptr .1))) ∷
         ‵ (fat fullShare (sliceTy (tyRef erased mut (pointee ((UInt w8) .written)))) l₂₁ 0 (sliceVal (memory .ptr) (length memory-now))) ∷
         ‵ (fat fullShare tyBool l₂₂ 0 (vbool r5)) ∷ ‵ Fd ∷ []) refl $
-        Run.assigns ! (Run.of-opd ! (Run.load ! (Run.from ! (Run.fld ! refl (Run.stop !))) (Part.look-in ! 23 (Part.sub ! 2 refl (Part.whole !)))))
+        Run.assigns ! (Run.of-opd ! (Run.load ! (Run.from ! (Run.fld ! refl (Run.stop !))) (Part.look-in ! 23 (Part.sub ! 3 refl (Part.whole !)))))
         (Run.from ! (Run.stop !))
-        (Run.init ! 25 refl (LL.lawful State-T.the-type State-L.the-laws 𝓤 H A W .typed (r4 .state) _ (LL.owed Answer-T.the-type Answer-L.the-laws r4 _ is4 .1 .1 .0) .0)) $
+        (Run.init ! 25 refl (LL.lawful State-T.the-type State-L.the-laws 𝓤 H A W .typed (r4 .state) _ (LL.owed Answer-T.the-type Answer-L.the-laws r4 _ is4 .1 .1 .1 .0) .0)) $
         -- [memory; κ₄; output; κ₃; κ₂; κ₁; κ₀; text; nodes; bodies; the locals; their ends]
         -- call 7: drop_lines (text, r6, r4 .state)
         Walk.nothing ! $
         Kit.use0 W (‵ (State-T.the-row .own (r4 .state) ((State-L.lowered (r4 .state)) ∷ [])))
-        (LL.makes State-T.the-type State-L.the-plain 𝓤 H A (r4 .state) _ (LL.owed Answer-T.the-type Answer-L.the-laws r4 _ is4 .1 .1 .0)) $
+        (LL.makes State-T.the-type State-L.the-plain 𝓤 H A (r4 .state) _ (LL.owed Answer-T.the-type Answer-L.the-laws r4 _ is4 .1 .1 .1 .0)) $
         Kit.fjoin ! $ Kit.use0 W (‵ ((UInt w64) .own r6 ((vint w64 r6) ∷ []))) (uint-makes 𝓤 H A W w64 r6 _ (refl, is6 .1)) $ Kit.fjoin ! $
         Kit.move ! (8 ∷ []) $
         Kit.use1 W (‵ (T-text .own text (v-text ∷ [])) ⊛ ‵ (T-text .own text (v-text ∷ [])))
@@ -638,7 +634,7 @@ module _ {M : Type 1} (𝓤 : URA M) (H : Heap 𝓤) (A : Atoms 𝓤) (W : Given
         ‵ (fat fullShare State-L.mir l₇ 0 (State-L.lowered s)) ∷ ‵ (fat fullShare State-L.mir l₈ 0 (State-L.lowered r7)) ∷
         ‵ (fat fullShare (tyInt w64) l₉ 0 (vint w64 (st .at))) ∷ ‵ (fat fullShare Line-L.mir l₁₀ 0 (Line-L.lowered r1)) ∷
         ‵ (fat fullShare (tyInt w64) l₁₁ 0 (vint w64 (r1 .end))) ∷ ‵ (fat fullShare State-L.mir l₁₂ 0 (State-L.lowered r2)) ∷
-        ‵ (fat fullShare Answer-L.mir l₁₃ 0 (LL.val Answer-T.the-type Answer-L.the-laws r4)) ∷ ‵ (fat fullShare (tyInt w64) l₁₄ 0 (vint w64 r6)) ∷
+        ‵ (fat fullShare Answer-L.mir l₁₃ 0 (Answer-L.lowered r4)) ∷ ‵ (fat fullShare (tyInt w64) l₁₄ 0 (vint w64 r6)) ∷
         ‵ (fat fullShare State-L.mir l₁₅ 0 (State-L.lowered (r4 .state))) ∷ ‵ (fat fullShare (tyInt w64) l₁₆ 0 (vint w64 ((r1 .end) - (st .at)))) ∷
         ‵ (fat fullShare tyBool l₁₇ 0 (vbool (ltb 200 ((r1 .end) - (st .at))))) ∷
         ‵ (fat fullShare (tyRef erased mut (pointee ((UInt w8) .written))) l₁₈ 0 (vptr (output .ptr .0) (output .ptr .1))) ∷
@@ -667,18 +663,17 @@ module _ {M : Type 1} (𝓤 : URA M) (H : Heap 𝓤) (A : Atoms 𝓤) (W : Given
         Kit.use1 W (raw (emp 𝓤)) (id⊢ 𝓤 _) $ Kit.drop ! $ Kit.drop ! $
         Run.land ! (Run.from ! (Run.stop !)) (Run.init ! 0 refl (LL.lawful Answer-T.the-type Answer-L.the-laws 𝓤 H A W .typed r8 _ is8′ .0)) $
         Kit.rewrite ! 0 (λ (w : Val). ‵ (fat fullShare Answer-L.mir l₀ 0 w)) (ap only (LL.tells Answer-T.the-type Answer-L.the-laws r8 _ is8′)) refl $
-        let is8 : Is Answer-T.the-row r8 ((LL.val Answer-T.the-type Answer-L.the-laws r8) ∷
-        []) = subst (λ (vs : List Val). Is Answer-T.the-row r8 vs) (LL.tells Answer-T.the-type Answer-L.the-laws r8 _ is8′) is8′ in
-        Walk.written-out ! (‵ (fat fullShare Answer-L.mir l₀ 0 (LL.val Answer-T.the-type Answer-L.the-laws r8)) ∷
-        ‵ (fat fullShare Marks-L.mir l₁ 0 (Marks-L.lowered m)) ∷ ‵ (fat fullShare Y-text l₂ 0 (sliceVal (text .ptr) (length (text .now)))) ∷
-        ‵ (fat fullShare Y-nodes l₃ 0 (sliceVal (nodes .ptr) (length (nodes .now)))) ∷ ‵ (fat fullShare Y-bodies l₄ 0 (sliceVal (bodies .ptr)
-        (length (bodies .now)))) ∷ ‵ (fat fullShare Y-output l₅ 0 (sliceVal (output .ptr) (length output-now))) ∷
-        ‵ (fat fullShare Y-memory l₆ 0 (sliceVal (memory .ptr) (length memory-now))) ∷ ‵ (fat fullShare State-L.mir l₇ 0 (State-L.lowered s)) ∷
-        ‵ (fat fullShare State-L.mir l₈ 0 (State-L.lowered st)) ∷ ‵ (froom (tyInt w64) l₉ 0) ∷ ‵ (froom Line-L.mir l₁₀ 0) ∷
-        ‵ (froom (tyInt w64) l₁₁ 0) ∷ ‵ (froom State-L.mir l₁₂ 0) ∷ ‵ (froom Answer-L.mir l₁₃ 0) ∷ ‵ (froom (tyInt w64) l₁₄ 0) ∷
-        ‵ (froom State-L.mir l₁₅ 0) ∷ ‵ (fat fullShare (tyInt w64) l₁₆ 0 (vint w64 (length (text .now)))) ∷
-        ‵ (fat fullShare tyBool l₁₇ 0 (vbool (ltb (st .at) (length (text .now))))) ∷
-        ‵ (froom (tyRef erased mut (pointee ((UInt w8) .written))) l₁₈ 0) ∷
+        let is8 : Is Answer-T.the-row r8 ((Answer-L.lowered r8) ∷ []) = subst (λ (vs : List Val). Is Answer-T.the-row r8 vs)
+        (LL.tells Answer-T.the-type Answer-L.the-laws r8 _ is8′) is8′ in
+        Walk.written-out ! (‵ (fat fullShare Answer-L.mir l₀ 0 (Answer-L.lowered r8)) ∷ ‵ (fat fullShare Marks-L.mir l₁ 0 (Marks-L.lowered m)) ∷
+        ‵ (fat fullShare Y-text l₂ 0 (sliceVal (text .ptr) (length (text .now)))) ∷ ‵ (fat fullShare Y-nodes l₃ 0 (sliceVal (nodes .ptr)
+        (length (nodes .now)))) ∷ ‵ (fat fullShare Y-bodies l₄ 0 (sliceVal (bodies .ptr) (length (bodies .now)))) ∷
+        ‵ (fat fullShare Y-output l₅ 0 (sliceVal (output .ptr) (length output-now))) ∷ ‵ (fat fullShare Y-memory l₆ 0 (sliceVal (memory .ptr)
+        (length memory-now))) ∷ ‵ (fat fullShare State-L.mir l₇ 0 (State-L.lowered s)) ∷ ‵ (fat fullShare State-L.mir l₈ 0 (State-L.lowered st)) ∷
+        ‵ (froom (tyInt w64) l₉ 0) ∷ ‵ (froom Line-L.mir l₁₀ 0) ∷ ‵ (froom (tyInt w64) l₁₁ 0) ∷ ‵ (froom State-L.mir l₁₂ 0) ∷
+        ‵ (froom Answer-L.mir l₁₃ 0) ∷ ‵ (froom (tyInt w64) l₁₄ 0) ∷ ‵ (froom State-L.mir l₁₅ 0) ∷
+        ‵ (fat fullShare (tyInt w64) l₁₆ 0 (vint w64 (length (text .now)))) ∷ ‵ (fat fullShare tyBool l₁₇ 0 (vbool (ltb (st .at)
+        (length (text .now))))) ∷ ‵ (froom (tyRef erased mut (pointee ((UInt w8) .written))) l₁₈ 0) ∷
         ‵ (froom (sliceTy (tyRef erased mut (pointee ((UInt w8) .written)))) l₁₉ 0) ∷
         ‵ (froom (tyRef erased mut (pointee ((UInt w8) .written))) l₂₀ 0) ∷
         ‵ (froom (sliceTy (tyRef erased mut (pointee ((UInt w8) .written)))) l₂₁ 0) ∷ ‵ (froom tyBool l₂₂ 0) ∷ ‵ Fd ∷ ‵ (flft κ₄ q₄) ∷
@@ -687,14 +682,14 @@ module _ {M : Type 1} (𝓤 : URA M) (H : Heap 𝓤) (A : Atoms 𝓤) (W : Given
         ‵ (T-bodies .own bodies (sliceVal (bodies .ptr) (length (bodies .now)) ∷ [])) ∷ ‵ (T-nodes .own nodes (sliceVal (nodes .ptr)
         (length (nodes .now)) ∷ [])) ∷ ‵ (T-text .own text (sliceVal (text .ptr) (length (text .now)) ∷ [])) ∷ []) refl $
         Run.returns-within ! Post refl (Run.look ! 0 refl) $
-        Walk.frees-gathered ! (Walk.full Answer-L.mir l₀ (LL.val Answer-T.the-type Answer-L.the-laws r8) ∷
-        Walk.full Marks-L.mir l₁ (Marks-L.lowered m) ∷ Walk.full Y-text l₂ (sliceVal (text .ptr) (length (text .now))) ∷
-        Walk.full Y-nodes l₃ (sliceVal (nodes .ptr) (length (nodes .now))) ∷ Walk.full Y-bodies l₄ (sliceVal (bodies .ptr) (length (bodies .now))) ∷
-        Walk.full Y-output l₅ (sliceVal (output .ptr) (length output-now)) ∷ Walk.full Y-memory l₆ (sliceVal (memory .ptr) (length memory-now)) ∷
-        Walk.full State-L.mir l₇ (State-L.lowered s) ∷ Walk.full State-L.mir l₈ (State-L.lowered st) ∷ Walk.bare (tyInt w64) l₉ ∷
-        Walk.bare Line-L.mir l₁₀ ∷ Walk.bare (tyInt w64) l₁₁ ∷ Walk.bare State-L.mir l₁₂ ∷ Walk.bare Answer-L.mir l₁₃ ∷ Walk.bare (tyInt w64) l₁₄ ∷
-        Walk.bare State-L.mir l₁₅ ∷ Walk.full (tyInt w64) l₁₆ (vint w64 (length (text .now))) ∷ Walk.full tyBool l₁₇ (vbool (ltb (st .at)
-        (length (text .now)))) ∷ Walk.bare (tyRef erased mut (pointee ((UInt w8) .written))) l₁₈ ∷
+        Walk.frees-gathered ! (Walk.full Answer-L.mir l₀ (Answer-L.lowered r8) ∷ Walk.full Marks-L.mir l₁ (Marks-L.lowered m) ∷
+        Walk.full Y-text l₂ (sliceVal (text .ptr) (length (text .now))) ∷ Walk.full Y-nodes l₃ (sliceVal (nodes .ptr) (length (nodes .now))) ∷
+        Walk.full Y-bodies l₄ (sliceVal (bodies .ptr) (length (bodies .now))) ∷ Walk.full Y-output l₅ (sliceVal (output .ptr) (length output-now)) ∷
+        Walk.full Y-memory l₆ (sliceVal (memory .ptr) (length memory-now)) ∷ Walk.full State-L.mir l₇ (State-L.lowered s) ∷
+        Walk.full State-L.mir l₈ (State-L.lowered st) ∷ Walk.bare (tyInt w64) l₉ ∷ Walk.bare Line-L.mir l₁₀ ∷ Walk.bare (tyInt w64) l₁₁ ∷
+        Walk.bare State-L.mir l₁₂ ∷ Walk.bare Answer-L.mir l₁₃ ∷ Walk.bare (tyInt w64) l₁₄ ∷ Walk.bare State-L.mir l₁₅ ∷
+        Walk.full (tyInt w64) l₁₆ (vint w64 (length (text .now))) ∷ Walk.full tyBool l₁₇ (vbool (ltb (st .at) (length (text .now)))) ∷
+        Walk.bare (tyRef erased mut (pointee ((UInt w8) .written))) l₁₈ ∷
         Walk.bare (sliceTy (tyRef erased mut (pointee ((UInt w8) .written)))) l₁₉ ∷
         Walk.bare (tyRef erased mut (pointee ((UInt w8) .written))) l₂₀ ∷
         Walk.bare (sliceTy (tyRef erased mut (pointee ((UInt w8) .written)))) l₂₁ ∷ Walk.bare tyBool l₂₂ ∷ []) Fd ed (‵ (flft κ₄ q₄) ∷
@@ -702,8 +697,7 @@ module _ {M : Type 1} (𝓤 : URA M) (H : Heap 𝓤) (A : Atoms 𝓤) (W : Given
         (length memory-now) ∷ [])) ∷ ‵ (T-output .own (at-last output output-now) (sliceVal (output .ptr) (length output-now) ∷ [])) ∷
         ‵ (T-bodies .own bodies (sliceVal (bodies .ptr) (length (bodies .now)) ∷ [])) ∷ ‵ (T-nodes .own nodes (sliceVal (nodes .ptr)
         (length (nodes .now)) ∷ [])) ∷ ‵ (T-text .own text (sliceVal (text .ptr) (length (text .now)) ∷ [])) ∷ []) $
-        Kit.use0 W (‵ (Answer-T.the-row .own r8 ((LL.val Answer-T.the-type Answer-L.the-laws r8) ∷ [])))
-        (LL.makes Answer-T.the-type Answer-L.the-plain 𝓤 H A r8 _ is8) $
+        Kit.use0 W (‵ (Answer-T.the-row .own r8 ((Answer-L.lowered r8) ∷ []))) (LL.makes Answer-T.the-type Answer-L.the-plain 𝓤 H A r8 _ is8) $
         Kit.move ! (7 ∷ []) $
         Kit.use1 W (‵ (finally (UInt w8) (output .name) output-now)) (Walk.ended-slice 𝓤 H A W (named 3) κ₃ (UInt w8) output output-now _) $
         Kit.move ! (7 ∷ []) $
@@ -714,7 +708,7 @@ module _ {M : Type 1} (𝓤 : URA M) (H : Heap 𝓤) (A : Atoms 𝓤) (W : Given
         Kit.move ! (3 ∷ 0 ∷ []) $ Kit.join ! $ Kit.move ! (3 ∷ 0 ∷ []) $ Kit.join ! $
         Kit.use1 W (raw (alive 𝓤 H A f-expand-input.signature (κ₀, (κ₁, (κ₂, (κ₃, (κ₄, tt))))) (q₀, (q₁, (q₂, (q₃, (q₄, tt))))))) (id⊢ 𝓤 _) $
         Kit.keep ! (0 ∷ 1 ∷ 2 ∷ []) $
-        Kit.by ! (Walk.leave-by 𝓤 H A W f-expand-input.ended (f-expand-input.clauses 𝓤 H A mem run) stayed-expand-input bound (LL.val Answer-T.the-type Answer-L.the-laws r8) r8 (tt, (tt, (tt, (tt, (output-now, (memory-now, (tt, tt))))))) (tt, (tt, (tt, (tt, (kept-output, (kept-memory, (tt, tt))))))) (factI 𝓤 _ (emp 𝓤) (expands-over inv1 (ltb-false (st .at) (length (text .now)) t1) e8)))))) (s, (output .now), (memory .now), tt) (is-s, is-output .0 .1, refl, is-memory .0 .1, refl, (expanding-starts (pre .1) (pre .2)))))))))))))))))))))))))))
+        Kit.by ! (Walk.leave-by 𝓤 H A W f-expand-input.ended (f-expand-input.clauses 𝓤 H A mem run) stayed-expand-input bound (Answer-L.lowered r8) r8 (tt, (tt, (tt, (tt, (output-now, (memory-now, (tt, tt))))))) (tt, (tt, (tt, (tt, (kept-output, (kept-memory, (tt, tt))))))) (factI 𝓤 _ (emp 𝓤) (expands-over inv1 (ltb-false (st .at) (length (text .now)) t1) e8)))))) (s, (output .now), (memory .now), tt) (is-s, is-output .0 .1, refl, is-memory .0 .1, refl, (expanding-starts (pre .1) (pre .2)))))))))))))))))))))))))))
 
 pub expand-input-spec : {M : Type 1} → stated.statement M
 unfolding code.routine tablesOf

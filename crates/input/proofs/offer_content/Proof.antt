@@ -344,14 +344,14 @@ module _ {M : Type 1} (𝓤 : URA M) (H : Heap 𝓤) (A : Atoms 𝓤) (W : Given
         Run.land ! (Run.from ! (Run.stop !)) (Run.init ! 12 refl (LL.lawful Answer-T.the-type Answer-L.the-laws 𝓤 H A W .typed r2 _ is2′ .0)) $
         Kit.rewrite ! 12 (λ (w : Val). ‵ (fat fullShare Answer-L.mir l₀ 0 w))
         (ap only (LL.tells Answer-T.the-type Answer-L.the-laws r2 _ is2′)) refl $
-        let is2 : Is Answer-T.the-row r2 ((LL.val Answer-T.the-type Answer-L.the-laws r2) ∷
-        []) = subst (λ (vs : List Val). Is Answer-T.the-row r2 vs) (LL.tells Answer-T.the-type Answer-L.the-laws r2 _ is2′) is2′ in
+        let is2 : Is Answer-T.the-row r2 ((Answer-L.lowered r2) ∷ []) = subst (λ (vs : List Val). Is Answer-T.the-row r2 vs)
+        (LL.tells Answer-T.the-type Answer-L.the-laws r2 _ is2′) is2′ in
         Walk.written-out ! (‵ (fat fullShare (tyArray (tyInt w8) 200) l₁₀ 0 cell4) ∷ ‵ (Array (UInt w8) 200 .own (ws1 .1 .1 .1 .0) (cell4 ∷ [])) ∷
         ‵ (T-memory .own (at-last memory (ws2 .1 .1 .1 .1 .1 .0)) (sliceVal (memory .ptr) (length (ws2 .1 .1 .1 .1 .1 .0)) ∷ [])) ∷ ‵ (flft κ₄ q₄) ∷
         ‵ (T-output .own (at-last output (ws2 .1 .1 .1 .1 .0)) (sliceVal (output .ptr) (length (ws2 .1 .1 .1 .1 .0)) ∷ [])) ∷ ‵ (flft κ₃ q₃) ∷
         ‵ (flft κ₂ q₂) ∷ ‵ (flft κ₁ q₁) ∷ ‵ (flft κ₀ q₀) ∷ ‵ (T-text .own text (sliceVal (text .ptr) (length (text .now)) ∷ [])) ∷
         ‵ (T-nodes .own nodes (sliceVal (nodes .ptr) (length (nodes .now)) ∷ [])) ∷ ‵ (T-bodies .own bodies (sliceVal (bodies .ptr)
-        (length (bodies .now)) ∷ [])) ∷ ‵ (fat fullShare Answer-L.mir l₀ 0 (LL.val Answer-T.the-type Answer-L.the-laws r2)) ∷
+        (length (bodies .now)) ∷ [])) ∷ ‵ (fat fullShare Answer-L.mir l₀ 0 (Answer-L.lowered r2)) ∷
         ‵ (fat fullShare Marks-L.mir l₁ 0 (Marks-L.lowered m)) ∷ ‵ (fat fullShare Y-text l₂ 0 (sliceVal (text .ptr) (length (text .now)))) ∷
         ‵ (fat fullShare Y-nodes l₃ 0 (sliceVal (nodes .ptr) (length (nodes .now)))) ∷ ‵ (fat fullShare Y-bodies l₄ 0 (sliceVal (bodies .ptr)
         (length (bodies .now)))) ∷ ‵ (fat fullShare Y-output l₅ 0 (sliceVal (output .ptr) (length (ws2 .1 .1 .1 .1 .0)))) ∷
@@ -369,13 +369,12 @@ module _ {M : Type 1} (𝓤 : URA M) (H : Heap 𝓤) (A : Atoms 𝓤) (W : Given
         []) refl $
         Run.returns-within ! Post refl (Run.look ! 12 refl) $
         Kit.move ! (12 ∷ 13 ∷ 14 ∷ 15 ∷ 16 ∷ 17 ∷ 18 ∷ 19 ∷ 20 ∷ 21 ∷ 0 ∷ 22 ∷ 23 ∷ 24 ∷ 25 ∷ 26 ∷ 27 ∷ 28 ∷ 29 ∷ 30 ∷ 31 ∷ 32 ∷ []) $
-        Walk.frees-gathered ! (Walk.full Answer-L.mir l₀ (LL.val Answer-T.the-type Answer-L.the-laws r2) ∷
-        Walk.full Marks-L.mir l₁ (Marks-L.lowered m) ∷ Walk.full Y-text l₂ (sliceVal (text .ptr) (length (text .now))) ∷
-        Walk.full Y-nodes l₃ (sliceVal (nodes .ptr) (length (nodes .now))) ∷ Walk.full Y-bodies l₄ (sliceVal (bodies .ptr) (length (bodies .now))) ∷
-        Walk.full Y-output l₅ (sliceVal (output .ptr) (length (ws2 .1 .1 .1 .1 .0))) ∷ Walk.full Y-memory l₆ (sliceVal (memory .ptr)
-        (length (ws2 .1 .1 .1 .1 .1 .0))) ∷ Walk.full (tyInt w64) l₇ (vint w64 at) ∷ Walk.full (tyInt w64) l₈ (vint w64 end) ∷
-        Walk.full State-L.mir l₉ (State-L.lowered s) ∷ Walk.full (tyArray (tyInt w8) 200) l₁₀ cell4 ∷
-        Walk.full (tyInt w64) l₁₁ (vint w64 (end - at)) ∷ Walk.full tyUnit l₁₂ vunit ∷
+        Walk.frees-gathered ! (Walk.full Answer-L.mir l₀ (Answer-L.lowered r2) ∷ Walk.full Marks-L.mir l₁ (Marks-L.lowered m) ∷
+        Walk.full Y-text l₂ (sliceVal (text .ptr) (length (text .now))) ∷ Walk.full Y-nodes l₃ (sliceVal (nodes .ptr) (length (nodes .now))) ∷
+        Walk.full Y-bodies l₄ (sliceVal (bodies .ptr) (length (bodies .now))) ∷ Walk.full Y-output l₅ (sliceVal (output .ptr)
+        (length (ws2 .1 .1 .1 .1 .0))) ∷ Walk.full Y-memory l₆ (sliceVal (memory .ptr) (length (ws2 .1 .1 .1 .1 .1 .0))) ∷
+        Walk.full (tyInt w64) l₇ (vint w64 at) ∷ Walk.full (tyInt w64) l₈ (vint w64 end) ∷ Walk.full State-L.mir l₉ (State-L.lowered s) ∷
+        Walk.full (tyArray (tyInt w8) 200) l₁₀ cell4 ∷ Walk.full (tyInt w64) l₁₁ (vint w64 (end - at)) ∷ Walk.full tyUnit l₁₂ vunit ∷
         Walk.full (tyRef erased mut (pointee (Array (UInt w8) 200 .written))) l₁₃ (vptr l₁₀ 0) ∷
         Walk.full (sliceTy (tyRef erased mut (pointee ((UInt w8) .written)))) l₁₄ (sliceVal (l₁₀, 0) (length (replicate {A = ℕ} 200 0))) ∷
         Walk.full (tyRef erased mut (pointee ((UInt w8) .written))) l₁₅ (vptr (output .ptr .0) (output .ptr .1)) ∷
@@ -389,8 +388,7 @@ module _ {M : Type 1} (𝓤 : URA M) (H : Heap 𝓤) (A : Atoms 𝓤) (W : Given
         (sliceVal (output .ptr) (length (ws2 .1 .1 .1 .1 .0)) ∷ [])) ∷ ‵ (flft κ₃ q₃) ∷ ‵ (flft κ₂ q₂) ∷ ‵ (flft κ₁ q₁) ∷ ‵ (flft κ₀ q₀) ∷
         ‵ (T-text .own text (sliceVal (text .ptr) (length (text .now)) ∷ [])) ∷ ‵ (T-nodes .own nodes (sliceVal (nodes .ptr) (length (nodes .now)) ∷
         [])) ∷ ‵ (T-bodies .own bodies (sliceVal (bodies .ptr) (length (bodies .now)) ∷ [])) ∷ []) $
-        Kit.use0 W (‵ (Answer-T.the-row .own r2 ((LL.val Answer-T.the-type Answer-L.the-laws r2) ∷ [])))
-        (LL.makes Answer-T.the-type Answer-L.the-plain 𝓤 H A r2 _ is2) $
+        Kit.use0 W (‵ (Answer-T.the-row .own r2 ((Answer-L.lowered r2) ∷ []))) (LL.makes Answer-T.the-type Answer-L.the-plain 𝓤 H A r2 _ is2) $
         Kit.move ! (4 ∷ []) $
         Kit.use1 W (‵ (finally (UInt w8) (output .name) (ws2 .1 .1 .1 .1 .0)))
         (Walk.ended-slice 𝓤 H A W (named 3) κ₃ (UInt w8) output (ws2 .1 .1 .1 .1 .0) _) $
@@ -403,7 +401,7 @@ module _ {M : Type 1} (𝓤 : URA M) (H : Heap 𝓤) (A : Atoms 𝓤) (W : Given
         Kit.join ! $ Kit.move ! (4 ∷ 0 ∷ []) $ Kit.join ! $ Kit.move ! (4 ∷ 0 ∷ []) $ Kit.join ! $ Kit.move ! (4 ∷ 0 ∷ []) $ Kit.join ! $
         Kit.use1 W (raw (alive 𝓤 H A f-offer-content.signature (κ₀, (κ₁, (κ₂, (κ₃, (κ₄, tt))))) (q₀, (q₁, (q₂, (q₃, (q₄, tt))))))) (id⊢ 𝓤 _) $
         Kit.keep ! (0 ∷ 1 ∷ 2 ∷ []) $
-        Kit.by ! (Walk.leave-by 𝓤 H A W f-offer-content.ended (f-offer-content.clauses 𝓤 H A mem run) stayed-offer-content bound (LL.val Answer-T.the-type Answer-L.the-laws r2) r2 (tt, (tt, (tt, (tt, ((ws2 .1 .1 .1 .1 .0), ((ws2 .1 .1 .1 .1 .1 .0), (tt, (tt, (tt, tt))))))))) (tt, (tt, (tt, (tt, ((len2 ∙ refl), ((len3 ∙ refl), (tt, (tt, (tt, tt))))))))) (factI 𝓤 _ (emp 𝓤) (offers-content e1 e2)))))))))))))))))))))))))))))))))))))))))
+        Kit.by ! (Walk.leave-by 𝓤 H A W f-offer-content.ended (f-offer-content.clauses 𝓤 H A mem run) stayed-offer-content bound (Answer-L.lowered r2) r2 (tt, (tt, (tt, (tt, ((ws2 .1 .1 .1 .1 .0), ((ws2 .1 .1 .1 .1 .1 .0), (tt, (tt, (tt, tt))))))))) (tt, (tt, (tt, (tt, ((len2 ∙ refl), ((len3 ∙ refl), (tt, (tt, (tt, tt))))))))) (factI 𝓤 _ (emp 𝓤) (offers-content e1 e2)))))))))))))))))))))))))))))))))))))))))
 
 pub offer-content-spec : {M : Type 1} → stated.statement M
 unfolding code.routine tablesOf

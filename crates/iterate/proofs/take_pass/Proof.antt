@@ -1,4 +1,4 @@
--- take_pass takes a piece of the rest, or fails where a bracket begins no atom.
+-- take_pass takes a piece of the rest, or finds nothing to take.
 use borrow.Author.Needs.{needs}
 use Rattle.iterate.proofs.Passes.{pass-fails, pass-goes-on}
 use Rattle.iterate.proofs.take_pass.Statement.{statement}
@@ -94,6 +94,18 @@ same-length-2 c = search needs
 returns : tie.Need-returns
 returns c = search (pass-goes-on, needs)
 
+sub-choose-fault : tie.Need-sub-choose-fault
+sub-choose-fault c = search needs
+
+part-choose-fault-start : tie.Need-part-choose-fault-start
+part-choose-fault-start c = search needs
+
+part-choose-fault-end : tie.Need-part-choose-fault-end
+part-choose-fault-end c = search needs
+
+choose-fault-requires : tie.Need-choose-fault-requires
+choose-fault-requires c κs = search needs
+
 same-length-3 : tie.Need-same-length-3
 same-length-3 c = search needs
 
@@ -134,5 +146,9 @@ take-pass-spec =
     same-length
     same-length-2
     returns
+    sub-choose-fault
+    part-choose-fault-start
+    part-choose-fault-end
+    choose-fault-requires
     same-length-3
     returns-2)

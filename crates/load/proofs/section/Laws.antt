@@ -19,7 +19,7 @@ use Rattle.load.specs.declared.Seen.{Seen}
 use Rattle.load.specs.declared.Seen.the-variants.{Fault, More, Ends}
 use Rattle.load.specs.declared.section.Led.{Led}
 use Rattle.load.specs.declared.section.Led.the-variants as Led
-use Rattle.load.specs.Answer.{refusedLoading, answerOf, Loads}
+use Rattle.load.specs.Answer.{refusedLoading, Loads}
 use Rattle.load.specs.Head.{SectionAt}
 use Rattle.load.specs.Lines.{faultNumber, progressOf, seenOf, TableSound, Left, SeesLine}
 use Rattle.load.specs.Body.{BodyLine, MacrosKept, BodySeen}

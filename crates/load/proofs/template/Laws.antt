@@ -1,7 +1,6 @@
 -- What a line at a template's place comes to.
 use mathlib.Core.Path.{_≡_, refl, ap, sym, _∙_}
 use mathlib.Core.Bool.{Bool, true, false, _||_}
-use mathlib.Core.Option.{some}
 use mathlib.Core.List.{List, [], _∷_, _++_}
 use Prim.Native.Nat.{ℕ, suc, _+_, _-_, _≤_, _<_}
 use native.Mathlib.Numerals.{add-one}
@@ -26,7 +25,7 @@ use Rattle.load.specs.declared.Progress.{Progress}
 use Rattle.load.specs.declared.Seen.the-variants as Seen
 use Rattle.load.specs.declared.template.Weighed.{Weighed}
 use Rattle.load.specs.declared.template.Weighed.the-variants.{Fault, Fits}
-use Rattle.load.specs.Lines.{faultNumber, progressOf, TableSound, SeesLine}
+use Rattle.load.specs.Lines.{progressOf, TableSound, SeesLine}
 use Rattle.load.specs.Template.{CountsByte, weighedFault, Tabled, HasRoom, Weighs}
 
 -- ---- count_byte

@@ -315,8 +315,8 @@ module _ {M : Type 1} (𝓤 : URA M) (H : Heap 𝓤) (A : Atoms 𝓤) (W : Given
         Run.land ! (Run.from ! (Run.stop !)) (Run.init ! 21 refl (LL.lawful Answer-T.the-type Answer-L.the-laws 𝓤 H A W .typed r2 _ is2′ .0)) $
         Kit.rewrite ! 21 (λ (w : Val). ‵ (fat fullShare Answer-L.mir l₁₁ 0 w))
         (ap only (LL.tells Answer-T.the-type Answer-L.the-laws r2 _ is2′)) refl $
-        let is2 : Is Answer-T.the-row r2 ((LL.val Answer-T.the-type Answer-L.the-laws r2) ∷
-        []) = subst (λ (vs : List Val). Is Answer-T.the-row r2 vs) (LL.tells Answer-T.the-type Answer-L.the-laws r2 _ is2′) is2′ in
+        let is2 : Is Answer-T.the-row r2 ((Answer-L.lowered r2) ∷ []) = subst (λ (vs : List Val). Is Answer-T.the-row r2 vs)
+        (LL.tells Answer-T.the-type Answer-L.the-laws r2 _ is2′) is2′ in
         Walk.written-out ! (‵ (T-memory .own (at-last memory (ws2 .1 .1 .1 .1 .1 .0)) (sliceVal (memory .ptr) (length (ws2 .1 .1 .1 .1 .1 .0)) ∷
         [])) ∷ ‵ (flft κ₄ q₄) ∷ ‵ (T-output .own (at-last output (ws2 .1 .1 .1 .1 .0)) (sliceVal (output .ptr) (length (ws2 .1 .1 .1 .1 .0)) ∷
         [])) ∷ ‵ (flft κ₃ q₃) ∷ ‵ (flft κ₂ q₂) ∷ ‵ (flft κ₁ q₁) ∷ ‵ (flft κ₀ q₀) ∷ ‵ (T-text .own text (sliceVal (text .ptr) (length (text .now)) ∷
@@ -327,8 +327,7 @@ module _ {M : Type 1} (𝓤 : URA M) (H : Heap 𝓤) (A : Atoms 𝓤) (W : Given
         ‵ (fat fullShare (tyInt w64) l₅ 0 (vint w64 fuel)) ∷ ‵ (fat fullShare Y-output l₆ 0 (sliceVal (output .ptr)
         (length (ws2 .1 .1 .1 .1 .0)))) ∷ ‵ (fat fullShare Y-memory l₇ 0 (sliceVal (memory .ptr) (length (ws2 .1 .1 .1 .1 .1 .0)))) ∷
         ‵ (fat fullShare Index-L.mir l₈ 0 (Index-L.lowered index)) ∷ ‵ (fat fullShare Y-store l₉ 0 (sliceVal (store .ptr) (length (store .now)))) ∷
-        ‵ (fat fullShare State-L.mir l₁₀ 0 (State-L.lowered r1)) ∷
-        ‵ (fat fullShare Answer-L.mir l₁₁ 0 (LL.val Answer-T.the-type Answer-L.the-laws r2)) ∷
+        ‵ (fat fullShare State-L.mir l₁₀ 0 (State-L.lowered r1)) ∷ ‵ (fat fullShare Answer-L.mir l₁₁ 0 (Answer-L.lowered r2)) ∷
         ‵ (fat fullShare (tyRef erased mut (pointee ((UInt w8) .written))) l₁₂ 0 (vptr (output .ptr .0) (output .ptr .1))) ∷
         ‵ (fat fullShare (sliceTy (tyRef erased mut (pointee ((UInt w8) .written)))) l₁₃ 0 (sliceVal (output .ptr) (length (output .now)))) ∷
         ‵ (fat fullShare (tyRef erased mut (pointee ((UInt w8) .written))) l₁₄ 0 (vptr (memory .ptr .0) (memory .ptr .1))) ∷
@@ -366,12 +365,11 @@ module _ {M : Type 1} (𝓤 : URA M) (H : Heap 𝓤) (A : Atoms 𝓤) (W : Given
         (Again.lends-again (UInt w8) κ₅ (ν4 ∷ []) q₅ (store .name) (store .ptr .0) (store .ptr .1) 𝓤 H A W (named 5) (named 1)
         (store .now)) $ Kit.await ! tt $ Kit.pick ! (λ δ4. Kit.split ! $
         Walk.nothing ! $ Kit.move ! (1 ∷ 0 ∷ []) $ Kit.fjoin ! $ Kit.move ! (3 ∷ 0 ∷ []) $ Kit.fjoin ! $
-        Kit.use0 W (‵ (Answer-T.the-row .own r2 ((LL.val Answer-T.the-type Answer-L.the-laws r2) ∷ [])))
-        (LL.makes Answer-T.the-type Answer-L.the-plain 𝓤 H A r2 _ is2) $
+        Kit.use0 W (‵ (Answer-T.the-row .own r2 ((Answer-L.lowered r2) ∷ []))) (LL.makes Answer-T.the-type Answer-L.the-plain 𝓤 H A r2 _ is2) $
         Kit.fjoin ! $ Walk.nothing-raw ! $ Kit.move ! (3 ∷ 0 ∷ []) $ Kit.join ! $ Kit.move ! (4 ∷ 0 ∷ []) $ Kit.join ! $
         Kit.use1 W (raw (alive 𝓤 H A g-end.signature ((ν3 ∷ []), ((ν4 ∷ []), tt)) (fullShare, (fullShare, tt)))) (id⊢ 𝓤 _) $
         Walk.asksˡ ! fm g-end.ended (g-end.clauses 𝓤 H A mem run)
-        ((((ν3 ∷ []), ((ν4 ∷ []), tt)), (fullShare, (fullShare, tt)), tt, (r2, ((record { ptr = memory .ptr; name = δ3; now = (ws2 .1 .1 .1 .1 .1 .0) }), ((record { ptr = store .ptr; name = δ4; now = (store .now) }), tt))), ((LL.val Answer-T.the-type Answer-L.the-laws r2) ∷ [], ((sliceVal (memory .ptr) (length (ws2 .1 .1 .1 .1 .1 .0))) ∷ [], ((sliceVal (store .ptr) (length (store .now))) ∷ [], tt)))), tt) _ (known-end ((((ν3 ∷ []), ((ν4 ∷ []), tt)), (fullShare, (fullShare, tt)), tt, (r2, ((record { ptr = memory .ptr; name = δ3; now = (ws2 .1 .1 .1 .1 .1 .0) }), ((record { ptr = store .ptr; name = δ4; now = (store .now) }), tt))), ((LL.val Answer-T.the-type Answer-L.the-laws r2) ∷ [], ((sliceVal (memory .ptr) (length (ws2 .1 .1 .1 .1 .1 .0))) ∷ [], ((sliceVal (store .ptr) (length (store .now))) ∷ [], tt)))), tt)) (factI 𝓤 _ (emp 𝓤) ((e2 .sound .kept, pre .3))) (λ r ws. id⊢ 𝓤 _)
+        ((((ν3 ∷ []), ((ν4 ∷ []), tt)), (fullShare, (fullShare, tt)), tt, (r2, ((record { ptr = memory .ptr; name = δ3; now = (ws2 .1 .1 .1 .1 .1 .0) }), ((record { ptr = store .ptr; name = δ4; now = (store .now) }), tt))), ((Answer-L.lowered r2) ∷ [], ((sliceVal (memory .ptr) (length (ws2 .1 .1 .1 .1 .1 .0))) ∷ [], ((sliceVal (store .ptr) (length (store .now))) ∷ [], tt)))), tt) _ (known-end ((((ν3 ∷ []), ((ν4 ∷ []), tt)), (fullShare, (fullShare, tt)), tt, (r2, ((record { ptr = memory .ptr; name = δ3; now = (ws2 .1 .1 .1 .1 .1 .0) }), ((record { ptr = store .ptr; name = δ4; now = (store .now) }), tt))), ((Answer-L.lowered r2) ∷ [], ((sliceVal (memory .ptr) (length (ws2 .1 .1 .1 .1 .1 .0))) ∷ [], ((sliceVal (store .ptr) (length (store .now))) ∷ [], tt)))), tt)) (factI 𝓤 _ (emp 𝓤) ((e2 .sound .kept, pre .3))) (λ r ws. id⊢ 𝓤 _)
         (Run.and-then ! (Run.load ! (Run.from ! (Run.stop !)) (Run.look ! 22 refl)) (Run.and-then ! (Run.load ! (Run.from ! (Run.stop !))
         (Run.look ! 28 refl)) (Run.and-then ! (Run.load ! (Run.from ! (Run.stop !)) (Run.look ! 30 refl)) (Run.no-more !)))) (λ u3 r3 ws3 is3′ e3.
         Kit.use1 W (‵ (flft (ν3 ∷ []) fullShare) ⊛ (‵ (flft (ν4 ∷ []) fullShare) ⊛ (raw (emp 𝓤)))) (id⊢ 𝓤 _) $ Kit.split ! $ Kit.move ! (1 ∷ []) $
@@ -406,7 +404,7 @@ module _ {M : Type 1} (𝓤 : URA M) (H : Heap 𝓤) (A : Atoms 𝓤) (W : Given
         ‵ (fat fullShare Y-memory l₇ 0 (sliceVal (memory .ptr) (length (ws2 .1 .1 .1 .1 .1 .0)))) ∷
         ‵ (fat fullShare Index-L.mir l₈ 0 (Index-L.lowered index)) ∷ ‵ (fat fullShare Y-store l₉ 0 (sliceVal (store .ptr)
         (length (ws3 .1 .1 .0)))) ∷ ‵ (fat fullShare State-L.mir l₁₀ 0 (State-L.lowered r1)) ∷
-        ‵ (fat fullShare Answer-L.mir l₁₁ 0 (LL.val Answer-T.the-type Answer-L.the-laws r2)) ∷
+        ‵ (fat fullShare Answer-L.mir l₁₁ 0 (Answer-L.lowered r2)) ∷
         ‵ (fat fullShare (tyRef erased mut (pointee ((UInt w8) .written))) l₁₂ 0 (vptr (output .ptr .0) (output .ptr .1))) ∷
         ‵ (fat fullShare (sliceTy (tyRef erased mut (pointee ((UInt w8) .written)))) l₁₃ 0 (sliceVal (output .ptr) (length (output .now)))) ∷
         ‵ (fat fullShare (tyRef erased mut (pointee ((UInt w8) .written))) l₁₄ 0 (vptr (memory .ptr .0) (memory .ptr .1))) ∷
@@ -423,8 +421,7 @@ module _ {M : Type 1} (𝓤 : URA M) (H : Heap 𝓤) (A : Atoms 𝓤) (W : Given
         Walk.full Loading-L.mir l₄ (Loading-L.lowered loading) ∷ Walk.full (tyInt w64) l₅ (vint w64 fuel) ∷
         Walk.full Y-output l₆ (sliceVal (output .ptr) (length (ws2 .1 .1 .1 .1 .0))) ∷ Walk.full Y-memory l₇ (sliceVal (memory .ptr)
         (length (ws2 .1 .1 .1 .1 .1 .0))) ∷ Walk.full Index-L.mir l₈ (Index-L.lowered index) ∷ Walk.full Y-store l₉ (sliceVal (store .ptr)
-        (length (ws3 .1 .1 .0))) ∷ Walk.full State-L.mir l₁₀ (State-L.lowered r1) ∷
-        Walk.full Answer-L.mir l₁₁ (LL.val Answer-T.the-type Answer-L.the-laws r2) ∷
+        (length (ws3 .1 .1 .0))) ∷ Walk.full State-L.mir l₁₀ (State-L.lowered r1) ∷ Walk.full Answer-L.mir l₁₁ (Answer-L.lowered r2) ∷
         Walk.full (tyRef erased mut (pointee ((UInt w8) .written))) l₁₂ (vptr (output .ptr .0) (output .ptr .1)) ∷
         Walk.full (sliceTy (tyRef erased mut (pointee ((UInt w8) .written)))) l₁₃ (sliceVal (output .ptr) (length (output .now))) ∷
         Walk.full (tyRef erased mut (pointee ((UInt w8) .written))) l₁₄ (vptr (memory .ptr .0) (memory .ptr .1)) ∷

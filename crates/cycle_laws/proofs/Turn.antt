@@ -1,0 +1,276 @@
+-- The cycle's part of the proof that speaks of no code: each way through offer, advance and body, and the invariant of the body's loop.
+use mathlib.Core.Path.{_≡_, refl, sym, ap, _∙_, subst}
+use mathlib.Core.Bool.{Bool, true, false}
+use mathlib.Core.Option.{none, some}
+use mathlib.Core.List.{List, [], _∷_}
+use Prim.Native.Nat.{ℕ, suc, _+_, _-_, _*_, _≤_, _<_}
+use native.Mathlib.Numerals.{add-one}
+use native.Mathlib.Omega.{arith}
+use native.Mathlib.Nat.{pos-of-ne-zero}
+use borrow.Author.Tests.{le-leb, lt-leb, eqb-true, eqb-false}
+use lib.Dec.{eqb}
+use lib.ListN.{length, getD, take}
+use Rattle.model.specs.declared.Marks.{Marks}
+use Rattle.model.specs.Text.{Bytes}
+use Rattle.model.specs.Load.{templates, Loaded, noMacro}
+use Rattle.model.specs.Machine.{Frame, running}
+use Rattle.model.specs.Sizes.{Nested}
+use Rattle.model.proofs.Choices.{false-not-true}
+use Rattle.model.proofs.Frames.{NextOk}
+use Rattle.nodes.specs.declared.Node.{Node}
+use Rattle.state.specs.declared.State.{State}
+use Rattle.state.specs.State.{stateOf, Sound, countedEvent, withCall}
+use Rattle.call.specs.declared.Call.{Call}
+use Rattle.call.specs.declared.Head.{Head}
+use Rattle.call.specs.Call.{openedOf, Laid, laid, frameOf}
+use Rattle.call.specs.Params.{Lays}
+use Rattle.fit.specs.declared.Choice.{Choice}
+use Rattle.fit.specs.Chosen.{Chooses}
+use Rattle.answer.specs.declared.Answer.{Answer}
+use Rattle.answer.specs.Answers.{turn, goesOn, goesBack, endsWith, isLeft, isOffer, offeredLength, nextAt, nextOf, comesTo}
+use Rattle.answer.specs.Kept.{Follows, Begun, Open}
+use Rattle.answer.proofs.Following.{extends-none, follows-itself, follows-trans}
+use Rattle.answer.proofs.Expansion.{halts-with, settle-same, next-on, next-offers, next-nested, left-same, left-nested, unoffered-same, offer-open}
+use Rattle.write.specs.Output.{WritesLine}
+use Rattle.write.proofs.Lines.{wrote-back, wrote-follows, wrote-left, wrote-fuel}
+use Rattle.carry.specs.Carries.{Steps}
+use Rattle.landing.specs.Landing.{LandsAnswer}
+use Rattle.matching.specs.Book.{Book, Prepared}
+use Rattle.matching.specs.Matches.{opened, Decides, Opened}
+use Rattle.matching.proofs.Matching.{reading-calls}
+use Rattle.cycle_laws.specs.Meets.{Meets, Advances}
+use Rattle.cycle_laws.proofs.Events.{offer-spent, no-call, too-deep, enters}
+
+-- ---- the measures: twice the fuel, and one more for a body
+
+pub below-turn : {a b : ℕ} → a < b → 2 * a < 2 * b
+below-turn h = omega arith
+
+pub below-body : {a b : ℕ} → a ≤ b → 2 * a < 2 * b + 1
+below-body h = omega arith
+
+pub below-call : {a b : ℕ} → a < b → 2 * a + 1 < 2 * b
+below-call h = omega arith
+
+-- ---- the states that follow one another
+
+-- an event is counted
+counted-follows : {s : State} {o w : Bytes} → Sound s o w → 0 < s .fuel → Follows s o (countedEvent s) o w
+counted-follows h k = record {
+  sound = record { written = h .written; kept = h .kept; symbols = h .symbols; calls = omega (arith, h .calls); total = omega (arith, h .total) };
+  at = refl;
+  line = refl;
+  fuel = omega arith;
+  extends = extends-none (h .written);
+}
+
+-- and a call opened with it
+called-follows : {s : State} {o w : Bytes} → Sound s o w → 0 < s .fuel → Follows s o (withCall (countedEvent s)) o w
+called-follows h k = record {
+  sound = record { written = h .written; kept = h .kept; symbols = h .symbols; calls = omega (arith, h .calls); total = omega (arith, h .total) };
+  at = refl;
+  line = refl;
+  fuel = omega arith;
+  extends = extends-none (h .written);
+}
+
+-- ---- offering a line
+
+-- what is known where the line opens a call
+pub record Opens (q : Choice) (depth : ℕ) (s : State) (o : Bytes) (a : Answer) (o₁ : Bytes) : Type 0 where
+  pub some-fuel : 0 < s .fuel
+  pub found : q .found ≡ true
+  pub shallow : ¬ (depth ≡ 12)
+  pub counted : a .state ≡ countedEvent s
+  pub kept : o₁ ≡ o
+
+-- no fuel is left
+offer-stops : {m : Marks} {text : Bytes} {row : List Node} {bodies : List ℕ} {l : Bytes} {depth : ℕ} {s : State} {o w : Bytes}
+    → Sound s o w → s .fuel ≡ 0 → Meets m text row bodies (some l) [] depth s o w (endsWith 20 s) o w
+unfolding nextAt nextOf
+offer-stops {m} {text} {row} {bodies} {l} {depth} {s} {o} {w} sound spent = record {
+  follows = follows-itself sound;
+  left = refl;
+  same = λ t b fs k _ _ _. offer-spent (length o) m text t s o w spent l fs ∙ sym (halts-with (s .fuel) (length o) t text 20 [] s o w);
+}
+
+module _ {m : Marks} {text : Bytes} {row : List Node} {bodies : List ℕ} (line : Bytes) (n : ℕ) {depth : ℕ} {s : State} {o w : Bytes} {q : Choice} (sound : Sound s o w) (g : Chooses m row (take n line) q) where
+  module _ (some-fuel : 0 < s .fuel) where
+    -- the line has no reading
+    offer-writes : {r : Answer} {o′ : Bytes} → q .found ≡ false → WritesLine line n (goesBack 0 (countedEvent s)) o r o′ → Meets m text row bodies (some (take n line)) [] depth s o w r o′ w
+    offer-writes e p = record {
+      follows = follows-trans (counted-follows sound some-fuel) (wrote-follows refl (p .writes) (counted-follows sound some-fuel .sound));
+      left = wrote-left refl (p .writes);
+      same = λ t b fs i nums bytes built. no-call (length o) m text t s o w (b .marks) some-fuel (take n line) fs (g .no-call e _ (b .fits))
+          ∙ settle-same (s .fuel - 1) (length o) t _
+          ∙ (λ j. comesTo (sym (wrote-fuel refl (p .writes)) j) (length o) t (wrote-back refl (p .writes) m text fs nums bytes built w j));
+    }
+
+    -- it opens a thirteenth call
+    offer-deep : q .found ≡ true → depth ≡ 12 → Meets m text row bodies (some (take n line)) [] depth s o w (endsWith 14 (countedEvent s)) o w
+    unfolding nextAt nextOf
+    offer-deep e deep = record {
+      follows = counted-follows sound some-fuel;
+      left = refl;
+      same = λ t b fs i _ _ _. let c = g .call e (templates (t .macros)) (b .fits) in too-deep (length o) m text t s o w (b .marks) some-fuel (take n line) fs (c .reading) (c .is) (le-leb 12 (length fs) (omega arith))
+          ∙ sym (halts-with (s .fuel - 1) (length o) t text 14 [] (countedEvent s) o w);
+    }
+
+  module _ {a : Answer} {o₁ : Bytes} (d : Decides q line n depth s o a o₁) where
+    -- no call is opened
+    pub offer-left : isLeft (turn a) ≡ true → Meets m text row bodies (some (take n line)) [] depth s o w a o₁ w
+    offer-left e = by (eqb (s .fuel) 0) refl (q .found) refl (eqb depth 12) refl
+      where
+        is : {x : Answer} {y : Bytes} → (a ≡ x) × (y ≡ o₁) → Meets m text row bodies (some (take n line)) [] depth s o w x y w → Meets m text row bodies (some (take n line)) [] depth s o w a o₁ w
+        is {x} {y} f h = subst (λ (z : Answer). Meets m text row bodies (some (take n line)) [] depth s o w z o₁ w) (sym (f .0)) (subst (λ (z : Bytes). Meets m text row bodies (some (take n line)) [] depth s o w x z w) (f .1) h)
+
+        by : (spent : Bool) → eqb (s .fuel) 0 ≡ spent → (found : Bool) → q .found ≡ found → (deep : Bool) → eqb depth 12 ≡ deep → Meets m text row bodies (some (take n line)) [] depth s o w a o₁ w
+        by true f b _ _ _ = let r = d .spent (eqb-true _ _ f) in is (r .0, sym (r .1)) (offer-stops sound (eqb-true _ _ f))
+        by false f false b _ _ = let k = pos-of-ne-zero (eqb-false _ _ f) in offer-writes k b (d .writes k b)
+        by false f true b true c = let k = pos-of-ne-zero (eqb-false _ _ f) in let r = d .deep k b (eqb-true _ _ c) in is (r .0, sym (r .1)) (offer-deep k b (eqb-true _ _ c))
+        by false f true b false c = false-not-true (sym (ap (λ (x : Answer). isLeft (turn x)) (d .opens (pos-of-ne-zero (eqb-false _ _ f)) b (eqb-false _ _ c) .0)) ∙ e)
+
+-- ---- opening a call
+
+module _ {line : Bytes} {n depth : ℕ} {s : State} {o : Bytes} {q : Choice} {a : Answer} {o₁ : Bytes} (d : Decides q line n depth s o a o₁) where
+  -- a call is opened: there is fuel, a reading, and room for the call
+  pub offer-opens : isLeft (turn a) ≡ false → Opens q depth s o a o₁
+  offer-opens e = by (eqb (s .fuel) 0) refl (q .found) refl (eqb depth 12) refl
+    where
+      left : {x : Answer} → a ≡ x → isLeft (turn x) ≡ true → Opens q depth s o a o₁
+      left f h = false-not-true (sym e ∙ ap (λ (x : Answer). isLeft (turn x)) f ∙ h)
+
+      by : (spent : Bool) → eqb (s .fuel) 0 ≡ spent → (found : Bool) → q .found ≡ found → (deep : Bool) → eqb depth 12 ≡ deep → Opens q depth s o a o₁
+      by true f b _ _ _ = left (d .spent (eqb-true _ _ f) .0) refl
+      by false f false b _ _ = left refl (wrote-left refl (d .writes (pos-of-ne-zero (eqb-false _ _ f)) b .writes))
+      by false f true b true c = left (d .deep (pos-of-ne-zero (eqb-false _ _ f)) b (eqb-true _ _ c) .0) refl
+      by false f true b false c =
+          let k = pos-of-ne-zero (eqb-false _ _ f) in
+          let r = d .opens k b (eqb-false _ _ c) in
+          record { some-fuel = k; found = b; shallow = eqb-false _ _ c; counted = ap (λ (x : Answer). x .state) (r .0); kept = r .1 }
+
+module _ {depth : ℕ} {s : State} {o w : Bytes} {q : Choice} {a : Answer} {o₁ : Bytes} (sound : Sound s o w) (k : Opens q depth s o a o₁) where
+  -- the last call's number
+  pub calls-small : a .state .calls ≤ 1000000
+  calls-small = omega (arith, sound .calls, sound .total, k .some-fuel, ap (λ (y : State). y .calls) (k .counted))
+
+  module _ {u : State} (eu : u ≡ withCall (a .state)) where
+    called : u ≡ withCall (countedEvent s)
+    called = eu ∙ ap withCall (k .counted)
+
+    pub called-sound : Sound u o₁ w
+    called-sound = subst (λ (y : State). Sound y o₁ w) (sym called) (subst (λ (y : Bytes). Sound (withCall (countedEvent s)) y w) (sym (k .kept)) (called-follows sound (k .some-fuel) .sound))
+
+    pub called-less : u .fuel < s .fuel
+    called-less = omega (arith, k .some-fuel, ap (λ (y : State). y .fuel) called)
+
+    module _ {m : Marks} {text : Bytes} {row : List Node} {bodies : List ℕ} (line : Bytes) (n : ℕ) {c : Call} (g : Chooses m row (take n line) q) (h : Opened bodies line n q (u .calls) c) where
+      -- the call that is opened
+      pub called-begun : Prepared m text row bodies → Begun m text c
+      called-begun p =
+          let r = reading-calls line n g (k .found) h text (p .table) (p .book) in
+          record { number = omega (arith, r .same, k .some-fuel, ap (λ (y : State). y .calls) called, sound .calls, sound .total); next = r .within; nested = r .nested }
+
+      -- what comes of it
+      pub offer-enters : {r : Answer} {o′ w′ : Bytes} → depth ≤ 12 → Meets m text row bodies none (openedOf m text c ∷ []) depth u o₁ w r o′ w′ → Meets m text row bodies (some (take n line)) [] depth s o w r o′ w′
+      offer-enters {r} {o′} {w′} few p =
+          let x : Meets m text row bodies none (openedOf m text c ∷ []) depth (withCall (countedEvent s)) o w r o′ w′ =
+          subst (λ (y : State). Meets m text row bodies none (openedOf m text c ∷ []) depth y o w r o′ w′) called
+          (subst (λ (y : Bytes). Meets m text row bodies none (openedOf m text c ∷ []) depth u y w r o′ w′) (k .kept) p) in
+          record {
+            follows = follows-trans (called-follows sound (k .some-fuel)) (x .follows);
+            left = x .left;
+            same = λ t b fs i nums bytes built.
+                let z = reading-calls line n g (k .found) h text t b in
+                enters (length o) m text t s o w (b .marks) (k .some-fuel) (take n line) fs (z .reading) (z .is) (lt-leb 12 (length fs) (omega (arith, few, k .shallow, i)))
+                ∙ ap (λ (f : Frame). comesTo (s .fuel - 1) (length o) t (running (stateOf text none (f ∷ fs) (withCall (countedEvent s)) o w)))
+                (ap (λ (j : ℕ). opened j (getD (t .macros) (z .reading .which) noMacro) (z .reading .pieces)) (sym (ap (λ (y : State). y .calls) called)) ∙ sym (z .frame))
+                ∙ x .same t b fs i nums bytes built;
+          }
+
+-- ---- a code line
+
+module _ {m : Marks} {text : Bytes} {c : Laid} {s : State} {o w b : Bytes} {q : Answer} {nums : List ℕ} {bytes o₁ w₁ : Bytes} (steps : Steps m text c s o w b q nums bytes o₁ w₁) where
+  -- it offers nothing
+  pub advance-takes : {row : List Node} {bodies : List ℕ} {depth : ℕ} → isOffer (turn q) ≡ false → Advances m text row bodies c depth s o w q nums bytes o₁ w₁
+  advance-takes e = record {
+    follows = steps .follows;
+    settled = e;
+    less = steps .less;
+    stays = steps .stays;
+    same = λ t k fs n line. steps .same t (k .marks) fs ∙ ap (comesTo (q .state .fuel) (length o) t) (unoffered-same m text q fs nums bytes b o₁ w₁ e line);
+  }
+
+  module _ (e : isOffer (turn q) ≡ true) where
+    stays : Open m text (laid (q .call) nums bytes)
+    stays = steps .stays (offer-open (turn q) e)
+
+    pub offer-less : q .state .fuel < s .fuel
+    offer-less = steps .less (offer-open (turn q) e)
+
+    pub offer-placed : q .call .next ≤ length text
+    offer-placed = stays .placed .next
+
+    -- the line that it builds is offered
+    pub advance-offers : {row : List Node} {bodies : List ℕ} {depth n : ℕ} {r a : Answer} {o₂ w₂ : Bytes} → n ≡ offeredLength (turn q)
+        → Meets m text row bodies (some (take n b)) [] (depth + 1) (q .state) o₁ w₁ r o₂ w₂ → LandsAnswer m text (q .call) r a → Advances m text row bodies c depth s o w a nums bytes o₂ w₂
+    advance-offers {depth = depth} {n} {r} {a} {o₂} {w₂} en p k =
+        let f = frameOf m text (laid (q .call) nums bytes) in
+        let ok : NextOk m (nextOf m text [] a nums bytes [] o₂ w₂) =
+        subst (NextOk m) (k .same (p .left) [] nums bytes [] o₂ w₂) (left-nested m text r (f ∷ []) nums bytes [] o₂ w₂ (p .left) (stays .nested, tt)) in
+        record {
+          follows = subst (λ (y : State). Follows s o y o₂ w₂) (sym (k .state)) (follows-trans (steps .follows) (p .follows));
+          settled = k .settled (p .left);
+          less = λ _. omega (arith, ap (λ (y : State). y .fuel) (k .state), p .follows .fuel, offer-less);
+          stays = λ g. record { placed = k .placed (p .left) g nums bytes (stays .placed); nested = next-nested m text a [] nums bytes [] o₂ w₂ ok g };
+          same = λ t b′ fs i line. steps .same t (b′ .marks) fs
+              ∙ ap (comesTo (q .state .fuel) (length o) t) (next-offers m text q fs nums bytes b o₁ w₁ e)
+              ∙ ap (λ (j : ℕ). comesTo (q .state .fuel) (length o) t (running (stateOf text (some (take j b)) (f ∷ fs) (q .state) o₁ w₁))) (sym en)
+              ∙ subst (λ (room : ℕ). comesTo (q .state .fuel) room t (running (stateOf text (some (take n b)) (f ∷ fs) (q .state) o₁ w₁)) ≡ comesTo (r .state .fuel) room t (nextOf m text (f ∷ fs) r nums bytes line o₂ w₂))
+              (steps .follows .extends .long) (p .same t b′ (f ∷ fs) (ap suc i ∙ sym (add-one depth)) nums bytes line)
+              ∙ (λ j. comesTo (sym (k .state) j .fuel) (length o) t (k .same (p .left) fs nums bytes line o₂ w₂ j));
+        }
+
+-- ---- a body
+
+-- what the expansion comes to from the call f₀ on, it comes to from the call c on
+pub record Running (m : Marks) (text : Bytes) (row : List Node) (bodies : List ℕ) (depth : ℕ) (f₀ : Frame) (s₀ : State) (o₀ w₀ : Bytes) (c : Laid) (s : State) (o w : Bytes) : Type 0 where
+  pub follows : Follows s₀ o₀ s o w
+  pub is-open : Open m text c
+  pub same : (t : Loaded) → Book m text row bodies t → (fs : List Frame) → length fs ≡ depth
+      → comesTo (s₀ .fuel) (length o₀) t (running (stateOf text none (f₀ ∷ fs) s₀ o₀ w₀)) ≡ comesTo (s .fuel) (length o₀) t (running (stateOf text none (frameOf m text c ∷ fs) s o w))
+
+-- the call is laid out
+pub running-starts : {m : Marks} {text : Bytes} {row : List Node} {bodies : List ℕ} {depth : ℕ} {f : Call} {c : Head} {a : Answer} {nums : List ℕ} {bytes : Bytes} {s : State} {o w : Bytes}
+    → Sound s o w → Begun m text f → Lays f c nums bytes → a ≡ goesOn c s → Running m text row bodies depth (openedOf m text f) s o w (laid (a .call) nums bytes) (a .state) o w
+running-starts {m} {text} {row} {bodies} {depth} {f} {nums = nums} {bytes} {s} {o} {w} sound b h e =
+    subst (λ (x : Answer). Running m text row bodies depth (openedOf m text f) s o w (laid (x .call) nums bytes) (x .state) o w) (sym e) record {
+      follows = follows-itself sound;
+      is-open = record { placed = h .placed text (b .number) (b .next); nested = subst (Nested m) (sym (h .frame m text)) (b .nested) };
+      same = λ t _ fs n. ap (λ (g : Frame). comesTo (s .fuel) (length o) t (running (stateOf text none (g ∷ fs) s o w))) (sym (h .frame m text));
+    }
+
+module _ {m : Marks} {text : Bytes} {row : List Node} {bodies : List ℕ} {depth : ℕ} {f₀ : Frame} {s₀ : State} {o₀ w₀ : Bytes} {c : Laid} {s : State} {o w : Bytes}
+    (i : Running m text row bodies depth f₀ s₀ o₀ w₀ c s o w) where
+  module _ {a : Answer} {nums : List ℕ} {bytes o′ w′ : Bytes} (h : Advances m text row bodies c depth s o w a nums bytes o′ w′) where
+    advanced-same : (t : Loaded) → Book m text row bodies t → (fs : List Frame) → length fs ≡ depth → (line : Bytes)
+        → comesTo (s₀ .fuel) (length o₀) t (running (stateOf text none (f₀ ∷ fs) s₀ o₀ w₀)) ≡ comesTo (a .state .fuel) (length o₀) t (nextOf m text fs a nums bytes line o′ w′)
+    advanced-same t b fs n line = i .same t b fs n
+        ∙ subst (λ (room : ℕ). comesTo (s .fuel) room t (running (stateOf text none (frameOf m text c ∷ fs) s o w)) ≡ comesTo (a .state .fuel) room t (nextOf m text fs a nums bytes line o′ w′))
+        (i .follows .extends .long) (h .same t b fs n line)
+
+    -- the call is left, or the run has ended
+    pub body-left : isLeft (turn a) ≡ true → Meets m text row bodies none (f₀ ∷ []) depth s₀ o₀ w₀ a o′ w′
+    body-left e = record {
+      follows = follows-trans (i .follows) (h .follows);
+      left = e;
+      same = λ t b fs n nums′ bytes′ line. advanced-same t b fs n line ∙ ap (comesTo (a .state .fuel) (length o₀) t) (left-same m text a fs nums bytes line o′ w′ e nums′ bytes′ line);
+    }
+
+    -- the call goes on
+    pub running-on : isLeft (turn a) ≡ false → Running m text row bodies depth f₀ s₀ o₀ w₀ (laid (a .call) nums bytes) (a .state) o′ w′
+    running-on e = record {
+      follows = follows-trans (i .follows) (h .follows);
+      is-open = h .stays e;
+      same = λ t b fs n. advanced-same t b fs n [] ∙ ap (comesTo (a .state .fuel) (length o₀) t) (next-on m text a fs nums bytes [] o′ w′ e (h .settled));
+    }
