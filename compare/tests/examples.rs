@@ -64,8 +64,10 @@ fn every_number_has_an_example() {
     let table = String::from_utf8(read(&root().join("docs/NUMBERS.md"))).unwrap();
     let rows: BTreeSet<u32> =
         table.lines().filter_map(|row| row.strip_prefix("| ")?.split(' ').next()?.parse().ok()).collect();
-    let named: BTreeSet<u32> =
-        texts("numbers").iter().map(|text| text.file_stem().unwrap().to_str().unwrap().parse().unwrap()).collect();
+    let named: BTreeSet<u32> = texts("numbers")
+        .iter()
+        .map(|text| text.file_stem().unwrap().to_str().unwrap().parse().unwrap())
+        .collect();
     assert_eq!(rows.iter().filter(|number| **number != 1).copied().collect::<BTreeSet<u32>>(), named);
 }
 

@@ -96,7 +96,8 @@ fn fit_vectors() {
 
 #[test]
 fn long_lines_and_texts() {
-    let lines = [&[b'A'; 200][..], &[b'A'; 201], &[b'A'; 60_000], b"", b"AB\0\x80", &[b'B'; 5_000]].join(&b'\n');
+    let lines =
+        [&[b'A'; 200][..], &[b'A'; 201], &[b'A'; 60_000], b"", b"AB\0\x80", &[b'B'; 5_000]].join(&b'\n');
     let mut long = b"$!$!0 (+-*/)\nA!$\n$$\n".to_vec();
     let lines_file = Scratch::new("long.lines", &lines);
     for length in [long.len(), 65_536, 65_537, 70_000] {
@@ -119,7 +120,9 @@ fn many_lines() {
     let text_file = Scratch::new("many.text", text);
     for lines in [vec![b'\n'; 65_536], b"AAAAAAAAA\n".repeat(6_553), vec![b'A'; 65_536], vec![]] {
         let lines_file = Scratch::new("many.lines", &lines);
-        assert!(printed("fit_line", &[text_file.name(), lines_file.name()]) == programs::fit_rows(text, &lines));
+        assert!(
+            printed("fit_line", &[text_file.name(), lines_file.name()]) == programs::fit_rows(text, &lines)
+        );
     }
 }
 

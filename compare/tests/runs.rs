@@ -2,9 +2,13 @@
 
 mod common;
 
-use std::sync::LazyLock;
+use std::fs;
+use std::path::{Path, PathBuf};
+use std::sync::{mpsc, LazyLock};
+use std::thread;
+use std::time::Duration;
 
-use common::{for_texts, row, shown, Numbers};
+use common::{for_texts, for_value_texts, row, shown, Numbers};
 use stage2_compare::{run, Node};
 use stage2_reference::generate::{Generator, Size};
 use stage2_reference::{self as reference, Ran, FUEL_LIMIT, NODE_ROW, STORE_ROOM};
@@ -134,6 +138,61 @@ fn compare_row(bytes: &[u8], nodes: &mut [Node]) {
     }
 }
 
+/// Operands on both sides of the ends of 32 and 64 bits, and of the root of the
+/// greatest value. The least value has to be computed.
+const OPERANDS: [&str; 18] = [
+    "0",
+    "1",
+    "(-1)",
+    "7",
+    "2147483647",
+    "2147483648",
+    "(-2147483648)",
+    "(-2147483649)",
+    "4294967295",
+    "4294967296",
+    "3037000499",
+    "3037000500",
+    "4611686018427387904",
+    "9223372036854775806",
+    "9223372036854775807",
+    "9223372036854775808",
+    "(-9223372036854775807)",
+    "(-9223372036854775807-1)",
+];
+
+/// What is done with an expression: its value written, stored and valued again, a
+/// skip and passes by it.
+const VALUED: [&str; 4] =
+    ["!14!F1", "!14!26\nA!16\n!F3\nA*1!16\n!14!F1", "!F4\nx!F1\ny!F1", "!10!F7\nx!F1\n!F8"];
+
+/// Compares what bodies do with an expression in parameter 1.
+fn compare_expression(expression: &str, nodes: &mut [Node]) {
+    for body in VALUED {
+        let text = format!("$!$!0 (+-*/)\nV:!$\n{body}\n$$\nV:{expression}\none\ntwo\nthree\n");
+        compare(text.as_bytes(), 100, Rooms::with_output(100), nodes);
+    }
+}
+
+/// Compares the four comparisons of two values.
+fn compare_sides(a: &str, b: &str, nodes: &mut [Node]) {
+    for function in ["60", "61", "6-", "6+"] {
+        let text = format!("$!$!0 (+-*/)\nC:!,!$\n1!36\n!F{function}\nno!F1\nend!F1\n$$\nC:{a},{b}\n");
+        compare(text.as_bytes(), 100, Rooms::with_output(100), nodes);
+    }
+}
+
+/// The vectors about the greatest value.
+fn greatest_texts() -> Vec<PathBuf> {
+    let folder = Path::new(env!("CARGO_MANIFEST_DIR")).join("../vectors/run");
+    let mut texts: Vec<PathBuf> = fs::read_dir(folder).unwrap().map(|entry| entry.unwrap().path()).collect();
+    texts.retain(|path| {
+        let name = path.file_name().unwrap().to_str().unwrap();
+        name.contains("greatest") && name.ends_with(".text")
+    });
+    texts
+}
+
 /// 01's session.
 const SESSION: &[u8] = b"$!$!0 (+-*/)\nNAME !$\n!10!F1$\n$\nNAME !&amp;!$\nNAME !10&!20$\n$$\n\
     NAME Kern &amp; Co$\nplain$\n";
@@ -221,6 +280,49 @@ fn rows_of_three_and_four_bytes() {
                 }
             }
         }
+    }
+}
+
+#[test]
+fn texts_about_values() {
+    let mut row = row(NODE_ROW);
+    let mut numbers = Numbers::default();
+    for_value_texts(|generator, text| {
+        let (fuel, room) = (generator.fuel().clamp(1, 2_000), generator.room());
+        numbers.add(compare(text, fuel, Rooms::with_output(room), &mut row).ran.number);
+    });
+    numbers.assert_met(&[0, 13, 15, 18, 20]);
+}
+
+#[test]
+fn steps_and_comparisons_at_the_ends() {
+    let mut nodes = row(NODE_ROW);
+    for a in OPERANDS {
+        compare_expression(&format!("-{a}"), &mut nodes);
+        for b in OPERANDS {
+            for operator in ["+", "-", "*", "/"] {
+                compare_expression(&format!("{a}{operator}{b}"), &mut nodes);
+            }
+            compare_sides(a, b, &mut nodes);
+        }
+    }
+}
+
+/// A skip costs what it passes over, and passes cost their events, whatever the
+/// value. A run that counts the value down would never answer.
+#[test]
+fn the_greatest_value_takes_no_time_of_its_own() {
+    let texts = greatest_texts();
+    assert!(texts.len() > 5);
+    for path in texts {
+        let (text, out) = (fs::read(&path).unwrap(), fs::read_to_string(path.with_extension("out")).unwrap());
+        let (answer, answered) = mpsc::channel();
+        thread::spawn(move || {
+            let ran = compare(&text, FUEL_LIMIT, Rooms::with_output(65_536), &mut row(NODE_ROW)).ran;
+            answer.send(format!("END {} {} {}", ran.number, ran.line, ran.events))
+        });
+        let end = answered.recv_timeout(Duration::from_secs(60));
+        assert_eq!(end.as_deref(), Ok(out.lines().last().unwrap()), "{}", path.display());
     }
 }
 

@@ -66,9 +66,8 @@ fn stack_of(call: &mut dyn FnMut()) -> usize {
 /// grows by an atom at a time, and then takes its value.
 fn nested(parameters: &[&str]) -> String {
     let longest = "Z".repeat(200);
-    let calls: String = ('A'..'L')
-        .map(|name| format!("{name}!$\n{}!10\n$\n", (name as u8 + 1) as char))
-        .collect();
+    let calls: String =
+        ('A'..'L').map(|name| format!("{name}!$\n{}!10\n$\n", (name as u8 + 1) as char)).collect();
     let input: String = parameters.iter().map(|parameter| format!("A{parameter}\n")).collect();
     format!("$!$!0 (+-*/)\n{longest}$\n$\n!Y$\n$\n{calls}L!$\nZ!10\n!14!F1\n$$\n{input}")
 }

@@ -1,6 +1,6 @@
 //! An independent implementation of document 01, STAGE2 for name tables and
-//! export, with request 1, UTF-8, of document 02. It is written from the
-//! documents alone so that others can be compared with it.
+//! export, with requests 1, UTF-8, and 2, values of 64 bits, of document 02. It
+//! is written from the documents alone so that others can be compared with it.
 //!
 //! The public calls are [`check`], [`fit`] and [`run`]. Each takes the text
 //! itself.

@@ -8,7 +8,7 @@ use crate::store::Store;
 use crate::text::{self, LINE_LIMIT};
 use crate::tree::{Reading, PLACEHOLDER_LIMIT};
 use crate::utf8;
-use crate::value::{value, written};
+use crate::value::{value, written, Value};
 
 /// Most calls open at once.
 const CALL_LIMIT: usize = 12;
@@ -80,7 +80,7 @@ enum Kind<'p> {
     /// Boxed, because it is far larger than the other kind.
     Each(Box<Each<'p>>),
     Times {
-        left: i32,
+        left: Value,
     },
 }
 
@@ -266,11 +266,11 @@ impl<'p, 'o> Machine<'p, 'o> {
         &call.parameters[index]
     }
 
-    fn value_of(&self, expression: &[u8]) -> Result<i32, Number> {
+    fn value_of(&self, expression: &[u8]) -> Result<Value, Number> {
         value(expression, &self.program.marks, &self.store)
     }
 
-    fn parameter_value(&self, index: usize) -> Result<i32, Number> {
+    fn parameter_value(&self, index: usize) -> Result<Value, Number> {
         self.value_of(self.parameter(index))
     }
 
@@ -459,6 +459,7 @@ impl<'p, 'o> Machine<'p, 'o> {
 
     fn skip_by(&mut self, parameter: usize) -> Step {
         let lines = self.parameter_value(parameter)?;
+        // Every value from 0 on is a usize of 64 bits.
         self.skip(usize::try_from(lines).map_err(|_| Number::BadSkip)?)
     }
 

@@ -1,21 +1,24 @@
-//! Values of expressions: signed, 32 bits.
+//! Values of expressions: signed, 64 bits.
 
 use crate::number::Number;
 use crate::store::Store;
 use crate::text::Marks;
 
+/// A value. The type's ends are the ends of the range.
+pub type Value = i64;
+
 /// Most digits in a stored number.
-const STORED_DIGITS: usize = 10;
+const STORED_DIGITS: usize = 19;
 
 /// The value of a whole expression.
-pub fn value(expression: &[u8], marks: &Marks, store: &Store) -> Result<i32, Number> {
+pub fn value(expression: &[u8], marks: &Marks, store: &Store) -> Result<Value, Number> {
     let mut reader = Reader { left: expression, marks, store };
     reader.expression().filter(|_| reader.left.is_empty()).ok_or(Number::BadExpression)
 }
 
 /// A value as it is written: without leading zeros or plus, and with mark 9
 /// for minus.
-pub fn written(value: i32, marks: &Marks) -> Vec<u8> {
+pub fn written(value: Value, marks: &Marks) -> Vec<u8> {
     let mut bytes = value.to_string().into_bytes();
     if value < 0 {
         bytes[0] = marks.minus;
@@ -33,7 +36,7 @@ struct Reader<'a> {
 
 impl<'a> Reader<'a> {
     /// Products with plus and minus between them; nothing at all is 0.
-    fn expression(&mut self) -> Option<i32> {
+    fn expression(&mut self) -> Option<Value> {
         if self.left.first().is_none_or(|&byte| byte == self.marks.right) {
             return Some(0);
         }
@@ -55,7 +58,7 @@ impl<'a> Reader<'a> {
     }
 
     /// Operands with times and divide between them.
-    fn product(&mut self) -> Option<i32> {
+    fn product(&mut self) -> Option<Value> {
         let mut product = self.operand()?;
         loop {
             if self.take(self.marks.times) {
@@ -69,13 +72,13 @@ impl<'a> Reader<'a> {
     }
 
     /// Digits, an expression in brackets, or a name.
-    fn operand(&mut self) -> Option<i32> {
+    fn operand(&mut self) -> Option<Value> {
         if self.take(self.marks.left) {
             let inner = self.expression()?;
             return self.take(self.marks.right).then_some(inner);
         }
         if self.left.first()?.is_ascii_digit() {
-            return i32::try_from(digits(self.row(|byte| byte.is_ascii_digit()))?).ok();
+            return number(self.row(|byte| byte.is_ascii_digit()), false);
         }
         let marks = self.marks;
         let name = self.row(|byte| !marks.is_syntax(byte));
@@ -105,24 +108,30 @@ impl<'a> Reader<'a> {
     }
 }
 
-/// A row of digits as a number; `None` beyond 32 bits, however long the row.
-fn digits(row: &[u8]) -> Option<i64> {
-    row.iter().try_fold(0i64, |number, &digit| {
-        let next = number * 10 + i64::from(digit - b'0');
-        (next <= 1 << 31).then_some(next)
+/// A row of digits as a number, below 0 if `negative`; `None` outside the range,
+/// however long the row.
+fn number(digits: &[u8], negative: bool) -> Option<Value> {
+    digits.iter().try_fold(0, |number: Value, &byte| {
+        let digit = Value::from(byte - b'0');
+        let tens = number.checked_mul(10)?;
+        if negative {
+            tens.checked_sub(digit)
+        } else {
+            tens.checked_add(digit)
+        }
     })
 }
 
-/// The number in a stored text: an optional minus and 1 to 10 digits.
-fn stored_number(text: &[u8], marks: &Marks) -> Option<i32> {
-    let (negative, row) = match text.split_first() {
+/// The number in a stored text: an optional minus and 1 to 19 digits.
+fn stored_number(text: &[u8], marks: &Marks) -> Option<Value> {
+    let (negative, digits) = match text.split_first() {
         Some((&byte, rest)) if byte == marks.minus => (true, rest),
         _ => (false, text),
     };
-    let is_number = (1..=STORED_DIGITS).contains(&row.len()) && row.iter().all(u8::is_ascii_digit);
-    if !is_number {
-        return None;
+    let is_number = (1..=STORED_DIGITS).contains(&digits.len()) && digits.iter().all(u8::is_ascii_digit);
+    if is_number {
+        number(digits, negative)
+    } else {
+        None
     }
-    let number = digits(row)?;
-    i32::try_from(if negative { -number } else { number }).ok()
 }

@@ -1,7 +1,10 @@
 //! Fitting against a function that lists all readings.
 
+mod common;
+
 use std::cmp::Ordering;
 
+use common::Dice;
 use stage2_reference::{fit, Fitted, NODE_ROW};
 
 /// One element of a reading.
@@ -92,15 +95,7 @@ fn text_of(templates: &[Vec<u8>]) -> Vec<u8> {
     text
 }
 
-/// A multiplicative generator, enough for choosing bytes.
-struct Dice(u64);
-
 impl Dice {
-    fn below(&mut self, limit: u64) -> u64 {
-        self.0 = self.0.wrapping_mul(6_364_136_223_846_793_005).wrapping_add(1_442_695_040_888_963_407);
-        (self.0 >> 33) % limit
-    }
-
     fn row(&mut self, bytes: &[u8], most: u64) -> Vec<u8> {
         (0..self.below(most + 1)).map(|_| bytes[self.below(bytes.len() as u64) as usize]).collect()
     }

@@ -2,7 +2,7 @@
 
 mod common;
 
-use std::collections::BTreeSet;
+use std::collections::{BTreeMap, BTreeSet};
 
 use common::{run_text, Left};
 use stage2_reference::generate::{Generator, Size, SMALL_TEXT};
@@ -131,6 +131,22 @@ fn the_generator_reaches_every_number() {
     assert_eq!(numbers, all);
 }
 
+/// Texts about values end with all that values lead to, often: done, 15, 18 for a
+/// skip, and 20 for more passes than there is fuel.
+#[test]
+fn texts_about_values_reach_their_numbers() {
+    let mut generator = Generator::new(16);
+    let mut numbers: BTreeMap<u64, u64> = BTreeMap::new();
+    for _ in 0..8_000 {
+        let number = run_text(&generator.value_text(), 1_000, 4_096).ran.number;
+        *numbers.entry(number).or_default() += 1;
+    }
+    println!("{numbers:?}");
+    for number in [0, 15, 18, 20] {
+        assert!(numbers.get(&number).is_some_and(|&count| count > 100), "{numbers:?}");
+    }
+}
+
 #[test]
 fn small_texts_are_small_and_a_seed_decides() {
     let mut first = Generator::new(3);
@@ -140,7 +156,9 @@ fn small_texts_are_small_and_a_seed_decides() {
         assert!(text.len() <= SMALL_TEXT);
         assert_eq!(text, second.text(Size::Small));
         assert!(first.character_text().len() <= SMALL_TEXT);
+        assert!(first.value_text().len() <= SMALL_TEXT);
         second.character_text();
+        second.value_text();
     }
     assert_ne!(Generator::new(4).text(Size::Small), Generator::new(5).text(Size::Small));
 }

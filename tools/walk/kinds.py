@@ -47,10 +47,6 @@ class Type:
             return f"LL.vals {self.both()}-L.the-laws"
         return plain.get(self.kind) or f"(λ (d : {self.short}). {self.short}-L.lowered d ∷ [])"
 
-    def written(self):
-        """Its type in the code."""
-        return {"int": f"(tyInt {self.width})", "bool": "tyBool", "unit": "tyUnit"}.get(self.kind) or f"{self.short}-L.mir"
-
     def machine(self, d):
         """The machine value of d."""
         if self.kind == "struct" and self.holds_more:

@@ -143,6 +143,7 @@ class Proof:
             else:
                 machine = w.of_slice("v", p) if t.kind == "slice" else t.machine(p)
                 facts.append(f"(is-{p} : Is {w.row(p)} {p} ({machine} ∷ []))")
+        assert len(w.declared.requires) < 2, "two clauses of requires"
         if w.declared.requires:
             facts.append(f"(pre : {w.declared.requires[0].strip()})")
         return facts
@@ -155,19 +156,16 @@ class Proof:
 
     def enter(self, w, machines):
         """From what the caller gives to the function's first step, and on to its end."""
+        w.part(lambda: self.enter_part(w, machines))
+
+    def enter_part(self, w, machines):
         w.context = ["tokens", "owned"]
         w.front("owned")
-        for p in w.params:
-            w.say("Kit.fsplit ! $")
-            if p in w.slices:
-                w.context[0:1] = [("own", p), "owned"]
-                w.front("owned")
-            else:
-                w.say("Kit.drop ! $")
-        w.drop()
-        w.front("tokens")
+        parts = [f"Walk.{'stays' if p in w.slices else 'gone'} ({w.row(p)} .own {p} ({m} ∷ []))" for p, m in zip(w.params, machines)]
+        w.rule(f"Walk.hears W {cons(parts)} !")
+        w.context[0:1] = [("own", p) for p in reversed(w.slices)]
         w.split_tokens(w.own_tokens())
-        w.say(f"Run.enter ! {w.C} {w.Λ} {self.code(w)} ({' ∷ '.join(machines + ['[]'])}) {w.own('Post')} $")
+        w.rule(f"Walk.enter ! {w.C} {w.Λ} {self.code(w)} ({' ∷ '.join(machines + ['[]'])}) {w.own('Post')}")
         locals = range(len(w.types))
         w.say(" ".join(f"Run.alloc1 ! (λ l{low(k)}." for k in locals))
         for k in locals:
@@ -177,16 +175,16 @@ class Proof:
         rest = w.context = w.context[2 * len(w.types):]
         w.say(f"Walk.gathers ! {cons(f'Walk.bare {w.type_term(k)} l{low(k)}' for k in locals)} ({w.items()}) (λ Fd ed.")
         w.context = [("cell", k) for k in locals] + ["ends"] + rest
-        w.say("Run.alloc0 ! $ Run.params1 ! $")
+        w.rule("Walk.allocated !")
+        w.rule("Walk.after-result !")
         for k, p in enumerate(w.params):
             t = w.param_type[p]
             value = Value(t, p, f"(refl, fits-{p})" if t.kind == "int" else f"is-{p}")
-            w.say(f"Run.pass1 ! (Run.init ! {w.cell(k + 1)} refl ({w.typed(value)})) $")
+            w.rule(f"Walk.pass ! {w.write(k + 1, w.typed(value))}")
             w.values[k + 1] = value
-        w.say("Run.pass0 ! $")
-        learnt = w.learn_fits()
+        w.rule("Walk.passed !")
+        w.learn_fits()
         w.walk(w.function.body, [])
-        w.close(len(w.types) + 1 + learnt)
 
     # ---- theorems
     def laws(self, w):

@@ -68,6 +68,7 @@ class Steps:
         self.counts, self.callees, self.variants = {}, [], set()
         self.called, self.by_callee = {}, ""  # how often each function was called; the call at hand, by its callee
         self.lines, self.loans, self.has_local = [], 0, False
+        self.opened = 0  # the brackets that the part at hand has opened
         self.matches = "['variant'" in str(function.body)
         self.context, self.values, self.arrays = [], [None] * len(self.types), {}
         self.lists = {p: (f"({p} .now)", f"is-{p} .0 .1", "refl", False) for p in self.slices}
@@ -103,9 +104,18 @@ class Steps:
     # ---- text
     def say(self, step):
         self.lines.append("        " + step)
+        self.opened += step.count("(") - step.count(")")
 
-    def close(self, n):
-        self.lines[-1] += ")" * n
+    def rule(self, step):
+        """A rule whose last argument is the rest of the walk."""
+        self.say(step + " (")
+
+    def part(self, walk):
+        """A part of the walk: the brackets that it opens are closed at its end."""
+        before, self.opened = self.opened, 0
+        walk()
+        self.lines[-1] += ")" * self.opened
+        self.opened = before
 
     # ---- the context
     def place(self, entry):
@@ -114,11 +124,19 @@ class Steps:
     def cell(self, k):
         return self.place(("cell", k))
 
-    def front(self, *entries):
+    def places(self, entries):
+        """Where the entries stand, each in what is left once those before it are taken out."""
         places = [self.place(e) for e in entries]
-        if places != list(range(len(places))):
+        return [at - sum(other < at for other in places[:i]) for i, at in enumerate(places)]
+
+    def front(self, *entries):
+        places = self.places(entries)
+        if any(places):
             self.context = list(entries) + [e for e in self.context if e not in entries]
-            self.say(f"Kit.move ! {cons(map(str, places))} $")
+            self.rule(f"Walk.move ! {cons(map(str, places))}")
+
+    def keep(self, *entries):
+        self.rule(f"Walk.keep ! {cons(map(str, self.places(entries)))}")
 
     def state(self):
         return list(self.context), list(self.values), dict(self.lists), dict(self.arrays)
@@ -126,24 +144,14 @@ class Steps:
     def restore(self, state):
         self.context, self.values, self.lists, self.arrays = list(state[0]), list(state[1]), dict(state[2]), dict(state[3])
 
-    def drop(self):
-        self.say("Kit.drop ! $")
-        self.context.pop(0)
-
     # ---- the numbers of a slice
     def learn_fits(self):
-        """Of the slices of numbers that the answers name, that each number fits; how many they are."""
-        slices = (self.answers.of(self.name, "fits") or "").split()
-        for p in slices:
+        """Of the slices of numbers that the answers name, that each number fits."""
+        for p in (self.answers.of(self.name, "fits") or "").split():
             t, at = self.param_type[p], self.param_type[p].lifetime
             assert p in self.slices and not t.mutable and t.of.kind == "int", "the numbers of a slice"
             self.front(("own", p), ("token", at))
-            own, token = f"‵ ({self.row(p)} .own {p} ({self.of_slice('v', p)} ∷ []))", f"κ{low(at)} q{low(at)}"
-            fact = f"((i : ℕ) → getD ({p} .now) i 0 < 2 ^ {t.of.bits})"
-            law = f"Numbers.numbers-fit 𝓤 H A W (named {at}) {token} w{t.of.bits} {p}"
-            self.say(f"Kit.use2 W (later (Kit.given {fact} ({own} ⊛ ‵ (flft {token})))) ({law}) $")
-            self.say(f"Kit.await ! tt $ Kit.learn ! (λ fits-{p}. Kit.split ! $")
-        return len(slices)
+            self.say(f"Numbers.learns 𝓤 H A W (named {at}) κ{low(at)} q{low(at)} w{t.of.bits} {p} ! tt (λ fits-{p}.")
 
     # ---- lifetimes
     def slice_type(self, p):
@@ -159,28 +167,34 @@ class Steps:
     def own_tokens(self):
         return [(("token", j), f"κ{low(j)}", f"q{low(j)}") for j in range(self.function.lifetimes)]
 
+    def pairs(self, tokens):
+        return cons(f"({k}, {q})" for _, k, q in tokens)
+
     def join_tokens(self, tokens, callee):
-        self.say("Walk.nothing-raw ! $")
-        self.context.insert(0, "joined")
-        for entry, _, _ in reversed(tokens):
-            self.front(entry, "joined")
-            self.say("Kit.join ! $")
-            self.context[0:2] = ["joined"]
+        self.front(*[entry for entry, _, _ in tokens])
         lifetimes, shares = nest([k for _, k, _ in tokens]), nest([q for _, _, q in tokens])
-        self.say(f"Kit.use1 W (raw (alive 𝓤 H A {callee}.signature {lifetimes} {shares})) (id⊢ 𝓤 _) $")
-        self.context[0] = "tokens"
+        self.rule(f"Walk.tokens-in W {self.pairs(tokens)} _ ! (alive 𝓤 H A {callee}.signature {lifetimes} {shares}) (id⊢ 𝓤 _)")
+        self.context[0:len(tokens)] = ["tokens"]
 
     def split_tokens(self, tokens):
-        parts = [f"‵ (flft {k} {q})" for _, k, q in tokens] + ["raw (emp 𝓤)"]
-        self.say(f"Kit.use1 W ({' ⊛ ('.join(parts)}{')' * len(tokens)}) (id⊢ 𝓤 _) $")
-        self.context.pop(0)
-        for entry, _, _ in tokens:
-            self.say("Kit.split ! $")
-            self.context[0:0] = [entry, "more"]
-            self.front("more")
-        if not tokens:
-            self.context.insert(0, "more")
-        self.drop()
+        self.front("tokens")
+        self.rule(f"Walk.tokens-out W {self.pairs(tokens)} ! (id⊢ 𝓤 _)")
+        self.context[0:1] = [entry for entry, _, _ in tokens]
+
+    # ---- products
+    def give(self, sources):
+        """A product of what a callee or a caller is given. A source is its term, the entry that it asks for, and whether that stays."""
+        asked = [entry for _, entry, _ in sources if entry is not None]
+        self.front(*asked)
+        self.rule(f"Walk.gives W {cons(term for term, _, _ in sources)} _ !")
+        self.context[0:len(asked)] = ["arguments"] + [entry for _, entry, stays in sources if stays]
+
+    def owned(self, value):
+        """What plain data owns: nothing, as `making` says."""
+        return f"({value.type.row()} .own {value.d} ({value.machine} ∷ []))"
+
+    def making(self, value):
+        return f"({value.type.makes()} {value.d} _ {value.proof})"
 
     # ---- operands and what is assigned: the step's text, and the value
     def operand(self, o, shift=0):
@@ -193,14 +207,14 @@ class Steps:
         k, way = int(o[1][1]), mir.items(o[1][2])
         value, at = self.values[k], self.cell(k) + shift
         if not way:
-            return f"(Run.load ! (Run.from ! (Run.stop !)) (Run.look ! {at} refl))", value
+            return f"(Walk.local ! {at} refl)", value
         if way[0][0] == "variant":
             return self.variant_part(value, way, at)
         assert len(way) == 1 and way[0][0] == "field", "a field of a field"
         return self.field(value, int(way[0][1]), at)
 
     def field(self, value, i, at):
-        script = f"(Run.load ! (Run.from ! (Run.fld ! refl (Run.stop !))) (Part.look-in ! {at} (Part.sub ! {i} refl (Part.whole !))))"
+        script = f"(Walk.part ! {at} refl refl refl)"
         if value.type.kind == "slice":
             assert i == 1, "the address of a slice"
             now, room, _, _ = self.lists[value.d]
@@ -291,11 +305,11 @@ class Steps:
         each = f"{{A = {a.type.denotes()}}}"
         xs, machine = f"(replicate {each} {n} {a.d})", f"(arrayVal (replicate {n} {a.machine}))"
         self.has_local = True
-        self.say(f"Kit.use0 W (‵ ({row} .own {a.d} ({a.machine} ∷ []))) ({a.type.makes()} {a.d} _ {a.proof}) $")
+        self.rule(f"Walk.use0 W ! (‵ {self.owned(a)}) {self.making(a)}")
         own = f"Array {row} {n} .own {xs} ({machine[1:-1]} ∷ [])"
-        self.say(f"Kit.use1 W (‵ ({own})) (array-repeat 𝓤 H A W {row} ({a.type.copies()}) {n} {a.d} {a.machine}) $")
+        self.rule(f"Walk.use1 W ! (‵ ({own})) (array-repeat 𝓤 H A W {row} ({a.type.copies()}) {n} {a.d} {a.machine})")
         array = f"(Array {row} {n})"
-        self.say(f"Steps.peeks ! {array} (Is {array}) (shows 𝓤 H A {array}) {xs} ({machine[1:-1]} ∷ []) (λ isa{k}.")
+        self.say(f"Walk.peek W ! {array} {xs} ({machine[1:-1]} ∷ []) (λ isa{k}.")
         self.context.insert(0, ("array", k))
         self.arrays[k] = (xs, machine, f"(length-replicate {each} {n} {a.d})", a.type, n)
         return f"(Part.rep ! {n} {self.operand(r[1])[0]})", Value(Type("array", of=a.type, count=n))
@@ -312,12 +326,11 @@ class Steps:
         is_ = f"subst (λ (xs : List {each}). Is ({row}) xs ({machine} ∷ [])) (map-id {xs}) ({owed})"
         self.say(f"let isa{k} : Is ({row}) {xs} ({machine} ∷ []) = {is_} in")
         law = f"array-makes 𝓤 H A W {type.of.row()} ({type.of.makes()}) {type.count} {xs} _ isa{k}"
-        self.say(f"Kit.use0 W (‵ ({row} .own {xs} ({machine} ∷ []))) ({law}) $")
+        self.rule(f"Walk.use0 W ! (‵ ({row} .own {xs} ({machine} ∷ []))) ({law})")
         self.context.insert(0, ("array", k))
         self.arrays[k] = (xs, machine, f"(isa{k} .1 .0 .1)", type.of, type.count)
         self.has_local = True
-        script = f"(Run.load ! (Run.from ! (Run.fld ! refl (Run.stop !))) (Part.look-in ! {self.cell(source)} (Part.sub ! {i} refl (Part.whole !))))"
-        return f"(Run.of-opd ! {script})", Value(type)
+        return f"(Run.of-opd ! (Walk.part ! {self.cell(source)} refl refl refl))", Value(type)
 
     # ---- references
     def address(self, r, dest):
@@ -397,56 +410,56 @@ class Steps:
         if code == "return":
             return self.returns(rest)
         if code == "skip":
-            self.say(f"{self.by('skips', rest)} $")
+            self.rule(self.by("skips", rest))
             return self.go_on(rest)
         kind = code[0]
         if kind == "block":
-            self.say("Walk.blocks-in ! $")
+            self.rule("Walk.blocks-in !")
             return self.walk(code[1], [None] + rest)
         if kind == "exit":
             proof, then, turn = self.leaves(int(code[1]), rest)
-            self.say(f"Walk.jumps-{'to' if turn else 'by'} ! {proof} $")
+            self.rule(f"Walk.jumps-{'to' if turn else 'by'} ! {proof}")
             return self.go_on(then)
         if kind == "seq":
             first, then = code[1], code[2]
             if first[0] == "assign":
-                brackets = self.assign(first, None)
-                self.walk(then, rest)
-                return self.close(brackets)
+                self.assign(first, None)
+                return self.walk(then, rest)
             if first[0] == "call":
                 return self.call(first, None, lambda: self.walk(then, rest))
-            self.say("Walk.first-then ! $")
+            self.rule("Walk.first-then !")
             return self.walk(first, [then] + rest)
         if kind == "assign":
-            brackets = self.assign(code, rest)
-            self.go_on(rest)
-            return self.close(brackets)
+            self.assign(code, rest)
+            return self.go_on(rest)
         if kind == "call":
             return self.call(code, rest, lambda: self.go_on(rest))
         steps = {"loop": self.loop, "if": self.branch, "switch": self.switch}
         assert kind in steps, f"the statement {kind}"
         return steps[kind](code, rest)
 
+    def write(self, k, typed, equal=None):
+        """A local's cell is written; equal is that the value is equal to the one that is to stand there."""
+        law = "store" if self.values[k] is not None else "init"
+        if equal is None:
+            return f"(Run.{law} ! {self.cell(k)} refl ({typed}))"
+        return f"(Walk.{law}-as ! {self.cell(k)} refl ({typed}) ({equal}))"
+
     def assign(self, code, rest):
-        """rest is what is to come where the assignment is the last of its sequence, else None. Answers how many brackets it opened."""
+        """rest is what is to come where the assignment is the last of its sequence, else None."""
         k = int(code[1][1])
-        brackets = 1 if code[2][0] == "repeat" else 0
         assert not mir.items(code[1][2]), "a store to a field"
         script, value = self.right_side(code[2], k)
-        write = f"(Run.{'store' if self.values[k] is not None else 'init'} ! {self.cell(k)} refl ({self.typed(value, k)}))"
-        self.say(f"{'Run.assigns !' if rest is None else self.by('assigns', rest)} {script} (Run.from ! (Run.stop !)) {write} $")
-        self.values[k] = value
+        equal = None
         if value.lends:
             value.machine = f"(sliceVal ({value.lends} .ptr) (length {self.lists[value.lends][0]}))"
         if value.array is not None and value.type.kind == "slice":
-            xs, _, long, of, _ = self.arrays[value.array]
+            xs, _, long, _, _ = self.arrays[value.array]
             at = low(value.array)
             value.machine = f"(sliceVal (l{at}, 0) (length {xs}))"
-            mutable = mir.items(self.function.locals[k][2])[0][2]
-            reference = f"(sliceTy (tyRef erased {mutable} (pointee ({of.row()} .written))))"
-            holds = f"‵ (fat fullShare {reference} l{low(k)} 0 (sliceVal (l{at}, 0) m))"
-            self.say(f"Kit.rewrite ! {self.cell(k)} (λ (m : ℕ). {holds}) (sym {long}) refl $")
-        return brackets
+            equal = f"ap (λ (m : ℕ). sliceVal (l{at}, 0) m) (sym {long})"
+        self.rule(f"{'Walk.sets !' if rest is None else self.by('assigns', rest)} {script} {self.write(k, self.typed(value, k), equal)}")
+        self.values[k] = value
 
     def branch(self, code, rest):
         script, value = self.operand(code[1])
@@ -455,34 +468,20 @@ class Steps:
         state = self.state()
         for arm, outcome in ((code[2], "true"), (code[3], "false")):
             self.restore(state)
-            self.say(f"(λ h{test[1:]}. let {test} : {value.d} ≡ {outcome} = Walk.is-{outcome} _ h{test[1:]} in")
-            self.walk(arm, rest)
-            self.close(1)
+            begins = f"(λ h{test[1:]}. let {test} : {value.d} ≡ {outcome} = Walk.is-{outcome} _ h{test[1:]} in"
+            self.part(lambda: (self.say(begins), self.walk(arm, rest)))
 
     def switch(self, code, rest):
         script, value = self.operand(code[1])
-        assert value.type.kind == "int", "a match"
+        assert value.type.kind == "int" and value.d.isdigit(), "a match on a number"
         arms, arm = [], code[2]
         while arm[0] == "arm":
             arms.append((mir.items(arm[1]), arm[2]))
             arm = arm[3]
-        if value.d.isdigit():
-            hit = [then for keys, then in arms if value.d in keys]
-            self.say(f"Walk.switch-on ! {script} tt $")
-            return self.walk(hit[0] if hit else arm[1], rest)
-        assert arm[0] == "default", "a match with no default"
-        test = self.key("t")
-        self.say(f"Run.switches ! {script} (")
-        state = self.state()
-        for _, then in arms:
-            self.restore(state)
-            self.say(f"(λ {test}.")
-            self.walk(then, rest)
-            self.lines[-1] += "), ("
-        self.restore(state)
-        self.say(f"λ {test}.")
-        self.walk(arm[1], rest)
-        self.close(1 + len(arms))
+        hit = [then for keys, then in arms if value.d in keys]
+        assert hit or arm[0] == "default", "a match with no default"
+        self.rule(f"Walk.switch-on ! {script} tt")
+        self.walk(hit[0] if hit else arm[1], rest)
 
     # ---- loops: the state is each local that has a value before the loop and is assigned in it, and each slice that is lent as `&mut` in it
     def lent_in(self, code):
@@ -540,11 +539,12 @@ class Steps:
             self.lists[p] = (f"{p}-now", f"room-{p}-now", f"kept-{p}", True)
         turn.context = list(self.context)
         self.say(f"let I{number} : D{number} → List (Kit.Item 𝓤) = λ {state}. {lets}({self.items()}) in")
-        self.say(f"Walk.loops-by ! 𝓣 P{number} μ{number} I{number} (λ {state} h{number} X{number} next{number}. {lets}")
         facts_of = f"h{number}"
-        self.say("".join(f"let {name} : {type} = {facts_of if len(known) == 1 else f'{facts_of} .{i}'} in " for i, (name, type) in enumerate(known)))
-        self.walk(code[1], [turn] + rest)
-        self.lines[-1] += f") {begins} ({', '.join(facts + [f'({start})'])})"
+        heads = [f"let {name} : {type} = {facts_of if len(known) == 1 else f'{facts_of} .{i}'} in " for i, (name, type) in enumerate(known)]
+        self.say(f"Walk.loops-by ! 𝓣 P{number} μ{number} I{number}")
+        begin = f"(λ {state} h{number} X{number} next{number}. {lets}"
+        self.part(lambda: (self.say(begin), self.say("".join(heads)), self.walk(code[1], [turn] + rest)))
+        self.lines[-1] += f" {begins} ({', '.join(facts + [f'({start})'])})"
 
     def loop_data(self, turn):
         return f"({', '.join([self.values[k].d for k in turn.locals] + [self.lists[p][0] for p in turn.slices] + ['tt'])})"
@@ -584,7 +584,7 @@ class Steps:
         self.say(f"next{turn.number} {self.loop_data(turn)} ({facts}) ({self.answer('fall' + key[5:])})")
 
     def forget(self, k):
-        self.say(f"Run.forget ! {self.cell(k)} refl $")
+        self.rule(f"Walk.forget ! {self.cell(k)} refl")
         self.values[k] = None
 
     # ---- the context written out
@@ -657,44 +657,35 @@ class Steps:
                 through = f"(Walk.through-block 𝓤 H E _ {post} {through})"
             else:
                 through = f"(Walk.through 𝓤 H {self.C} {self.Λ} E _ _ {post} {through})"
-        self.say(f"Run.returns-within ! {post} {through} (Run.look ! {self.cell(0)} refl) $")
+        self.rule(f"Walk.returns-by ! {post} {through} (Run.look ! {self.cell(0)} refl)")
         locals = range(len(self.types))
         self.front(*[("cell", k) for k in locals], "ends")
         self.context = self.context[len(self.types) + 1:]
         cells = [f"Walk.{'bare' if self.values[k] is None else 'full'} {self.type_term(k)} l{low(k)}" for k in locals]
         cells = [cell if self.values[k] is None else f"{cell} {self.machine(k)}" for k, cell in zip(locals, cells)]
-        self.say(f"Walk.frees-gathered ! {cons(cells)} Fd ed ({self.items()}) $")
-        self.say(f"Kit.use0 W (‵ ({value.type.row()} .own {value.d} ({value.machine} ∷ []))) ({value.type.makes()} {value.d} _ {value.proof}) $")
-        self.context.insert(0, "result")
+        self.rule(f"Walk.frees-gathered ! {cons(cells)} Fd ed ({self.items()})")
         if self.mutable:
-            self.end_slices()
+            self.give([self.ended(p) for p in self.params])
         self.join_tokens(self.own_tokens(), self.alias)
+        self.rule(f"Walk.use0 W ! (‵ {self.owned(value)}) {self.making(value)}")
+        self.context.insert(0, "result")
         said = f"{self.alias}.ended ({self.alias}.clauses 𝓤 H A mem run)"
         if not self.mutable:
-            self.say(f"Kit.keep ! ({self.place('tokens')} ∷ {self.place('result')} ∷ []) $")
+            self.keep("tokens", "result")
             none = nest(["tt"] * len(self.params))
             self.say(f"Kit.by ! (Walk.leave 𝓤 H A W {said} {bound} {value.machine} {value.d} {none} ({self.ensured(key)}))")
             return
-        self.say(f"Kit.keep ! ({self.place('tokens')} ∷ {self.place('arguments')} ∷ {self.place('result')} ∷ []) $")
+        self.keep("tokens", "arguments", "result")
         lasts = nest([self.lists[p][0] if p in self.mutable else "tt" for p in self.params])
         kept = nest([self.lists[p][2] if p in self.mutable else "tt" for p in self.params])
         leaves = f"Walk.leave-by 𝓤 H A W {said} stayed-{dash(self.name)} {bound}"
         self.say(f"Kit.by ! ({leaves} {value.machine} {value.d} {lasts} {kept} ({self.ensured(key)}))")
 
-    def end_slices(self):
-        for p in self.mutable:
-            t, row = self.param_type[p], self.param_type[p].of.row()
-            self.front(("own", p))
-            ended = f"Walk.ended-slice 𝓤 H A W (named {t.lifetime}) κ{low(t.lifetime)} {row} {p} {self.lists[p][0]} _"
-            self.say(f"Kit.use1 W (‵ (finally {row} ({p} .name) {self.lists[p][0]})) ({ended}) $")
-            self.context[0] = ("final", p)
-        self.say("Walk.nothing ! $")
-        self.context.insert(0, "arguments")
-        for p in reversed(self.params):
-            if p in self.mutable:
-                self.front(("final", p), "arguments")
-            else:
-                self.say("Walk.nothing ! $")
-                self.context.insert(0, "new")
-            self.say("Kit.fjoin ! $")
-            self.context[0:2] = ["arguments"]
+    def ended(self, p):
+        """What is had of a parameter at the end, as a source."""
+        if p not in self.mutable:
+            return "Walk.nothing", None, False
+        t, row, now = self.param_type[p], self.param_type[p].of.row(), self.lists[p][0]
+        own = self.item(("own", p))[2:]
+        law = f"Walk.ended-slice 𝓤 H A W (named {t.lifetime}) κ{low(t.lifetime)} {row} {p} {now} _"
+        return f"Walk.turned {own} (finally {row} ({p} .name) {now}) ({law})", ("own", p), False

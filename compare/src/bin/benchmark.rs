@@ -22,6 +22,7 @@ fn main() {
     print("1,000,000 events: passes of an iteration", &passes(), None);
     print("1,000,000 events: calls in an iteration", &calls(), None);
     print("900 order lines through name templates", &orders(), None);
+    print("100,000 expressions with names and brackets", &expressions(), None);
     // Table 2.4.6 of the source: 0, 3 and 6 code lines, 1 to 100 macros.
     for codes in [0, 3, 6] {
         for macros in [1, 10, 50, 100] {
@@ -60,6 +61,17 @@ fn orders() -> String {
         })
         .collect();
     format!("{FLAG}{section}{lines}")
+}
+
+/// Ten expressions in a line that is built 10,000 times and dropped; all values
+/// are of 32 bits.
+fn expressions() -> String {
+    let section = "SET !=!$\n!F3\n$\n\
+        GO !,!,!,!,!$\n100!F7\n100!F7\n!14 !24 !34 !44 !54 !14 !24 !34 !44 !54!F10\n!F8\n!F8\n$$\n";
+    let names = "SET views=125000\nSET rate=17\nSET styles=4\nSET discount=-1500\n";
+    let line = "GO views*rate/100+discount,(styles+2)*(rate-3)*12/7,-(views-1000)/(styles*25)+rate,\
+        ((12+3)*4-(7-2)*6)/(1+1),1024*768/16-views/(rate+8)\n";
+    format!("{FLAG}{section}{names}{line}")
 }
 
 /// As in the source's table: so many macros with short heads and so many code

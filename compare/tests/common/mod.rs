@@ -3,6 +3,9 @@
 //! `STAGE2_COUNT` is how many texts of each size are tried, `STAGE2_SEED`
 //! the seed.
 
+// No test file uses all of it.
+#![allow(dead_code)]
+
 use std::collections::BTreeMap;
 use std::env;
 
@@ -24,14 +27,28 @@ fn setting(name: &str, usual: u64) -> u64 {
     }
 }
 
-/// Calls `test` with random texts of a size, and prints the seed.
-pub fn for_texts(size: Size, mut test: impl FnMut(&mut Generator, &[u8])) {
+/// Calls `test` with random texts of a size.
+pub fn for_texts(size: Size, test: impl FnMut(&mut Generator, &[u8])) {
+    for_made(&format!("{size:?}"), |generator| generator.text(size), test);
+}
+
+/// Calls `test` with random texts about values.
+pub fn for_value_texts(test: impl FnMut(&mut Generator, &[u8])) {
+    for_made("values", Generator::value_text, test);
+}
+
+/// Calls `test` with the texts that `make` makes, and prints the seed.
+fn for_made(
+    kind: &str,
+    make: impl Fn(&mut Generator) -> Vec<u8>,
+    mut test: impl FnMut(&mut Generator, &[u8]),
+) {
     let (seed, count) = (setting("STAGE2_SEED", 20_261_115), count());
-    println!("STAGE2_SEED={seed} STAGE2_COUNT={count} {size:?}");
+    println!("STAGE2_SEED={seed} STAGE2_COUNT={count} {kind}");
     let mut generator = Generator::new(seed);
     let mut passed_over = 0;
     for _ in 0..count {
-        let text = generator.text(size);
+        let text = make(&mut generator);
         if search_takes_long(&text) {
             passed_over += 1;
         } else {

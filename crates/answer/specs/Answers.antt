@@ -27,7 +27,7 @@ pub data Turn : Type 0 where
   Back : (n : ℕ) → Turn
   Halts : (k : ℕ) → Turn
 
--- the turn that two numbers stand for: which one it is, and what it counts
+-- the turn that two numbers stand for: which one it is, and what it counts. The answers below have 0 to 3; any number above is read as 3
 abbrev pub turnOf : (kind count : ℕ) → Turn
 turnOf zero n = Continues
 turnOf (suc zero) n = Offers n

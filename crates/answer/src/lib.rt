@@ -14,7 +14,7 @@ pub const OFFERS: usize = 1;
 // The call is left, or the line that was offered is done with; `count` lines are skipped in the caller, or of the input.
 pub const BACK: usize = 2;
 
-// The run ends with the number `count`.
+// The run ends with the number `count`. The functions below make no greater kind, and one would be read as this.
 pub const HALTS: usize = 3;
 
 // The call means something where it goes on, at once or after an offer.

@@ -1,4 +1,4 @@
--- The laws of depth_past, and of the loop of next_atom.
+-- The laws of depth_past, and of the loop of next_atom; and that atoms go by the brackets alone.
 use mathlib.Core.Path.{_≡_, refl, sym, _∙_, ap, ap₂}
 use mathlib.Core.Bool.{Bool, true, false, _&&_}
 use mathlib.Core.List.{[], _∷_, _++_, append-assoc}
@@ -15,7 +15,7 @@ use Rattle.model.specs.Text.{Bytes, part}
 use Rattle.model.specs.Reading.{group, atom}
 use Rattle.model.proofs.Text.{part-more}
 use Rattle.model.proofs.Chosen.{Tested, alike, apart, tested}
-use Rattle.atom.specs.Atoms.{depthPast, AtomAt}
+use Rattle.atom.specs.Atoms.{brackets, depthPast, AtomAt}
 
 -- the bytes p in front of what is found
 abbrev pub after : Bytes → Option (Bytes × Bytes) → Option (Bytes × Bytes)
@@ -202,4 +202,30 @@ module _ (m : Marks) (line : Bytes) (at : ℕ) where
     found = λ _. h .same ∙ ap (λ (k : ℕ). closing m k (part line at i) (drop i line)) e;
     ahead = λ _. h .low;
     within = h .high;
+  }
+
+-- ---- the brackets alone
+
+module _ (m : Marks) where
+  group-brackets : (s : Bytes) (d : ℕ) → group (brackets (m .left) (m .right)) d s ≡ group m d s
+  unfolding group
+  group-brackets [] d = refl
+  group-brackets (b ∷ s) d =
+      let d′ : ℕ = elim (eqb b (m .left)) as (λ b. ℕ) [ true ↦ suc d | false ↦ elim (eqb b (m .right)) as (λ b. ℕ) [ true ↦ d - 1 | false ↦ d ] ] in
+      ap (λ (o : Option (Bytes × Bytes)). elim (eqb b (m .right) && eqb d 0) as (λ b. Option (Bytes × Bytes)) [ true ↦ some (b ∷ [], s) | false ↦ after (b ∷ []) o ]) (group-brackets s d′)
+
+  pub atom-brackets : (s : Bytes) → atom (brackets (m .left) (m .right)) s ≡ atom m s
+  unfolding atom
+  atom-brackets [] = refl
+  atom-brackets (b ∷ s) =
+      ap (λ (o : Option (Bytes × Bytes)). elim (eqb b (m .right)) as (λ b. Option (Bytes × Bytes)) [ true ↦ none | false ↦ elim (eqb b (m .left)) as (λ b. Option (Bytes × Bytes)) [ true ↦ after (b ∷ []) o | false ↦ some (b ∷ [], s) ] ])
+      (group-brackets s 0)
+
+  -- what is found by them is found by the marks
+  pub atom-by-brackets : {line : Bytes} {at r : ℕ} → AtomAt (brackets (m .left) (m .right)) line at r → AtomAt m line at r
+  atom-by-brackets {line} {at} a = record {
+    nowhere = λ z. sym (atom-brackets (drop at line)) ∙ a .nowhere z;
+    found = λ lt. sym (atom-brackets (drop at line)) ∙ a .found lt;
+    ahead = a .ahead;
+    within = a .within;
   }

@@ -9,6 +9,10 @@ use Rattle.model.specs.declared.Marks.{Marks}
 use Rattle.model.specs.Text.{Bytes, part}
 use Rattle.model.specs.Reading.{atom}
 
+-- marks with these brackets; no atom asks for the others
+abbrev pub brackets : ℕ → ℕ → Marks
+brackets l r = record { source = 0; placeholder = 0; code = 0; escape = 0; blank = 0; left = l; plus = 0; minus = 0; times = 0; divide = 0; right = r }
+
 -- how many brackets are open past the byte b, where d were
 unfoldable pub depthPast : Marks → ℕ → ℕ → ℕ
 depthPast m b d = elim (eqb b (m .left)) [ true ↦ suc d | false ↦ elim (eqb b (m .right)) [ true ↦ d - 1 | false ↦ d ] ]

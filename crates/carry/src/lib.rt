@@ -34,7 +34,9 @@ ghost use Rattle.answer.specs.Kept.{Open};
 ghost use Rattle.carry.specs.Carries.{ReadyToFinish, Finishes, Carries, Steps};
 ghost use Rattle.model.specs.Limits.{lineMost, nestingMost};
 
-// What is done at the end of the code line that ends before place `to`. The call's next code line is the one after it.
+// What is done at the end of the code line that ends before place `to`. The call's next code line is the one after it. skip_by is
+// handed copies, and its answer has a name of its own: the compiler keeps it apart, and what it is handed by address would be written
+// to memory and read again at every code line.
 fn finish_code(
     m: Marks,
     text: &[u8],
@@ -75,7 +77,12 @@ fn finish_code(
         Ending::Write(ch) => write_to(ch, call, line, n, output, s),
         Ending::Layout(ch) => write_layout_line(m, text, ch, call, nums, params, output, s),
         Ending::Save => save(call, nums, params, memory, s),
-        Ending::Skip => skip_by(m, text, call, nums, params, 1, memory, s),
+        Ending::Skip => {
+            let c = call;
+            let t = s;
+            let r = skip_by(m, text, c, nums, params, 1, memory, t);
+            r
+        }
         Ending::SkipText(equal) => skip_text(m, text, equal, call, nums, params, memory, s),
         Ending::SkipValue(how) => skip_value(m, text, how, call, nums, params, memory, s),
         Ending::Repeat => repeat(m, text, call, nums, line, n, memory, s),

@@ -5,28 +5,19 @@ use mathlib.Core.Option.{Option, none, some}
 use mathlib.Core.List.{[], _∷_}
 use Prim.Native.Nat.{ℕ, suc, _+_, _-_, _*_, _≤_, _<_}
 use native.Mathlib.Omega.{arith}
-use borrow.Author.Tests.{leb-true, le-leb, lt-leb, eqb-true, ne-eqb}
+use borrow.Author.Tests.{le-leb, lt-leb, eqb-true, ne-eqb}
 use lib.Dec.{eqb, leb}
 use lib.ListN.{length, getD, take, drop, drop-of-length-le, length-drop, length-append}
 use lib.Seq.{drop-cons, drop-drop, take-at, drop-at}
 use Rattle.model.specs.Text.{Bytes, part}
 use Rattle.model.specs.Utf8.{Character, isTail, isSecond, ofTwo, ofThree, ofFour, character, characterFault, encode}
-use Rattle.model.proofs.Choices.{both, split, and-left, and-right}
-use Rattle.model.proofs.Utf8.{decoded-is}
+use Rattle.model.proofs.Choices.{both, split}
+use Rattle.model.proofs.Utf8.{between, decoded-is}
 use Rattle.character.specs.declared.Decoded.{Decoded}
 use Rattle.character.specs.declared.Decoded.the-variants.{One, Malformed, Nothing}
 use Rattle.character.specs.Decoding.{readOf, decoded, decodedFault, bytesOf, CountsBytes, JoinsTwo, JoinsThree, JoinsFour, InBounds, ReadsCharacter}
 
 -- ---- the tests
-
--- a byte that is tested at both ends
-between : (l h b : ℕ) → (leb l b && leb b h) ≡ true → (l ≤ b) × (b ≤ h)
-between l h b e = (leb-true l b (and-left _ _ e), leb-true b h (and-right (leb l b) (leb b h) e))
-
--- a byte after the first is 80 to BF
-pub tail-is : (b : ℕ) → isTail b ≡ true → (128 ≤ b) × (b ≤ 191)
-unfolding isTail
-tail-is b e = between 128 191 b e
 
 -- one after the first of three or four is such a byte
 pub second-tail : (a b : ℕ) → isSecond a b ≡ true → isTail b ≡ true
@@ -71,17 +62,6 @@ module _ {a : ℕ} where
   pub counts-none : (leb 194 a && leb a 223) ≡ false → (leb 224 a && leb a 239) ≡ false → (leb 240 a && leb a 244) ≡ false → CountsBytes a 0
   unfolding bytesOf
   counts-none p q r = record { is = rw (p, q, r, bytesOf) refl; two = omega arith; three = omega arith; four = omega arith }
-
--- from how many bytes it begins, a first byte is high enough for the form
-module _ {a n : ℕ} (k : CountsBytes a n) where
-  pub first-two : n ≡ 2 → 192 ≤ a
-  first-two = k .two
-
-  pub first-three : n ≡ 3 → 224 ≤ a
-  first-three = k .three
-
-  pub first-four : n ≡ 4 → 240 ≤ a
-  first-four = k .four
 
 -- ---- the form of a character, by that number
 
@@ -282,8 +262,8 @@ found (x ∷ t) code len e = by (character (x ∷ t)) refl e
         let back : c .rest ≡ drop len (x ∷ t) = sym (ap (drop len) (h .joined) ∙ drop-at (c .bytes) (c .rest) len n) in
         λ i. some (record { code = v i; bytes = front i; rest = back i })
 
--- only where there is no character the number is 21
-lost : (o : Option Character) → 21 ≡ characterFault o → o ≡ none
+-- only where there is no character the number is that of none
+lost : (o : Option Character) → characterFault none ≡ characterFault o → o ≡ none
 lost none e = refl
 lost (some c) e = absurd (omega arith)
 

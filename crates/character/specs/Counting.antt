@@ -22,7 +22,7 @@ countedFrom n v (some us) = record { ok = true; count = n + length us; code = la
 -- document 01's number for an answer: 21 where a character is malformed
 abbrev pub countedFault : Bool → ℕ
 countedFault true = 0
-countedFault false = 21
+countedFault false = pointsFault none
 
 -- r counts the characters of s
 pub record CountsCharacters (s : Bytes) (r : Counted) : Type 0 where

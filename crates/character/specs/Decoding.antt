@@ -24,7 +24,7 @@ decoded (a ∷ s) = readOf (character (a ∷ s))
 -- document 01's number for an answer: 21 for malformed bytes
 abbrev pub decodedFault : Decoded → ℕ
 decodedFault (One code len) = 0
-decodedFault Malformed = 21
+decodedFault Malformed = characterFault none
 decodedFault Nothing = 0
 
 -- how many bytes a character has whose first byte is a, above 127; 0 where none begins so

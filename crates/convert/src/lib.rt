@@ -3,6 +3,7 @@
 use call::Appended;
 use character::count_characters;
 use model::Conversion;
+use model::Integer;
 use model::Marks;
 use number::Valued;
 use pass::NO_DELIMITER;
@@ -182,7 +183,7 @@ fn add_delimiter(delimiter: usize, line: &mut [u8], n: usize) -> Appended
 }
 
 // A value in decimal.
-fn add_signed(m: Marks, v: i32, line: &mut [u8], n: usize) -> Appended
+fn add_signed(m: Marks, v: Integer, line: &mut [u8], n: usize) -> Appended
     requires { ⌜ HasBuilt (now line) n ⌝ }
     ensures { λ r. ⌜ Appends (now (line .entry)) n (written m v) (now (line .exit)) r ⌝ }
 {

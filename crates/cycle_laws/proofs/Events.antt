@@ -23,6 +23,10 @@ use Rattle.matching.specs.Matches.{opened}
 use Rattle.answer.specs.Answers.{endsWith, comesTo, resultAfter}
 use Rattle.carry.proofs.Events.{counted-is}
 
+-- an event is counted, and n calls are opened so far
+abbrev pub eventWith : ℕ → State → State
+eventWith n s = record { at = s .at; line = s .line; calls = n; symbols = s .symbols; index = s .index; written = s .written; events = s .events + 1; fuel = s .fuel - 1 }
+
 module _ (room : ℕ) (m : Marks) (text : Bytes) (t : Loaded) (s : State) (o w : Bytes) where
   -- no fuel is left where a line is to be offered
   pub offer-spent : s .fuel ≡ 0 → (l : Bytes) (fs : List Frame) → comesTo (s .fuel) room t (running (stateOf text (some l) fs s o w)) ≡ resultAfter (endsWith 20 s) o w
@@ -68,4 +72,4 @@ module _ (room : ℕ) (m : Marks) (text : Bytes) (t : Loaded) (s : State) (o w :
       unfolding call opened
       enters b = opens-call ∙ ap (λ (x : Next). comesTo (s .fuel - 1) room t x)
           (when-false _ _ b
-          ∙ ap (λ (n : ℕ). running (stateOf text none (opened n (getD (t .macros) (r .which) noMacro) (r .pieces) ∷ fs) (record { at = s .at; line = s .line; calls = n; symbols = s .symbols; index = s .index; written = s .written; events = s .events + 1; fuel = s .fuel - 1 }) o w)) (sym (add-one (s .calls))))
+          ∙ ap (λ (n : ℕ). running (stateOf text none (opened n (getD (t .macros) (r .which) noMacro) (r .pieces) ∷ fs) (eventWith n s) o w)) (sym (add-one (s .calls))))

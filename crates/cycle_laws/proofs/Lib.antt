@@ -1,3 +1,3 @@
 -- Laws of the cycle.
 mod Events
-pub mod Turn
+pub mod Ways

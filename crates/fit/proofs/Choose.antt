@@ -5,7 +5,7 @@ use mathlib.Core.List.{List, [], _∷_, _++_, map}
 use mathlib.Core.Option.{Option, none, some}
 use Prim.Native.Nat.{ℕ, zero, suc, _+_, _≤_, _<_}
 use native.Mathlib.Omega.{arith}
-use lib.ListN.{length, getD, take, length-map}
+use lib.ListN.{length, getD, take, drop, length-map}
 use borrow.Author.Tests.{ne-eqb}
 use Rattle.model.specs.declared.Marks.{Marks}
 use Rattle.model.specs.Text.{Bytes}
@@ -15,6 +15,7 @@ use Rattle.model.specs.Parts.{Elem, lit, hole, stop, ReadingPart, byte, piece, 
 use Rattle.model.specs.Results.{nine}
 use Rattle.model.proofs.Choices.{false-not-true}
 use Rattle.model.proofs.Parts.{no-parts, parts-chosen}
+use Rattle.atom.specs.Atoms.{brackets}
 use Rattle.nodes.specs.declared.Node.{Node}
 use Rattle.nodes.specs.Rows.{noNode, elem, templateOf, kid, holey, height, holes, Tree, Stands}
 use Rattle.nodes.specs.Templates.{walk, Represents}
@@ -25,7 +26,7 @@ use Rattle.fit.specs.Outcome.{Told, Searched, SearchedIn, Asks}
 use Rattle.fit.specs.Chosen.{TreeOf, Chosen, Chooses, noChoice, choiceOf}
 use Rattle.fit.specs.declared.Choice.{Choice}
 use Rattle.fit.specs.declared.Outcome.{Outcome}
-use Rattle.fit.proofs.Laws.{Is, sound, found-first, found-none}
+use Rattle.fit.proofs.Laws.{Is, sound, found-first, found-none, search-brackets}
 use Rattle.fit.proofs.Steps.{told-none, told-some}
 use Rattle.fit.proofs.Pieces.{zero-at, lie-within, few-pieces, Stand, stand}
 
@@ -120,6 +121,19 @@ module _ (m : Marks) (rows : List Node) (tree : Tree rows) (line : Bytes) (o : O
         lie-within line (f .rest) (f .parts) (holes rows 0) (o .starts) (o .lens) (t .3) (t .4) (few-pieces rows tree (f .parts) 0 j (h .leads)) x
 
 -- ---- in a row at whose front the tree stands
+
+-- what is searched by the brackets alone is searched by the marks
+pub searched-by-brackets : (m : Marks) {row : List Node} {line : Bytes} {node at : ℕ} {o : Outcome} → SearchedIn (brackets (m .left) (m .right)) row line node at o → SearchedIn m row line node at o
+searched-by-brackets m {row} {line} {node} {at} {o} done = record {
+  each = λ made s lt.
+      let rows = take made row in
+      let d = done .each made s lt in
+      record {
+        told = λ n l. subst (λ (F : ℕ → Bytes → Option Found). Told (holes rows node) at (F node (drop at line)) o) (search-brackets m (kid rows) (holey rows) n) (d .told n l);
+        short = d .short;
+        there = d .there;
+      };
+}
 
 module _ {m : Marks} {row : List Node} {line : Bytes} {o : Outcome} (done : SearchedIn m row line 0 0 o) where
   -- where nothing is found, the line is no call

@@ -1,6 +1,6 @@
 -- The law of the search: what it finds is a reading, the first of all, and it finds something where there is one.
--- The laws: rest-none, sound, complete; at the end found-first, found-none.
-use mathlib.Core.Path.{_≡_, refl, sym, _∙_, ap, subst}
+-- The laws: rest-none, sound, complete, found-first, found-none; at the end search-brackets.
+use mathlib.Core.Path.{_≡_, refl, sym, _∙_, ap, subst, fun-ext}
 use mathlib.Core.Bool.{Bool, true, false}
 use mathlib.Core.List.{List, [], _∷_, _++_, append-assoc}
 use mathlib.Core.Logic.{_⊎_, inl, inr, ⊎-elim}
@@ -14,6 +14,8 @@ use Rattle.model.specs.Reading.{atom}
 use Rattle.model.specs.Fitting.{Balanced, empty}
 use Rattle.model.specs.Parts.{Elem, lit, hole, stop, ReadingPart, byte, piece, text, Good, elements, Earlier, end-piece, byte-piece, less-piece, later}
 use Rattle.model.proofs.Choices.{false-not-true}
+use Rattle.atom.specs.Atoms.{brackets}
+use Rattle.atom.proofs.Atoms.{atom-brackets}
 use Rattle.atom.proofs.Rows.{none-some, Atom, atom-sound, Headed, atom-complete}
 use Rattle.nodes.specs.Templates.{walk}
 use Rattle.nodes.proofs.Templates.{onward-inv}
@@ -322,3 +324,17 @@ module _ (m : Marks) (differ : ¬ (m .left ≡ m .right)) (kid : ℕ → Elem �
   pub found-none : (n i : ℕ) (s : Bytes) → rank i + length s < n → search m kid holey n i s ≡ none
       → (o : List ReadingPart) (j : ℕ) → text o ≡ s → Good m o → ¬ (walk kid i (elements o) ≡ suc j)
   found-none n i s lt e o j x g w = none-some (sym e ∙ finds n i s o j lt x g w .1)
+
+-- ---- the search goes by the brackets alone
+
+module _ (m : Marks) (kid : ℕ → Elem → ℕ) (holey : ℕ → Bool) where
+  atom-by : (F : Bytes → Option Found) (t : Bool) (s : Bytes) → byAtom (brackets (m .left) (m .right)) F t s ≡ byAtom m F t s
+  atom-by F true s = ap (pastAtom F) (atom-brackets m s)
+  atom-by F false s = refl
+
+  pub search-brackets : (n : ℕ) → search (brackets (m .left) (m .right)) kid holey n ≡ search m kid holey n
+  unfolding search
+  search-brackets zero = fun-ext (λ i. fun-ext (λ s. refl))
+  search-brackets (suc n) = fun-ext (λ i. fun-ext (λ s.
+      ap (λ (F : ℕ → Bytes → Option Found). orElse (byByte kid F i s) (orElse (byPiece kid F i s) (byAtom (brackets (m .left) (m .right)) (F i) (holey i) s))) (search-brackets n)
+      ∙ ap (λ (o : Option Found). orElse (byByte kid (search m kid holey n) i s) (orElse (byPiece kid (search m kid holey n) i s) o)) (atom-by (search m kid holey n i) (holey i) s)))

@@ -4,7 +4,7 @@
 ghost use mathlib.Core.Path.{_≡_};
 ghost use Prim.Native.Nat.{_+_, _≤_, _<_, _^_};
 ghost use lib.ListN.{length, take};
-ghost use Rattle.atom.specs.Atoms.{AtomAt};
+ghost use Rattle.atom.specs.Atoms.{brackets, AtomAt};
 ghost use Rattle.nodes.specs.Rows.{code};
 ghost use Rattle.fit.specs.Outcome.{blank, storePiece, passAtom, elementAt, Asks, SearchedIn, ByteSearched, PieceSearched, AtomSearched};
 ghost use Rattle.fit.specs.Chosen.{noChoice, choiceOf, Chooses};
@@ -68,34 +68,51 @@ fn element_at(line: &[u8], end: usize, at: usize) -> u16
 }
 
 // Past the atom at a place of the first `end` bytes of a line, or 0 where there is none.
-fn find_atom(m: Marks, line: &[u8], end: usize, at: usize) -> usize
+fn find_atom(left: u8, right: u8, line: &[u8], end: usize, at: usize) -> usize
     requires { ⌜ (at ≤ end) × (end ≤ length (now line)) ⌝ }
-    ensures { λ r. ⌜ AtomAt m (take end (now (line .entry))) at r ⌝ }
+    ensures { λ r. ⌜ AtomAt (brackets left right) (take end (now (line .entry))) at r ⌝ }
 {
-    atom::next_atom(&line[0..end], at, m)
+    atom::next_atom(&line[0..end], at, left, right)
 }
 
 // The first reading from the node and the place `at` on, in the first `end` bytes of the line: by the next byte or the template's
 // end, else by a placeholder, else by an atom more. The node's height and what is left of the line fall from search to search.
-fn search(m: Marks, nodes: &[Node], line: &[u8], end: usize, node: usize, at: usize) -> Outcome
+// Of the marks the brackets alone go along: a copy of all at each search costs a tenth of the time.
+fn search(
+    left: u8,
+    right: u8,
+    nodes: &[Node],
+    line: &[u8],
+    end: usize,
+    node: usize,
+    at: usize,
+) -> Outcome
     requires { ⌜ Asks (now nodes) (now line) end node at ⌝ }
-    ensures { λ r. ⌜ SearchedIn m (now (nodes .entry)) (take end (now (line .entry))) node at r ⌝ }
+    ensures { λ r. ⌜ SearchedIn (brackets left right) (now (nodes .entry)) (take end (now (line .entry))) node at r ⌝ }
 {
-    let byte = search_byte(m, nodes, line, end, node, at);
+    let byte = search_byte(left, right, nodes, line, end, node, at);
     if byte.node != 0 {
         return byte;
     }
-    let piece = search_piece(m, nodes, line, end, node, at);
+    let piece = search_piece(left, right, nodes, line, end, node, at);
     if piece.node != 0 {
         return piece;
     }
-    search_atom(m, nodes, line, end, node, at)
+    search_atom(left, right, nodes, line, end, node, at)
 }
 
 // To the child for the next byte, or for the template's end.
-fn search_byte(m: Marks, nodes: &[Node], line: &[u8], end: usize, node: usize, at: usize) -> Outcome
+fn search_byte(
+    left: u8,
+    right: u8,
+    nodes: &[Node],
+    line: &[u8],
+    end: usize,
+    node: usize,
+    at: usize,
+) -> Outcome
     requires { ⌜ Asks (now nodes) (now line) end node at ⌝ }
-    ensures { λ r. ⌜ ByteSearched m (now (nodes .entry)) (take end (now (line .entry))) node at r ⌝ }
+    ensures { λ r. ⌜ ByteSearched (brackets left right) (now (nodes .entry)) (take end (now (line .entry))) node at r ⌝ }
 {
     let c = nodes::child(nodes, node, element_at(line, end, at));
     if c == 0 {
@@ -104,12 +121,13 @@ fn search_byte(m: Marks, nodes: &[Node], line: &[u8], end: usize, node: usize, a
     if at == end {
         return no_piece(c);
     }
-    search(m, nodes, line, end, c, at + 1)
+    search(left, right, nodes, line, end, c, at + 1)
 }
 
 // To the placeholder's child, where a piece starts.
 fn search_piece(
-    m: Marks,
+    left: u8,
+    right: u8,
     nodes: &[Node],
     line: &[u8],
     end: usize,
@@ -117,30 +135,38 @@ fn search_piece(
     at: usize,
 ) -> Outcome
     requires { ⌜ Asks (now nodes) (now line) end node at ⌝ }
-    ensures { λ r. ⌜ PieceSearched m (now (nodes .entry)) (take end (now (line .entry))) node at r ⌝ }
+    ensures { λ r. ⌜ PieceSearched (brackets left right) (now (nodes .entry)) (take end (now (line .entry))) node at r ⌝ }
 {
     let c = nodes::child(nodes, node, 1);
     if c == 0 {
         return no_piece(0);
     }
-    let piece = search(m, nodes, line, end, c, at);
+    let piece = search(left, right, nodes, line, end, c, at);
     let n = nodes::node_at(nodes, node);
     store_piece(piece, nodes::holes_of(n), at)
 }
 
 // An atom more in the open piece, if the node is a placeholder's.
-fn search_atom(m: Marks, nodes: &[Node], line: &[u8], end: usize, node: usize, at: usize) -> Outcome
+fn search_atom(
+    left: u8,
+    right: u8,
+    nodes: &[Node],
+    line: &[u8],
+    end: usize,
+    node: usize,
+    at: usize,
+) -> Outcome
     requires { ⌜ Asks (now nodes) (now line) end node at ⌝ }
-    ensures { λ r. ⌜ AtomSearched m (now (nodes .entry)) (take end (now (line .entry))) node at r ⌝ }
+    ensures { λ r. ⌜ AtomSearched (brackets left right) (now (nodes .entry)) (take end (now (line .entry))) node at r ⌝ }
 {
     if !nodes::has_element(nodes::node_at(nodes, node), 1) {
         return no_piece(0);
     }
-    let e = find_atom(m, line, end, at);
+    let e = find_atom(left, right, line, end, at);
     if e == 0 {
         return no_piece(0);
     }
-    let longer = search(m, nodes, line, end, node, e);
+    let longer = search(left, right, nodes, line, end, node, e);
     pass_atom(longer, e - at)
 }
 
@@ -200,7 +226,9 @@ pub fn first_reading(m: Marks, nodes: &[Node], line: &[u8], end: usize) -> Choic
     requires { ⌜ Asks (now nodes) (now line) end 0 0 ⌝ }
     ensures { λ r. ⌜ Chooses m (now (nodes .entry)) (take end (now (line .entry))) r ⌝ }
 {
-    let found = search(m, nodes, line, end, 0, 0);
+    let left = m.left;
+    let right = m.right;
+    let found = search(left, right, nodes, line, end, 0, 0);
     let j = found.node;
     if j == 0 {
         return no_choice();

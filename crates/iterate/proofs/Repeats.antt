@@ -5,18 +5,17 @@ use mathlib.Core.Option.{some}
 use mathlib.Core.List.{List, _∷_}
 use Prim.Native.Nat.{ℕ, zero, suc, _+_, _-_, _<_}
 use native.Mathlib.Omega.{arith}
-use borrow.Author.Tests.{leb-true}
+use borrow.Author.Tests.{ltb-true}
 use lib.ListN.{length}
-use lib.Dec.{T}
 use lib.IntN.{ℤ, pos, negsuc, natAbs}
-use lib.Signed.{leZ, nonNeg}
-use mir.Syntax.{w32, w64}
-use mir.Val.{SFits, Fits, toZ, ofZ}
-use mir.Facts.{toZ-ofZ}
+use lib.Signed.{ltZ}
+use mir.Val.{SFits}
 use Rattle.model.specs.declared.Marks.{Marks}
 use Rattle.model.specs.Text.{Bytes}
 use Rattle.model.specs.Machine.{Loop, Frame, Shared, continues, param, resumeAt, startRepeat, byCount}
 use Rattle.model.proofs.Choices.{false-not-true}
+use Rattle.number.specs.Number.{width}
+use Rattle.number.proofs.Signed.{readBack, told}
 use Rattle.body.specs.Steps.{Leaves}
 use Rattle.call.specs.declared.Head.{Head}
 use Rattle.call.specs.Call.{Iteration, iteration, textsAt, loopOf, laid, frameOf, PlacedLoop}
@@ -27,27 +26,20 @@ use Rattle.iterate.proofs.Iterations.{bytes-same, frame-enters, placed-
 
 -- ---- count_passes
 
-module _ {v : ℤ} (f : SFits w32 v) where
-  pub counts-none : leZ (toZ w32 (ofZ w32 v)) (pos 0) ≡ true → CountsPasses v 0
+module _ {v : ℤ} (f : SFits width v) where
+  pub counts-none : ltZ (readBack v) (pos 0) ≡ true → CountsPasses v 0
   unfolding passCount
-  counts-none e = by v (rw (toZ-ofZ f) at e)
+  counts-none e = by v (rw (told f) at e)
     where
-      by : (v : ℤ) → leZ v (pos 0) ≡ true → CountsPasses v 0
-      by (pos n) e = record { is = omega (arith, leb-true n 0 e) }
+      by : (v : ℤ) → ltZ v (pos 0) ≡ true → CountsPasses v 0
+      by (pos n) e = absurd (omega (arith, ltb-true n 0 e))
       by (negsuc n) e = record { is = refl }
 
-  pub counts-fit : leZ (toZ w32 (ofZ w32 v)) (pos 0) ≡ false → T (nonNeg (toZ w32 (ofZ w32 v))) × Fits w64 (natAbs (toZ w32 (ofZ w32 v)))
-  counts-fit e = rw (toZ-ofZ f) (by v f (rw (toZ-ofZ f) at e))
-    where
-      by : (v : ℤ) → SFits w32 v → leZ v (pos 0) ≡ false → T (nonNeg v) × Fits w64 (natAbs v)
-      by (pos n) f e = (tt, record { fits = omega (arith, f .sfits) })
-      by (negsuc n) f e = false-not-true (sym e)
-
-  pub counts-some : leZ (toZ w32 (ofZ w32 v)) (pos 0) ≡ false → CountsPasses v (natAbs (toZ w32 (ofZ w32 v)))
+  pub counts-some : ltZ (readBack v) (pos 0) ≡ false → CountsPasses v (natAbs (readBack v))
   unfolding passCount
-  counts-some e = rw (toZ-ofZ f) (by v (rw (toZ-ofZ f) at e))
+  counts-some e = rw (told f) (by v (rw (told f) at e))
     where
-      by : (v : ℤ) → leZ v (pos 0) ≡ false → CountsPasses v (natAbs v)
+      by : (v : ℤ) → ltZ v (pos 0) ≡ false → CountsPasses v (natAbs v)
       by (pos n) e = record { is = refl }
       by (negsuc n) e = false-not-true (sym e)
 
@@ -65,13 +57,13 @@ repeat-some m (pos k) f w n e = ap (λ (j : ℕ). startRepeat m (some (pos j)) f
 repeat-some m (negsuc k) f w n e = absurd (omega arith)
 
 -- the value is handed to count_passes by its bits
-module _ {m : Marks} {text : Bytes} {c : Head} {nums : List ℕ} {v : ℤ} {n : ℕ} (f : SFits w32 v) (k : CountsPasses (toZ w32 (ofZ w32 v)) n) where
+module _ {m : Marks} {text : Bytes} {c : Head} {nums : List ℕ} {v : ℤ} {n : ℕ} (f : SFits width v) (k : CountsPasses (readBack v) n) where
   pub repeat-skips : {to : ℕ} {r : Head} → n ≡ 0 → Leaves m text (c .next) to → Moves c to r → StartsRepeat m text c nums v r nums
   unfolding startRepeat
   repeat-skips {to} e o q = record {
     step = λ bytes w b.
         let g : Frame = frameOf m text (laid c nums bytes) in
-        repeat-none m v g w (ap passCount (sym (toZ-ofZ f)) ∙ sym (k .is) ∙ e)
+        repeat-none m v g w (ap passCount (sym (told f)) ∙ sym (k .is) ∙ e)
         ∙ ap (λ (f : Frame). continues f w) (sym (q .frame m text nums bytes ∙ ap (λ (cs : List Bytes). resumeAt g (g .loops) cs) (sym (o .is))));
     placed = λ bytes p. q .placed text nums bytes p (o .within);
   }
@@ -87,7 +79,7 @@ module _ {m : Marks} {text : Bytes} {c : Head} {nums : List ℕ} {v : ℤ} {n : 
             let g : Frame = frameOf m text (laid c nums bytes) in
             let loop : loopOf m text (textsAt bytes (c .depth)) (iteration nums′ (c .depth)) ≡ byCount (n - 1) (g .next) =
             ap (λ (i : Iteration). loopOf m text (textsAt bytes (c .depth)) i) (x .is) ∙ loop-count m text (textsAt bytes (c .depth)) y refl in
-            repeat-some m v g w (n - 1) (ap passCount (sym (toZ-ofZ f)) ∙ sym (k .is) ∙ z)
+            repeat-some m v g w (n - 1) (ap passCount (sym (told f)) ∙ sym (k .is) ∙ z)
             ∙ ap (λ (f : Frame). continues f w)
             (sym (frame-enters (x .before) (bytes-same bytes (c .depth)) l b (omega arith) m text c (c .next) ∙ ap (λ (l : Loop). resumeAt g (l ∷ g .loops) (g .next)) loop));
         placed = λ bytes p.

@@ -14,6 +14,7 @@ use call::move_to;
 use call::param_len;
 use call::regain;
 use call::set_delimiter;
+use model::Integer;
 use model::LINE_MOST;
 use model::Marks;
 use pass::choose_fault;
@@ -278,17 +279,17 @@ pub fn end_pass(m: Marks, text: &[u8], c: Head, nums: &mut [usize], params: &mut
 }
 
 // The number of passes that a value asks for.
-fn count_passes(v: i32) -> usize
+fn count_passes(v: Integer) -> usize
     ensures { λ r. ⌜ CountsPasses v r ⌝ }
 {
-    if v <= 0 {
+    if v < 0 {
         return 0;
     }
     v as usize
 }
 
 // eF7: so many passes; 0 or less skips past the matching eF8.
-pub fn start_repeat(m: Marks, text: &[u8], c: Head, nums: &mut [usize], v: i32) -> Head
+pub fn start_repeat(m: Marks, text: &[u8], c: Head, nums: &mut [usize], v: Integer) -> Head
     requires { ⌜ (c .next ≤ length (now text)) × (length (now nums) ≡ callNumbers) ⌝ }
     requires { ⌜ c .depth < nestingMost ⌝ }
     ensures { λ r. ⌜ StartsRepeat m (now (text .entry)) c (now (nums .entry)) v r (now (nums .exit)) ⌝ }

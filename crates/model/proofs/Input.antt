@@ -1,6 +1,6 @@
 -- Where a run stands in its text: the input left is the text's lines after the last one read, and a macro's template and body are
 -- the text's lines at its number and after it.
--- The theorems, at the end: load-at, run-at, text-short, line-number.
+-- The theorems, at the end: load-at, run-at, skip-beyond, text-short, line-number.
 use mathlib.Core.Path.{_≡_, refl, ap, sym, _∙_, subst}
 use mathlib.Core.Bool.{Bool, true, false, not, _&&_, _||_}
 use mathlib.Core.Option.{Option, none, some}
@@ -10,7 +10,7 @@ use native.Mathlib.Omega.{arith}
 use borrow.Author.Tests.{ltb-false}
 use lib.Dec.{eqb, leb, ltb}
 use lib.ListN.{length, getD, drop, drop-of-length-le, length-drop}
-use lib.Seq.{drop-drop}
+use lib.Seq.{drop-length, drop-drop}
 use Rattle.model.specs.declared.Marks.{Marks}
 use Rattle.model.specs.Text.{Bytes, has, startsWith, upTo, ontoFirst, lines, marksOf}
 use Rattle.model.specs.Reading.{Reading, chosen}
@@ -255,6 +255,15 @@ run-at text t n room e = after-at (lines text) n room t (running (initial t)) (l
 pub running-at : (text : Bytes) (t : Loaded) → load text ≡ loaded t → (n room : ℕ) (s : State)
     → after n room t (running (initial t)) ≡ running s → At (lines text) (s .line) (s .input)
 running-at text t e n room s h = subst (NextAt (lines text)) h (run-at text t n room e)
+
+-- a skip in the input beyond its last line is one of as many lines as are left
+pub skip-beyond : (m : Marks) (n : ℕ) (w : Shared) (s : State) → length (s .input) ≤ n → skipIn m n [] w s ≡ skipIn m (length (s .input)) [] w s
+unfolding skipIn
+skip-beyond m n w s h =
+    let k : ℕ = length (s .input) in
+    let e : min n k ≡ min k k = omega arith in
+    let d : drop n (s .input) ≡ drop k (s .input) = drop-of-length-le (s .input) h ∙ sym (drop-length (s .input)) in
+    λ i. running (record { input = d i; line = s .line + e i; pending = none; frames = []; calls = s .calls; shared = w; events = s .events })
 
 -- a text that loads has at most 65,536 bytes
 pub text-short : (text : Bytes) (t : Loaded) → load text ≡ loaded t → length text ≤ 65536

@@ -24,6 +24,8 @@ pub mod Frames
 pub mod Loading
 pub mod Input
 pub mod Sizes
+-- Every value fits its width.
+pub mod Range
 -- The bounds on depth in Value and Machine are large enough.
 pub mod Depth
 -- The numbers of the table, and what document 01 demands of a run.

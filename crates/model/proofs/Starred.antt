@@ -1,4 +1,4 @@
--- Document 01's starred examples ("Fitting a line", "Values") and that of document 02's ticket 1, one list, computed against the definitions in one proof.
+-- Document 01's starred examples ("Fitting a line", "Values") with those of document 02's tickets 1 and 2, one list, computed against the definitions in one proof.
 use mathlib.Core.Path.{_≡_, refl}
 use mathlib.Core.Option.{Option, none, some}
 use mathlib.Core.List.{List, [], _∷_, _++_, map}
@@ -11,11 +11,11 @@ use lib.ListN.{getD, replicate}
 use Rattle.model.specs.declared.Marks.{Marks}
 use Rattle.model.specs.declared.Conversion.{Conversion}
 use Rattle.model.specs.declared.Conversion.the-variants.{Length, CodePoint}
-use Rattle.model.specs.Text.{Bytes, isDigit, has}
+use Rattle.model.specs.Text.{Bytes, isDigit, has, same}
 use Rattle.model.specs.Utf8.{pointsFault, isTail, ofTwo, character, ontoPoints, pointsFrom, points}
 use Rattle.model.specs.Reading.{Reading, chosen, balancedFrom, balanced, cuts, withPiece, withLiteral, readings, rank, less, asReadings, allReadings, leastOf, least}
-use Rattle.model.specs.Store.{decimal, digitsOf}
-use Rattle.model.specs.Value.{valueFault, valueOf, checked, quotient, divided, andThen, giving, number, isMark, nameOf, closing, expression, sum, product, factors, operand, whole}
+use Rattle.model.specs.Store.{find, decimal, digitsOf}
+use Rattle.model.specs.Value.{valueFault, valueOf, checked, quotient, divided, andThen, giving, number, isMark, nameOf, allDigits, isStoredNumber, storedNumber, ofStored, closing, expression, sum, product, factors, operand, whole}
 use Rattle.model.specs.Machine.{Frame, param, Building, built, failed, add, addLength, addCodePoint, addConverted, Piece, onePass, passOf, noPass}
 
 -- the bytes of a quoted text, of characters of one byte
@@ -52,6 +52,10 @@ fitting ts l = toldReading ts (chosen session (map bytes ts) (bytes l))
 -- a text as an expression, with nothing stored
 abbrev valued : String → Told
 valued s = toldValue (valueOf session [] (bytes s))
+
+-- a name as an expression, with the text s stored under it
+abbrev stored : String → Told
+stored s = toldValue (valueOf session ((bytes "A", bytes s) ∷ []) (bytes "A"))
 
 -- a call whose parameter 1 is s
 abbrev calling : Bytes → Frame
@@ -101,8 +105,20 @@ examples =
     ∷ (valued "", value (pos 0))
     ∷ (valued "2-3*4", value (negsuc 9))
     ∷ (valued "(-7)/2", value (negsuc 2))
-    ∷ (valued "2147483647+1", fault 15)
-    ∷ (valued "(-2147483647-1)/(-1)", fault 15)
+    ∷ (valued "2147483647+1", value (pos 2147483648))
+    ∷ (valued "(-2147483647-1)/(-1)", value (pos 2147483648))
+    ∷ (valued "-2147483648", value (negsuc 2147483647))
+    ∷ (valued "9223372036854775807+1", fault 15)
+    ∷ (valued "(-9223372036854775807-1)/(-1)", fault 15)
+    ∷ (valued "-9223372036854775808", fault 15)
+    ∷ (valued "-9223372036854775807-1", value (negsuc 9223372036854775807))
+    ∷ (stored "9223372036854775807", value (pos 9223372036854775807))
+    ∷ (stored "-9223372036854775808", value (negsuc 9223372036854775807))
+    ∷ (stored "9223372036854775808", fault 15)
+    ∷ (stored "-9223372036854775809", fault 15)
+    ∷ (stored "9999999999999999999", fault 15)
+    ∷ (stored "0000000000000000001", value (pos 1))
+    ∷ (stored "00000000000000000001", fault 15)
     ∷ (toldPoints (points accent), code-points (233 ∷ []))
     ∷ (converted Length accent, line (bytes "1"))
     ∷ (converted CodePoint accent, line (bytes "233"))
@@ -111,5 +127,5 @@ examples =
 
 -- what the definitions give is what the documents say
 pub starred : map (λ e. e .0) examples ≡ map (λ e. e .1) examples
-unfolding bytes isDigit has chosen balancedFrom balanced cuts withPiece withLiteral readings rank less asReadings allReadings leastOf least valueOf checked quotient divided andThen giving number isMark nameOf closing expression sum product factors operand whole isTail ofTwo character ontoPoints pointsFrom points digitsOf decimal param add addLength addCodePoint addConverted onePass passOf
+unfolding bytes isDigit has same find chosen balancedFrom balanced cuts withPiece withLiteral readings rank less asReadings allReadings leastOf least valueOf checked quotient divided andThen giving number isMark nameOf allDigits isStoredNumber storedNumber ofStored closing expression sum product factors operand whole isTail ofTwo character ontoPoints pointsFrom points digitsOf decimal param add addLength addCodePoint addConverted onePass passOf
 starred = refl

@@ -1,25 +1,27 @@
 -- What is proved of document 01's definitions, in one place: the first reading, the fuels, the events, the numbers, what is demanded of a run, the sizes
--- of its states, the places of its lines, the digits of conversions, and characters. Every statement is for all texts that load and all rooms; the proofs are in the
+-- of its states, the places of its lines, the digits of conversions, characters, and the range of values. Every statement is for all texts that load and all rooms; the proofs are in the
 -- modules that each line cites.
 use mathlib.Core.Path.{_≡_}
 use mathlib.Core.Logic.{_↔_}
 use mathlib.Core.Bool.{true, false}
 use mathlib.Core.Option.{none, some}
 use mathlib.Core.List.{List, [], _∷_, _++_}
-use Prim.Native.Nat.{ℕ, _+_, _*_, _≤_}
+use Prim.Native.Nat.{ℕ, _+_, _*_, _^_, _≤_}
 use lib.ListN.{length}
+use lib.IntN.{ℤ}
 use Rattle.model.specs.declared.Marks.{Marks}
 use Rattle.model.specs.declared.Ran.{Ran}
 use Rattle.model.specs.declared.Conversion.{Conversion}
 use Rattle.model.specs.declared.Conversion.the-variants.{Length, CodePoint}
+use Rattle.model.specs.Limits.{largest, digitsMost}
 use Rattle.model.specs.Text.{Bytes, Grows, has, lines}
 use Rattle.model.specs.Utf8.{Character, character, points, Point, encode, encodeAll, Points, Leads, MalformedText, MalformedFront}
 use Rattle.model.specs.Reading.{Pieces, Reading, chosen}
 use Rattle.model.specs.Code.{digitOf, conversionOf}
 use Rattle.model.specs.Store.{Store, decimal}
-use Rattle.model.specs.Value.{expression, whole, valueOf}
+use Rattle.model.specs.Value.{FitsWidth, checked, expression, whole, valueOf}
 use Rattle.model.specs.Load.{templates, Loaded, Load, loaded, load}
-use Rattle.model.specs.Machine.{Loop, Frame, Shared, halts, param, failed, add, addConverted, pieceOf, passOf, takePass, State, running, ended, counted, event, after, initial, resultOf, run}
+use Rattle.model.specs.Machine.{Loop, Frame, Shared, halts, param, failed, add, addConverted, pieceOf, passOf, takePass, State, skipIn, running, ended, counted, event, after, initial, resultOf, run}
 use Rattle.model.specs.Results.{checkText, fitLine, runText}
 use Rattle.model.specs.Fitting.{Reads, First}
 use Rattle.model.specs.FirstReading.{FitsFirst, OffersFirst}
@@ -40,6 +42,7 @@ use Rattle.model.proofs.Sizes as Sizes
 use Rattle.model.proofs.Conversions as Conversions
 use Rattle.model.proofs.Utf8 as Utf8
 use Rattle.model.proofs.Characters as Characters
+use Rattle.model.proofs.Range as Range
 use Rattle.model.proofs.Depth as Depth
 
 -- ---- the first reading of a line
@@ -233,6 +236,32 @@ pass-takes = Characters.pass-takes
 pub pass-malformed : (m : Marks) (d x : ℕ) (s old : Bytes) (after : List Bytes) (ls : List Loop) (f : Frame) (w : Shared) → MalformedFront (x ∷ s)
     → takePass d (passOf m [] (x ∷ s)) [] old after ls f w ≡ halts 21 w
 pass-malformed = Characters.pass-malformed
+
+-- ---- values
+
+-- values have 64 bits, one of them for the sign
+pub largest-bits : largest + 1 ≡ 2 ^ 63
+largest-bits = Range.largest-bits
+
+-- the value of an expression fits
+pub value-fits : (m : Marks) (st : Store) (s : Bytes) (v : ℤ) → valueOf m st s ≡ some v → FitsWidth v
+value-fits = Range.value-fits
+
+-- an operand or a step is kept exactly if it fits
+pub checked-kept : (v : ℤ) → checked v ≡ some v ↔ FitsWidth v
+checked-kept = Range.checked-kept
+
+-- and is none, which gives 15, exactly otherwise
+pub checked-none : (v : ℤ) → checked v ≡ none ↔ (¬ FitsWidth v)
+checked-none = Range.checked-none
+
+-- a stored number may have as many digits as the largest value
+pub largest-digits : length (decimal largest) ≡ digitsMost
+largest-digits = Range.largest-digits
+
+-- a skip in the input beyond its last line drops the lines that are left, however large it is
+pub skip-beyond : (m : Marks) (n : ℕ) (w : Shared) (s : State) → length (s .input) ≤ n → skipIn m n [] w s ≡ skipIn m (length (s .input)) [] w s
+skip-beyond = Input.skip-beyond
 
 -- ---- bounds inside the definitions
 

@@ -38,19 +38,19 @@ encode-four v l = rw (lt-leb v 127 (omega arith), lt-leb v 2047 (omega arith), l
 
 -- ---- the tests of later bytes
 
+-- a byte that is tested at both ends
+pub between : (l h b : ℕ) → (leb l b && leb b h) ≡ true → (l ≤ b) × (b ≤ h)
+between l h b e = (leb-true l b (and-left _ _ e), leb-true b h (and-right (leb l b) (leb b h) e))
+
 -- a later byte is 80 to BF
-tail-is : (b : ℕ) → isTail b ≡ true → (128 ≤ b) × (b ≤ 191)
+pub tail-is : (b : ℕ) → isTail b ≡ true → (128 ≤ b) × (b ≤ 191)
 unfolding isTail
-tail-is b e = (leb-true 128 b (and-left _ _ e), leb-true b 191 (and-right (leb 128 b) (leb b 191) e))
+tail-is b e = between 128 191 b e
 
 -- 80 to BF is a later byte
 is-tail : (b : ℕ) → 128 ≤ b → b ≤ 191 → isTail b ≡ true
 unfolding isTail
 is-tail b l h = and-both (leb 128 b) (leb b 191) (le-leb 128 b l) (le-leb b 191 h)
-
--- a byte that is tested at both ends
-between : (l h b : ℕ) → (leb l b && leb b h) ≡ true → (l ≤ b) × (b ≤ h)
-between l h b e = (leb-true l b (and-left _ _ e), leb-true b h (and-right (leb l b) (leb b h) e))
 
 -- after E0, so that no form is overlong
 after-e0 : (b : ℕ) → isSecond 224 b ≡ true → (160 ≤ b) × (b ≤ 191)

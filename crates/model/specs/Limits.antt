@@ -45,3 +45,11 @@ fuelMost = 1000000
 -- the least length of a lent store, which any listing fits
 abbrev pub storeLeast : ℕ
 storeLeast = 8704
+
+-- values are signed numbers of 64 bits: from -(largest + 1) to largest
+abbrev pub largest : ℕ
+largest = 9223372036854775807
+
+-- the digits of a stored number
+abbrev pub digitsMost : ℕ
+digitsMost = 19

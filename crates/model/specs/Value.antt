@@ -1,12 +1,13 @@
--- Values of expressions (document 01, "Values").
+-- Values of expressions (document 01, "Values"), at the width of document 02's ticket 2.
 use mathlib.Core.Bool.{Bool, true, false, _&&_}
 use mathlib.Core.Option.{Option, none, some}
 use mathlib.Core.List.{List, [], _∷_}
-use Prim.Native.Nat.{ℕ, zero, suc, _+_, _-_, _*_, _/_}
+use Prim.Native.Nat.{ℕ, zero, suc, _+_, _-_, _*_, _/_, _≤_}
 use lib.Dec.{eqb, leb}
 use lib.ListN.{length}
 use lib.IntN.{ℤ, pos, negsuc, negℤ, _+ℤ_, _-ℤ_, _*ℤ_}
 use Rattle.model.specs.declared.Marks.{Marks}
+use Rattle.model.specs.Limits.{largest, digitsMost}
 use Rattle.model.specs.Text.{isDigit, has}
 use Rattle.model.specs.Store.{Store, find, decimal}
 
@@ -15,10 +16,15 @@ abbrev pub valueFault : Option ℤ → ℕ
 valueFault none = 15
 valueFault (some v) = 0
 
--- a value of 32 bits, or none
+-- v is from -(largest + 1) to largest
+abbrev pub FitsWidth : ℤ → Type 0
+FitsWidth (pos n) = n ≤ largest
+FitsWidth (negsuc n) = suc n ≤ largest + 1
+
+-- a value that fits, or none
 unfoldable pub checked : ℤ → Option ℤ
-checked (pos n) = elim (leb n 2147483647) [ true ↦ some (pos n) | false ↦ none ]
-checked (negsuc n) = elim (leb n 2147483647) [ true ↦ some (negsuc n) | false ↦ none ]
+checked (pos n) = elim (leb n largest) [ true ↦ some (pos n) | false ↦ none ]
+checked (negsuc n) = elim (leb n largest) [ true ↦ some (negsuc n) | false ↦ none ]
 
 -- the fraction is dropped toward zero
 unfoldable pub quotient : ℤ → ℤ → ℤ
@@ -64,9 +70,9 @@ unfoldable pub allDigits : List ℕ → Bool
 allDigits [] = true
 allDigits (x ∷ s) = isDigit x && allDigits s
 
--- 1 to 10 digits
+-- 1 to 19 digits
 unfoldable pub isStoredNumber : List ℕ → Bool
-isStoredNumber s = leb 1 (length s) && (leb (length s) 10 && allDigits s)
+isStoredNumber s = leb 1 (length s) && (leb (length s) digitsMost && allDigits s)
 
 unfoldable pub storedNumber : Marks → List ℕ → Option ℤ
 storedNumber m [] = none

@@ -36,6 +36,14 @@ pub const FUEL_MOST: u64 = 1000000;
 // The least length of a lent store: every listing fits.
 pub const STORE_LEAST: usize = 8704;
 
+// A value of an expression, and the largest one; the least is one further below 0.
+pub type Integer = i64;
+
+pub const LARGEST: Integer = 9223372036854775807;
+
+// The digits of a stored number.
+pub const DIGITS_MOST: usize = 19;
+
 // The marks of a flag line. Mark 5 is always the byte `0` and is left out.
 pub struct Marks {
     // mark 1 ends templates and input lines

@@ -13,6 +13,7 @@ use lib.IntN.{pos}
 use lib.ListN.{length, getD, drop, length-drop}
 use lib.Seq.{drop-cons, drop-length}
 use lib.Signed.{mag}
+use Rattle.model.specs.Limits.{digitsMost}
 use Rattle.model.specs.Text.{isDigit}
 use Rattle.model.specs.declared.Marks.{Marks}
 use Rattle.model.specs.Value.{number, allDigits, isStoredNumber, storedNumber, checked}
@@ -158,9 +159,9 @@ module _ (minus : Bool) (s : List ℕ) (at : ℕ) where
   unfolding isStoredNumber
   no-digit h = fault (rw (long, h))
 
-  pub too-many : 10 < length s - at → Gives Fault (signedNumber minus (drop at s))
+  pub too-many : digitsMost < length s - at → Gives Fault (signedNumber minus (drop at s))
   unfolding isStoredNumber
-  too-many h = fault (rw (long, lt-leb (length s - at) 10 h) (and-false (leb 1 (length s - at))))
+  too-many h = fault (rw (long, lt-leb (length s - at) digitsMost h) (and-false (leb 1 (length s - at))))
 
   module _ {r : Run} (run : DigitRun s at r) where
     left : length (number 0 (drop at s) .1) ≡ length s - r .end
@@ -168,12 +169,12 @@ module _ (minus : Bool) (s : List ℕ) (at : ℕ) where
 
     pub cut-short : r .end < length s → Gives Fault (signedNumber minus (drop at s))
     unfolding isStoredNumber
-    cut-short h = fault (rw (all-digits 0 (drop at s), left, ne-eqb (length s - r .end) 0 (λ e. omega arith), and-false (leb (length (drop at s)) 10)) (and-false (leb 1 (length (drop at s)))))
+    cut-short h = fault (rw (all-digits 0 (drop at s), left, ne-eqb (length s - r .end) 0 (λ e. omega arith), and-false (leb (length (drop at s)) digitsMost)) (and-false (leb 1 (length (drop at s)))))
 
-    module _ (some : length s - at ≡ 0 → ⊥) (few : length s - at ≤ 10) (h : length s ≤ r .end) where
+    module _ (some : length s - at ≡ 0 → ⊥) (few : length s - at ≤ digitsMost) (h : length s ≤ r .end) where
       good : isStoredNumber (drop at s) ≡ true
       unfolding isStoredNumber
-      good = rw (all-digits 0 (drop at s), left, long, le-leb (length s - at) 10 few, le-leb 1 (length s - at) (omega arith), eq-eqb (length s - r .end) 0 (omega arith))
+      good = rw (all-digits 0 (drop at s), left, long, le-leb (length s - at) digitsMost few, le-leb 1 (length s - at) (omega arith), eq-eqb (length s - r .end) 0 (omega arith))
 
       stored : signedNumber minus (drop at s) ≡ checked (withSign minus (pos (number 0 (drop at s) .0)))
       unfolding signedNumber

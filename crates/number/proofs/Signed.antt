@@ -1,50 +1,58 @@
--- Signed numbers of 32 bits, computed with at 64. `mag z` bounds z on both sides at once: z fits w bits where `mag z` is below half of 2 ^ w.
---     told, widens, wide     what is read back from the bits of a number that fits 32 bits, and of the same number cast to 64, is that number
---     sum-fits, product-fits, quotient-fits, ..     what one operation on numbers of 32 bits gives fits 64
---     by-zero, by-other, divides     what `apply` tests is the bits of the divisor
---     below-range, above-range, in-range     the two tests of `narrow`, as the one test of `checked`
+-- Signed numbers of the width of a value. `mag z` bounds z on both sides at once: z fits w bits where `mag z` is below half of 2 ^ w.
+--     width-holds, told     the width is the range, and what is read back from the bits of a number in range is that number
+--     below-range, above-range, in-range     the tests at the two ends, as the one test of `checked`
+--     plain-fits, complement-fits, size-told     a value without its sign
 use mathlib.Core.Path.{_≡_, refl, sym, ap, _∙_}
-use mathlib.Core.Bool.{Bool, true, false, cond}
+use mathlib.Core.Bool.{true, false}
 use mathlib.Core.Option.{Option, none, some}
-use Prim.Native.Nat.{ℕ, zero, suc, _+_, _-_, _*_, _/_, _≤_, _<_}
-use native.Mathlib.Nat.{le-refl, le-trans, mul-le-mul, div-le-self, lt-of-le-of-lt}
+use Prim.Native.Nat.{ℕ, suc, _+_, _-_, _^_, _≤_, _<_}
 use native.Mathlib.Omega.{arith}
-use borrow.Author.Tests.{ltb-true, ltb-false, le-leb, lt-leb}
-use lib.Dec.{T, ltb, lit<}
-use lib.IntN.{ℤ, pos, negsuc, negℤ, natAbs, subℕ, _+ℤ_, _-ℤ_, _*ℤ_, +ℤ-idl}
-use lib.Signed.{mag, ltZ, nonNeg, quotZ}
+use borrow.Author.Tests.{ltb-true, ltb-false, le-ltb}
+use lib.Dec.{T}
+use lib.IntN.{ℤ, pos, negsuc, natAbs, _-ℤ_}
+use lib.Signed.{mag, ltZ, nonNeg}
 use mir.Syntax.{w64}
-use mir.Val.{SFits, Fits, toZ, ofZ}
-use mir.Facts.{toZ-ofZ, sfits-widen}
-use Rattle.model.specs.Value.{valueFault, checked, quotient, divided}
+use mir.Val.{SFits, Fits, hbits, toZ, ofZ}
+use mir.Facts.{toZ-ofZ}
+use Rattle.model.specs.Limits.{largest}
+use Rattle.model.specs.Value.{valueFault, FitsWidth, checked}
 use Rattle.model.proofs.Choices.{false-not-true}
+use Rattle.model.proofs.Range.{checked-kept, checked-none}
 use Rattle.number.specs.Number.{width, end, numberOf, valuedFault, InRange, Gives}
 use Rattle.number.specs.declared.Valued.{Valued}
 use Rattle.number.specs.declared.Valued.the-variants.{Number, Fault}
 
-module _ {z : ℤ} (f : SFits width z) where
-  pub told : toZ width (ofZ width z) ≡ z
-  told = toZ-ofZ f
+-- the width holds the values from -(largest + 1) to largest, and no other
+pub width-holds : 2 ^ hbits width ≡ largest + 1
+width-holds = refl
 
-  pub widens : SFits w64 (toZ width (ofZ width z))
-  widens = rw told (sfits-widen {w = width} tt f)
+-- what is read back from a number's bits
+abbrev pub readBack : ℤ → ℤ
+readBack z = toZ width (ofZ width z)
 
-  pub wide : toZ w64 (ofZ w64 (toZ width (ofZ width z))) ≡ z
-  wide = toZ-ofZ widens ∙ told
+pub told : {z : ℤ} → SFits width z → readBack z ≡ z
+told f = toZ-ofZ f
 
-pub told-in : (z : ℤ) → mag z < end → toZ width (ofZ width z) ≡ z
+pub told-in : (z : ℤ) → mag z < end → readBack z ≡ z
 told-in z h = told (record { sfits = h })
 
+pub same-bits : {a b : ℤ} → SFits width a → SFits width b → ofZ width a ≡ ofZ width b → a ≡ b
+same-bits f g e = sym (told f) ∙ ap (toZ width) e ∙ told g
+
 -- ---- the range
+inside : (z : ℤ) → mag z < end → FitsWidth z
+inside (pos n) h = omega arith
+inside (negsuc n) h = omega arith
+
+outside : (z : ℤ) → end ≤ mag z → ¬ FitsWidth z
+outside (pos n) h f = omega arith
+outside (negsuc n) h f = omega arith
+
 pub checked-in : (z : ℤ) → mag z < end → checked z ≡ some z
-unfolding checked
-checked-in (pos n) h = rw (le-leb n (end - 1) (omega arith), checked)
-checked-in (negsuc n) h = rw (le-leb n (end - 1) (omega arith), checked)
+checked-in z h = checked-kept z .1 (inside z h)
 
 pub checked-out : (z : ℤ) → end ≤ mag z → checked z ≡ none
-unfolding checked
-checked-out (pos n) h = rw (lt-leb n (end - 1) (omega arith), checked)
-checked-out (negsuc n) h = rw (lt-leb n (end - 1) (omega arith), checked)
+checked-out z h = checked-none z .1 (outside z h)
 
 -- an answer's number is that of its value
 pub valued-fault : (r : Valued) → valuedFault r ≡ valueFault (numberOf r)
@@ -57,109 +65,74 @@ gives-value {r} e f = record { is = e; number = valued-fault r ∙ ap valueFault
 pub gives-fault : (z : ℤ) → end ≤ mag z → Gives Fault (checked z)
 gives-fault z h = gives-value (sym (checked-out z h)) tt
 
-pub gives-number : (z : ℤ) → mag z < end → Gives (Number z) (checked z)
-gives-number z h = gives-value (sym (checked-in z h)) h
+-- a number z that was computed is the value y that is asked for
+pub gives-number : {z y : ℤ} → z ≡ y → SFits width z → Gives (Number (readBack z)) (checked y)
+gives-number {z} e f = rw (← e, told f) (gives-value (sym (checked-in z (f .sfits))) (f .sfits))
 
-pub below-range : (z : ℤ) → ltZ z (negsuc (end - 1)) ≡ true → end ≤ mag z
+-- a step, made on what is read back of two values
+pub gives-step : (op : ℤ → ℤ → ℤ) {a b : ℤ} → SFits width a → SFits width b → SFits width (op (readBack a) (readBack b)) → Gives (Number (readBack (op (readBack a) (readBack b)))) (checked (op a b))
+gives-step op f g h = gives-number (rw (told f, told g)) h
+
+pub below-range : (z : ℤ) → ltZ z (negsuc largest) ≡ true → end ≤ mag z
 below-range (pos n) e = false-not-true e
-below-range (negsuc n) e = omega (arith, ltb-true (end - 1) n e)
+below-range (negsuc n) e = omega (arith, ltb-true largest n e)
 
-pub above-range : (z : ℤ) → ltZ (pos (end - 1)) z ≡ true → end ≤ mag z
-above-range (pos n) e = omega (arith, ltb-true (end - 1) n e)
+pub above-range : (z : ℤ) → ltZ (pos largest) z ≡ true → end ≤ mag z
+above-range (pos n) e = omega (arith, ltb-true largest n e)
 above-range (negsuc n) e = false-not-true e
 
-pub in-range : (z : ℤ) → ltZ z (negsuc (end - 1)) ≡ false → ltZ (pos (end - 1)) z ≡ false → SFits width z
-in-range (pos n) l h = record { sfits = omega (arith, ltb-false (end - 1) n h) }
-in-range (negsuc n) l h = record { sfits = omega (arith, ltb-false (end - 1) n l) }
+pub in-range : (z : ℤ) → ltZ z (negsuc largest) ≡ false → ltZ (pos largest) z ≡ false → SFits width z
+in-range (pos n) l h = record { sfits = omega (arith, ltb-false largest n h) }
+in-range (negsuc n) l h = record { sfits = omega (arith, ltb-false largest n l) }
 
--- ---- how far one operation goes
-mag-cond : (t : Bool) (x y : ℤ) {n : ℕ} → mag x ≤ n → mag y ≤ n → mag (cond t x y) ≤ n
-mag-cond true x y p q = p
-mag-cond false x y p q = q
+pub not-below : (z : ℤ) → SFits width z → ltZ z (negsuc largest) ≡ false
+not-below (pos n) f = refl
+not-below (negsuc n) f = le-ltb largest n (omega (arith, f .sfits))
 
-mag-sub : (a b : ℕ) → mag (subℕ a b) ≤ a + b
-mag-sub a b = mag-cond (ltb a b) (negsuc (b - suc a)) (pos (a - b)) (omega arith) (omega arith)
+pub not-above : (z : ℤ) → SFits width z → ltZ (pos largest) z ≡ false
+not-above (pos n) f = le-ltb largest n (omega (arith, f .sfits))
+not-above (negsuc n) f = refl
 
-mag-add : (a b : ℤ) → mag (a +ℤ b) ≤ suc (mag a + mag b)
-mag-add (pos a) (pos b) = omega arith
-mag-add (pos a) (negsuc b) = omega (arith, mag-sub a (suc b))
-mag-add (negsuc a) (pos b) = omega (arith, mag-sub b (suc a))
-mag-add (negsuc a) (negsuc b) = le-refl _
+-- ---- below 0 or not
+pub not-after-zero : (z : ℤ) → ltZ z (pos 0) ≡ true → ltZ (pos 0) z ≡ false
+not-after-zero (pos n) e = absurd (omega (arith, ltb-true n 0 e))
+not-after-zero (negsuc n) e = refl
 
-pub mag-neg : (n : ℕ) → mag (negℤ (pos n)) ≤ n
-mag-neg zero = le-refl _
-mag-neg (suc n) = omega arith
+pub not-negative : (n : ℕ) → ltZ (pos n) (pos 0) ≡ false
+not-negative n = le-ltb n 0 (omega arith)
 
-mag-negℤ : (a : ℤ) → mag (negℤ a) ≤ suc (mag a)
-mag-negℤ (pos n) = omega (arith, mag-neg n)
-mag-negℤ (negsuc n) = le-refl _
+complement : (v : ℤ) → ltZ v (pos 0) ≡ true → negsuc 0 -ℤ v ≡ pos (mag v)
+complement (pos n) e = absurd (omega (arith, ltb-true n 0 e))
+complement (negsuc n) e = let less : suc n - 1 ≡ n = omega arith in rw (le-ltb (suc n) 1 (omega arith)) (ap pos less)
 
-mag-mul : (a b : ℤ) → mag (a *ℤ b) ≤ suc (mag a) * suc (mag b)
-mag-mul (pos a) (pos b) = mul-le-mul (omega arith) (omega arith)
-mag-mul (pos a) (negsuc b) = le-trans (mag-neg (a * suc b)) (mul-le-mul (omega arith) (le-refl _))
-mag-mul (negsuc a) (pos b) = le-trans (mag-neg (suc a * b)) (mul-le-mul (le-refl _) (omega arith))
-mag-mul (negsuc a) (negsuc b) = le-refl _
+size-below : (v : ℤ) → ltZ v (pos 0) ≡ true → mag v + 1 ≡ natAbs v
+size-below (pos n) e = absurd (omega (arith, ltb-true n 0 e))
+size-below (negsuc n) e = omega arith
 
-mag-quot : (a b : ℤ) → mag (quotZ a b) ≤ suc (mag a)
-mag-quot (pos a) (pos b) = omega (arith, div-le-self a b)
-mag-quot (pos a) (negsuc b) = omega (arith, mag-neg (a / suc b), div-le-self a (suc b))
-mag-quot (negsuc a) (pos b) = omega (arith, mag-neg (suc a / b), div-le-self (suc a) b)
-mag-quot (negsuc a) (negsuc b) = div-le-self (suc a) (suc b)
-
-module _ {a b : ℤ} (fa : SFits width a) (fb : SFits width b) where
-  pub sum-fits : SFits w64 (a +ℤ b)
-  sum-fits = record { sfits = omega (arith, mag-add a b, fa .sfits, fb .sfits) }
-
-  pub difference-fits : SFits w64 (a -ℤ b)
-  difference-fits = record { sfits = omega (arith, mag-add a (negℤ b), mag-negℤ b, fa .sfits, fb .sfits) }
-
-  pub product-fits : SFits w64 (a *ℤ b)
-  product-fits = record { sfits = lt-of-le-of-lt (le-trans (mag-mul a b) (mul-le-mul (fa .sfits) (fb .sfits))) (lit< tt) }
-
-  pub quotient-fits : SFits w64 (quotZ a b)
-  quotient-fits = record { sfits = omega (arith, mag-quot a b, fa .sfits) }
-
-pub minus-fits : (n : ℕ) → n ≤ end + 1 → SFits w64 (pos 0 -ℤ pos n)
-minus-fits n h = rw (+ℤ-idl (negℤ (pos n))) (record { sfits = omega (arith, mag-neg n) })
-
--- ---- the divisor, tested by its bits
-same-quotient : (a b : ℤ) → quotient a b ≡ quotZ a b
-unfolding quotient
-same-quotient (pos a) (pos b) = refl
-same-quotient (pos a) (negsuc b) = refl
-same-quotient (negsuc a) (pos b) = refl
-same-quotient (negsuc a) (negsuc b) = refl
-
-pub by-zero : (a b : ℤ) → SFits width b → ofZ width b ≡ 0 → divided a b ≡ none
-unfolding divided
-by-zero a (pos zero) f e = refl
-by-zero a (pos (suc n)) f e = absurd (omega arith)
-by-zero a (negsuc n) f e = absurd (omega (arith, f .sfits))
-
-pub by-other : (a b : ℤ) → (ofZ width b ≡ 0 → ⊥) → divided a b ≡ checked (quotZ a b)
-unfolding divided
-by-other a (pos zero) n = absurd (n refl)
-by-other a (pos (suc k)) n = ap checked (same-quotient a (pos (suc k)))
-by-other a (negsuc k) n = ap checked (same-quotient a (negsuc k))
-
-pub divides : (b : ℤ) → SFits width b → (ofZ width b ≡ 0 → ⊥) → 0 < ofZ w64 b
-divides (pos zero) f n = absurd (n refl)
-divides (pos (suc k)) f n = omega arith
-divides (negsuc k) f n = omega (arith, f .sfits)
-
--- ---- a value without its sign
-pub below-zero : (v : ℤ) → SFits width v → ltZ v (pos 0) ≡ true → T (nonNeg (pos 0 -ℤ v)) × Fits w64 (natAbs (pos 0 -ℤ v))
-below-zero (pos n) f e = absurd (omega (arith, ltb-true n 0 e))
-below-zero (negsuc n) f e = (tt, record { fits = omega (arith, f .sfits) })
-
-pub above-zero : (v : ℤ) → SFits width v → ltZ v (pos 0) ≡ false → T (nonNeg v) × Fits w64 (natAbs v)
+above-zero : (v : ℤ) → SFits width v → ltZ v (pos 0) ≡ false → T (nonNeg v) × Fits w64 (natAbs v)
 above-zero (pos n) f e = (tt, record { fits = omega (arith, f .sfits) })
 above-zero (negsuc n) f e = false-not-true (sym e)
 
-abs-negated : (v : ℤ) → natAbs (negℤ v) ≡ natAbs v
-abs-negated (pos zero) = refl
-abs-negated (pos (suc n)) = refl
-abs-negated (negsuc n) = refl
+-- a value without its sign, as the code computes it
+module _ {v : ℤ} (f : SFits width v) where
+  pub plain-fits : ltZ (readBack v) (pos 0) ≡ false → T (nonNeg (readBack v)) × Fits w64 (natAbs (readBack v))
+  plain-fits e = rw (told f) (above-zero v f (rw (told f) at e))
 
-pub abs-minus : (v : ℤ) → natAbs (pos 0 -ℤ v) ≡ natAbs v
-abs-minus v = rw (+ℤ-idl (negℤ v)) (abs-negated v)
+  module _ (e : ltZ (readBack v) (pos 0) ≡ true) where
+    is-complement : negsuc 0 -ℤ readBack v ≡ pos (mag v)
+    is-complement = rw (told f) (complement v (rw (told f) at e))
+
+    pub complement-fits : SFits width (negsuc 0 -ℤ readBack v)
+    complement-fits = rw is-complement (record { sfits = f .sfits })
+
+    complement-told : readBack (negsuc 0 -ℤ readBack v) ≡ pos (mag v)
+    complement-told = told complement-fits ∙ is-complement
+
+    pub complement-plain : T (nonNeg (readBack (negsuc 0 -ℤ readBack v))) × Fits w64 (natAbs (readBack (negsuc 0 -ℤ readBack v)))
+    complement-plain = rw complement-told (tt, record { fits = omega (arith, f .sfits) })
+
+    pub size-fits : Fits w64 (natAbs (readBack (negsuc 0 -ℤ readBack v)) + 1)
+    size-fits = rw complement-told (record { fits = omega (arith, f .sfits) })
+
+    pub size-told : natAbs (readBack (negsuc 0 -ℤ readBack v)) + 1 ≡ natAbs v
+    size-told = rw complement-told (size-below v (rw (told f) at e))

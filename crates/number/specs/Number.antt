@@ -2,11 +2,12 @@
 use mathlib.Core.Path.{_≡_}
 use mathlib.Core.Option.{Option, none, some}
 use mathlib.Core.List.{List}
-use Prim.Native.Nat.{ℕ, _<_, _≤_}
+use Prim.Native.Nat.{ℕ, _+_, _<_, _≤_}
 use lib.IntN.{ℤ, negℤ, _+ℤ_, _-ℤ_, _*ℤ_}
 use lib.Signed.{mag}
-use mir.Syntax.{Width, w32}
+use mir.Syntax.{Width, w64}
 use Rattle.model.specs.declared.Marks.{Marks}
+use Rattle.model.specs.Limits.{largest}
 use Rattle.model.specs.Text.{part}
 use Rattle.model.specs.Value.{valueFault, checked, divided, written}
 use Rattle.number.specs.declared.Valued.{Valued}
@@ -16,20 +17,24 @@ use Rattle.number.specs.declared.Step.the-variants.{First, Negated, Plus
 
 -- the width of a value, and its range: from minus `end` up to the number before it
 abbrev pub width : Width
-width = w32
+width = w64
 
 abbrev pub end : ℕ
-end = 2147483648
+end = largest + 1
+
+-- the end of the numbers whose products are in range
+abbrev pub small : ℕ
+small = 2147483648
 
 -- the value of an answer
 abbrev pub numberOf : Valued → Option ℤ
 numberOf (Number z) = some z
 numberOf Fault = none
 
--- and document 01's number for it: a fault is 15
+-- and document 01's number for it
 abbrev pub valuedFault : Valued → ℕ
-valuedFault (Number z) = 0
-valuedFault Fault = 15
+valuedFault (Number z) = valueFault (some z)
+valuedFault Fault = valueFault none
 
 -- `mag z` is n for n and for -(n + 1)
 abbrev pub InRange : Valued → Type 0

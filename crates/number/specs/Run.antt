@@ -27,7 +27,7 @@ abbrev pub withSign : Bool → ℤ → ℤ
 withSign true z = negℤ z
 withSign false z = z
 
--- the value of 1 to 10 digits with or without a minus before them
+-- the value of 1 to digitsMost digits with or without a minus before them
 unfoldable pub signedNumber : Bool → List ℕ → Option ℤ
 signedNumber minus s = elim (isStoredNumber s) [ true ↦ checked (withSign minus (pos (number 0 s .0))) | false ↦ none ]
 

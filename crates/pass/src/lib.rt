@@ -39,7 +39,7 @@ fn take_atoms(m: Marks, line: &[u8], at: usize, list: &[u8]) -> Taken
                 rest: i + 1,
             };
         }
-        let next = next_atom(line, i, m);
+        let next = next_atom(line, i, m.left, m.right);
         if next == 0 {
             return Taken {
                 ok: false,

@@ -3,7 +3,8 @@ use mathlib.Core.Path.{_≡_}
 use mathlib.Core.Bool.{Bool, true, false}
 use mathlib.Core.Option.{Option, none, some}
 use mathlib.Core.List.{[], _∷_}
-use Prim.Native.Nat.{ℕ, _≤_, _<_}
+use mathlib.Core.Logic.{_⊎_}
+use Prim.Native.Nat.{ℕ, _+_, _≤_, _<_}
 use lib.ListN.{length, drop}
 use Rattle.model.specs.declared.Marks.{Marks}
 use Rattle.model.specs.Text.{Bytes, part, has, startsWith, upTo, lines, plain, allPlain, distinct, legalMarks, marksFault, marksOf}
@@ -39,6 +40,19 @@ pub record LineAt (text : Bytes) (at end next : ℕ) : Type 0 where
   pub within : next ≤ length text
   pub is : lines (drop at text) ≡ part text at end ∷ lines (drop next text)
 
+-- no mark and no byte 10 stands before r: wherever the next byte 10 stands, the line at `at` ends there, and its content at r
+pub record FindsEnd (text : Bytes) (at mark r : ℕ) : Type 0 where
+  pub low : at ≤ r
+  pub high : r ≤ length text
+  pub line : (stop : ℕ) → FindsByte text r (length text) 10 stop → FindsByte text at (length text) 10 stop
+  pub content : (stop : ℕ) → FindsByte text r (length text) 10 stop → FindsByte text at stop mark r
+
+-- r is past the first byte 10 from `at` on, or where the text ends
+pub record PassesLine (text : Bytes) (at r : ℕ) : Type 0 where
+  pub stop : ℕ
+  pub found : FindsByte text at (length text) 10 stop
+  pub past : ((stop < length text) × (r ≡ stop + 1)) ⊎ ((length text ≤ stop) × (r ≡ stop))
+
 -- its content, up to the mark, is text[at..end]
 pub record ContentAt (text : Bytes) (mark at end next : ℕ) : Type 0 where
   pub low : at ≤ end
@@ -47,6 +61,10 @@ pub record ContentAt (text : Bytes) (mark at end next : ℕ) : Type 0 where
   pub within : next ≤ length text
   pub content : part text at end ≡ upTo mark (lineAt text at)
   pub is : lines (drop at text) ≡ lineAt text at ∷ lines (drop next text)
+
+-- whether a line begins with the mark, where b is its first byte, or byte 10
+pub record BeginsMarked (b mark : ℕ) (r : Bool) : Type 0 where
+  pub is : r ≡ startsWith mark (upTo 10 (b ∷ []))
 
 -- the body at `at` goes on with a code line whose content is text[at..end], or ends there
 pub record CodeAt (m : Marks) (text : Bytes) (at : ℕ) (r : CodeLine) : Type 0 where

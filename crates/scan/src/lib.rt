@@ -4,7 +4,7 @@ ghost use mathlib.Core.List.{_∷_};
 ghost use Prim.Native.Nat.{_≤_, _<_};
 ghost use lib.ListN.{length};
 ghost use Rattle.model.specs.Legal.{operators};
-ghost use Rattle.scan.specs.Lines.{FindsByte, Has, Begins, LineAt, ContentAt, CodeAt, PlainByte, AllPlain, AllDiffer, LegalMarks, MarksAt};
+ghost use Rattle.scan.specs.Lines.{FindsByte, Has, Begins, LineAt, FindsEnd, PassesLine, ContentAt, BeginsMarked, CodeAt, PlainByte, AllPlain, AllDiffer, LegalMarks, MarksAt};
 
 // A line, or its content, which starts at a known place: where it ends, and where the next line starts.
 pub struct Line {
@@ -70,17 +70,57 @@ pub fn read_line(text: &[u8], at: usize) -> Line
     Line { end, next: end }
 }
 
-// The content of the line at a place: what precedes the mark, or all of it.
+// Where the content at a place ends: before the first mark or byte 10, or with the text. Both are tested with a branch of their own,
+// since one branch on either is slower.
+fn find_end(text: &[u8], at: usize, mark: u8) -> usize
+    requires { ⌜ at ≤ length (now text) ⌝ }
+    ensures { λ r. ⌜ FindsEnd (now (text .entry)) at mark r ⌝ }
+{
+    let mut i = at;
+    while i < text.len() {
+        let b = text[i];
+        if b == mark {
+            return i;
+        }
+        if b == b'\n' {
+            return i;
+        }
+        i += 1;
+    }
+    i
+}
+
+// Past the rest of a line: past the first byte 10, or at the text's end. The loop is its own: find_byte is compiled as a function
+// of its own, and a call of it for every code line costs more than the bytes that it reads.
+fn pass_line(text: &[u8], at: usize) -> usize
+    requires { ⌜ at ≤ length (now text) ⌝ }
+    ensures { λ r. ⌜ PassesLine (now (text .entry)) at r ⌝ }
+{
+    let mut i = at;
+    while i < text.len() {
+        if text[i] == b'\n' {
+            return i + 1;
+        }
+        i += 1;
+    }
+    i
+}
+
+// The content of the line at a place: what precedes the mark, or all of it. Each byte is read once, but the one where the content ends.
 pub fn read_content(text: &[u8], mark: u8, at: usize) -> Line
     requires { ⌜ at < length (now text) ⌝ }
     ensures { λ r. ⌜ ContentAt (now (text .entry)) mark at (r .end) (r .next) ⌝ }
 {
-    let line = read_line(text, at);
-    let end = find_byte(text, at, line.end, mark);
-    Line {
-        end,
-        next: line.next,
-    }
+    let end = find_end(text, at, mark);
+    let next = pass_line(text, end);
+    Line { end, next }
+}
+
+// Whether a line begins with the mark, where b is its first byte, or byte 10.
+fn begins_marked(b: u8, mark: u8) -> bool
+    ensures { λ r. ⌜ BeginsMarked b mark r ⌝ }
+{
+    (b == mark) & (b != b'\n')
 }
 
 // The code line at a place of a body, unless the body ends there.
@@ -96,14 +136,13 @@ pub fn read_code(text: &[u8], m: Marks, at: usize) -> CodeLine
     if at == text.len() {
         return none;
     }
-    let line = read_line(text, at);
-    if begins_with(text, at, line.end, m.code) {
+    if begins_marked(text[at], m.code) {
         return none;
     }
-    let end = find_byte(text, at, line.end, m.code);
+    let line = read_content(text, m.code, at);
     CodeLine {
         there: true,
-        end,
+        end: line.end,
         next: line.next,
     }
 }

@@ -6,12 +6,9 @@ use mathlib.Core.List.{List, _∷_}
 use Prim.Native.Nat.{ℕ, _+_, _-_, _*_, _≤_}
 use native.Mathlib.Omega.{arith}
 use borrow.Author.Tests.{ltb-true}
-use lib.Dec.{T}
 use lib.IntN.{ℤ, pos, negsuc, natAbs}
-use lib.Signed.{ltZ, nonNeg}
-use mir.Syntax.{w32, w64}
-use mir.Val.{SFits, Fits, toZ, ofZ}
-use mir.Facts.{toZ-ofZ}
+use lib.Signed.{ltZ}
+use mir.Val.{SFits}
 use Rattle.model.specs.declared.Marks.{Marks}
 use Rattle.model.specs.declared.Comparison.{Comparison}
 use Rattle.model.specs.Text.{Bytes, part, same}
@@ -27,8 +24,8 @@ use Rattle.call.specs.Call.{Laid, laid, frameOf, Placed}
 use Rattle.call.specs.Params.{Lies}
 use Rattle.number.specs.declared.Valued.{Valued}
 use Rattle.number.specs.declared.Valued.the-variants.{Number, Fault}
-use Rattle.number.specs.Number.{numberOf}
-use Rattle.number.proofs.Signed.{above-zero}
+use Rattle.number.specs.Number.{width, numberOf}
+use Rattle.number.proofs.Signed.{readBack, told}
 use Rattle.value.specs.Reads.{Values}
 use Rattle.write.specs.Layout.{bare}
 use Rattle.write.proofs.Fields.{lies-param}
@@ -66,21 +63,18 @@ lands-come {m} {text} {c} {n} {nums} {bytes} {s} {o} {memory} {b} {r} h q l = re
     no-offer (Back n) e = omega arith
     no-offer (Halts k) e = omega arith
 
-pub skip-fits : {v : ℤ} → SFits w32 v → ltZ (toZ w32 (ofZ w32 v)) (pos 0) ≡ false → T (nonNeg (toZ w32 (ofZ w32 v))) × Fits w64 (natAbs (toZ w32 (ofZ w32 v)))
-skip-fits {v} f e = rw (toZ-ofZ f) (above-zero v f (rw (toZ-ofZ f) at e))
-
-module _ {m : Marks} {text : Bytes} {c : Head} {v : ℤ} {s : State} {r : Answer} (f : SFits w32 v) where
-  pub skips-negative : ltZ (toZ w32 (ofZ w32 v)) (pos 0) ≡ true → r ≡ endsWith 18 s → SkipsLines m text c v s r
+module _ {m : Marks} {text : Bytes} {c : Head} {v : ℤ} {s : State} {r : Answer} (f : SFits width v) where
+  pub skips-negative : ltZ (readBack v) (pos 0) ≡ true → r ≡ endsWith 18 s → SkipsLines m text c v s r
   unfolding skipBy
-  skips-negative e g = by v (rw (toZ-ofZ f) at e)
+  skips-negative e g = by v (rw (told f) at e)
     where
       by : (v : ℤ) → ltZ v (pos 0) ≡ true → SkipsLines m text c v s r
       by (pos n) e = absurd (omega (arith, ltb-true n 0 e))
       by (negsuc n) e = record { comes = λ nums bytes o memory b q h. came-end h q g refl }
 
-  pub skips-lines : ltZ (toZ w32 (ofZ w32 v)) (pos 0) ≡ false → LandsSkip m text c (natAbs (toZ w32 (ofZ w32 v))) s r → SkipsLines m text c v s r
+  pub skips-lines : ltZ (readBack v) (pos 0) ≡ false → LandsSkip m text c (natAbs (readBack v)) s r → SkipsLines m text c v s r
   unfolding skipBy
-  skips-lines e l = by v (rw (toZ-ofZ f) at e) (rw (toZ-ofZ f) at l)
+  skips-lines e l = by v (rw (told f) at e) (rw (told f) at l)
     where
       by : (v : ℤ) → ltZ v (pos 0) ≡ false → LandsSkip m text c (natAbs v) s r → SkipsLines m text c v s r
       by (pos n) e l = record { comes = λ nums bytes o memory b q h. lands-come h q l }

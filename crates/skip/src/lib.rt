@@ -7,6 +7,7 @@ use call::Head;
 use call::param_len;
 use landing::land_skip;
 use model::Comparison;
+use model::Integer;
 use model::LINE_MOST;
 use model::Marks;
 use number::Valued;
@@ -26,7 +27,7 @@ ghost use Rattle.skip.specs.Skips.{SkipsLines, ParamValue, Agrees, Skips
 ghost use Rattle.model.specs.Limits.{lineMost};
 
 // Skips v code lines; a negative skip ends the run with 18.
-fn skip_lines(m: Marks, text: &[u8], call: Head, v: i32, s: State) -> Answer
+fn skip_lines(m: Marks, text: &[u8], call: Head, v: Integer, s: State) -> Answer
     requires { ⌜ call .next ≤ length (now text) ⌝ }
     ensures { λ r. ⌜ SkipsLines m (now (text .entry)) call v s r ⌝ }
 {

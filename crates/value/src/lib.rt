@@ -1,6 +1,7 @@
 // The value of a text as an expression. An expression, a product and an operand are each read through the next, in a cycle
 // of calls over the bytes left; sums and products are loops, so only brackets nest calls.
 // `value` asks that the index fits memory (`Kept`), and nothing of the text.
+use model::Integer;
 use model::Marks;
 use number::Step;
 use number::Valued;
@@ -33,7 +34,7 @@ pub enum Lead {
 
 // A value and the offset after it, or none.
 pub enum Parsed {
-    Value(i32, usize),
+    Value(Integer, usize),
     Failed,
 }
 
@@ -205,7 +206,7 @@ fn expression(m: Marks, memory: &[u8], index: Index, text: &[u8], at: usize) -> 
     ensures { λ r. ⌜ ReadsAbove (3 * (length (now (text .entry)) - at) + 3) at (now (text .entry)) r
         (λ n. expression n m (held (index .count) (now (memory .entry))) (drop at (now (text .entry)))) ⌝ }
 {
-    let mut sum: i32 = 0;
+    let mut sum: Integer = 0;
     let mut j = start(m, text, at);
     loop {
         match j {
@@ -236,7 +237,7 @@ fn product(m: Marks, memory: &[u8], index: Index, text: &[u8], at: usize) -> Par
     ensures { λ r. ⌜ ReadsAbove (3 * (length (now (text .entry)) - at) + 2) (at + 1) (now (text .entry)) r
         (λ n. product n m (held (index .count) (now (memory .entry))) (drop at (now (text .entry)))) ⌝ }
 {
-    let mut value: i32 = 0;
+    let mut value: Integer = 0;
     let mut j = Join::Go(Step::First, at);
     loop {
         match j {

@@ -1,7 +1,9 @@
 // Writes each line of standard input with its value as an expression, or with the number of the fault. A line that holds `=`
-// stores what follows it under the name before it. The lines are document 01's examples and the readings of it.
+// stores what follows it under the name before it. The lines are the documents' examples, the readings of
+// them, and the ends of the range for each step and each kind of operand.
 use libc::STDIN_FILENO;
 use libc::STDOUT_FILENO;
+use model::Integer;
 use model::Marks;
 use model::STORE_LEAST;
 use number::Valued;
@@ -28,7 +30,7 @@ fn session() -> Marks {
 }
 
 // A value in decimal.
-fn say_number(z: i32) {
+fn say_number(z: Integer) {
     let mut out = [0u8; 21];
     let n = number::write_value(session(), z, &mut out);
     io::write_all(STDOUT_FILENO, &out[0..n]);

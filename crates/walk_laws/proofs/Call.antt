@@ -1,4 +1,4 @@
--- A call in one step: from the tokens and what the arguments own to the tokens and what the result owns, with the callee's `ensures` in hand.
+-- A call in one step: from the tokens and what the arguments own to the tokens, with the callee's `ensures` in hand and what the result is. The results that walks meet are plain data, so what they own is nothing.
 --     asks, asks-last      the callee has no `&mut`; `-last`: the call is the last of its sequence
 --     asksˡ, asksˡ-last    it has one: what says the last lists is had too
 --     says-both, hears-both    two clauses of `ensures`: said by the function, and heard by its caller
@@ -10,7 +10,7 @@ use base.Logic.{SProp, ent, sep, emp, via, id⊢, emp∗, mono∗, fst∗, snd�
 use prog.Wp.{Heap, Env, Calls, Loops}
 use ghost.Atoms.{Atoms, sem}
 use contract.Monad.{fact, factI, fact-mono, fact-use}
-use types.Kit.{Given, Item, ‵, raw, _⊛_, some, later, Post, Soaks, Goal, runs, lands, settles, Seq, _$_, move, use0, use1, split, join, pick, await}
+use types.Kit.{Given, Item, ‵, raw, _⊛_, some, later, Post, Soaks, Goal, runs, lands, settles, Seq, _$_, move, drop, use0, use1, split, join, pick, await}
 use types.Run.{Opds}
 use sound.WpLaws.{FmC}
 use denote.RattleType.{RattleType, owns}
@@ -47,10 +47,10 @@ module _ {M : Type 1} (𝓤 : URA M) (H : Heap 𝓤) (A : Atoms 𝓤) (T : Ended
     abbrev pub Said : (Res (T .signature) (y .0 .0) → Type 0) → Type 1
     Said ψ = (r : Res (T .signature) (y .0 .0)) (ws : Lasts T (y .0 .0) (y .0 .3)) → ent 𝓤 (c (y .0 .0) (y .0 .3) .ensures (y .1) r (atExit T (y .0 .0) (y .0 .3) ws)) (fact 𝓤 (ψ r))
 
-module _ {M : Type 1} {𝓤 : URA M} {H : Heap 𝓤} {A : Atoms 𝓤} {K : Type 0} {W : Given 𝓤 H A} {Γ : List (Item 𝓤)} where
+module _ {M : Type 1} {𝓤 : URA M} {H : Heap 𝓤} {A : Atoms 𝓤} {K : Type 0} (W : Given 𝓤 H A) {Γ : List (Item 𝓤)} where
   -- what there is once the callee has returned
   back : K → (T : Ended) (c : Clauses 𝓤 T) (y : Of 𝓤 H A T c .Ghost) (ψ : Res (T .signature) (y .0 .0) → Type 0) (v : Val) {G : Goal 𝓤 H} → Soaks G → Said 𝓤 H A T c y ψ
-      → ((r : Res (T .signature) (y .0 .0)) → Is (Out 𝓤 H A T c y) r (v ∷ []) → ψ r → Seq K W (Tok 𝓤 H A T c y ∷ ‵ (Out 𝓤 H A T c y .own r (v ∷ [])) ∷ Γ) G)
+      → ((r : Res (T .signature) (y .0 .0)) → Is (Out 𝓤 H A T c y) r (v ∷ []) → ψ r → Seq K W (Tok 𝓤 H A T c y ∷ Γ) G)
       → Seq K W (raw (Of 𝓤 H A T c .post y v) ∷ Γ) G
   back t T c y ψ v soaks said k =
       use1 W (later (some (λ (r : Res (T .signature) (y .0 .0)). (Tok 𝓤 H A T c y ⊛ ‵ (Out 𝓤 H A T c y .own r (v ∷ []))) ⊛ raw (ensured 𝓤 H A T c (y .0 .0) (y .0 .3) (y .1) r)))) (id⊢ 𝓤 _) $
@@ -59,13 +59,13 @@ module _ {M : Type 1} {𝓤 : URA M} {H : Heap 𝓤} {A : Atoms 𝓤} {K : Type 
       (exE 𝓤 _ (λ ws. via 𝓤 (c (y .0 .0) (y .0 .3) .ensures (y .1) r (atExit T (y .0 .0) (y .0 .3) ws))
       (snd∗ 𝓤 (sem 𝓤 H A (lasts T (y .0 .0) (y .0 .3) ws)) (c (y .0 .0) (y .0 .3) .ensures (y .1) r (atExit T (y .0 .0) (y .0 .3) ws))) (said r ws))) $
       heard t (ψ r) (λ e. split t $ move t (1 ∷ []) $ peeks t (Out 𝓤 H A T c y) (Is (Out 𝓤 H A T c y)) (shows 𝓤 H A (Out 𝓤 H A T c y)) r (v ∷ []) (λ is.
-      move t (1 ∷ []) $ k r is e)))
+      drop t $ k r is e)))
 
   module _ {E : Env 𝓤 H} {C : Calls 𝓤 H} {Λ : Loops 𝓤 H} {q : Post 𝓤 H} {f : Name} {xs : List Operand} {d : Place} where
     pub asks : K → FmC 𝓤 H (W .laws) C → {rest : Body} (T : Ended) (c : Clauses 𝓤 T) (y : Of 𝓤 H A T c .Ghost) (ψ : Res (T .signature) (y .0 .0) → Type 0)
         → ent 𝓤 (Of 𝓤 H A T c .pre y) (C f (Of 𝓤 H A T c .args y) (Of 𝓤 H A T c .post y)) → ent 𝓤 (emp 𝓤) (Req 𝓤 H A T c y) → Said 𝓤 H A T c y ψ
         → Opds K W (Pre 𝓤 H A T c y ∷ Γ) E xs (Of 𝓤 H A T c .args y)
-        → ((v : Val) (r : Res (T .signature) (y .0 .0)) → Is (Out 𝓤 H A T c y) r (v ∷ []) → ψ r → Seq K W (Tok 𝓤 H A T c y ∷ ‵ (Out 𝓤 H A T c y .own r (v ∷ [])) ∷ Γ) (lands C Λ E d v rest q))
+        → ((v : Val) (r : Res (T .signature) (y .0 .0)) → Is (Out 𝓤 H A T c y) r (v ∷ []) → ψ r → Seq K W (Tok 𝓤 H A T c y ∷ Γ) (lands C Λ E d v rest q))
         → Seq K W (Tok 𝓤 H A T c y ∷ Args-own 𝓤 H A T c y ∷ Γ) (runs C Λ E (seq (call f xs d) rest) q)
     asks t fm T c y ψ known req said os k =
         join t $ use0 W (raw (Req 𝓤 H A T c y)) req $ move t (1 ∷ 0 ∷ []) $ join t $
@@ -74,7 +74,7 @@ module _ {M : Type 1} {𝓤 : URA M} {H : Heap 𝓤} {A : Atoms 𝓤} {K : Type 
     pub asks-last : K → FmC 𝓤 H (W .laws) C → (T : Ended) (c : Clauses 𝓤 T) (y : Of 𝓤 H A T c .Ghost) (ψ : Res (T .signature) (y .0 .0) → Type 0)
         → ent 𝓤 (Of 𝓤 H A T c .pre y) (C f (Of 𝓤 H A T c .args y) (Of 𝓤 H A T c .post y)) → ent 𝓤 (emp 𝓤) (Req 𝓤 H A T c y) → Said 𝓤 H A T c y ψ
         → Opds K W (Pre 𝓤 H A T c y ∷ Γ) E xs (Of 𝓤 H A T c .args y)
-        → ((v : Val) (r : Res (T .signature) (y .0 .0)) → Is (Out 𝓤 H A T c y) r (v ∷ []) → ψ r → Seq K W (Tok 𝓤 H A T c y ∷ ‵ (Out 𝓤 H A T c y .own r (v ∷ [])) ∷ Γ) (settles E d v q))
+        → ((v : Val) (r : Res (T .signature) (y .0 .0)) → Is (Out 𝓤 H A T c y) r (v ∷ []) → ψ r → Seq K W (Tok 𝓤 H A T c y ∷ Γ) (settles E d v q))
         → Seq K W (Tok 𝓤 H A T c y ∷ Args-own 𝓤 H A T c y ∷ Γ) (runs C Λ E (call f xs d) q)
     asks-last t fm T c y ψ known req said os k =
         join t $ use0 W (raw (Req 𝓤 H A T c y)) req $ move t (1 ∷ 0 ∷ []) $ join t $
@@ -85,10 +85,10 @@ abbrev pub Saidˡ : {M : Type 1} (𝓤 : URA M) (H : Heap 𝓤) (A : Atoms 𝓤)
     → (Res (T .signature) (y .0 .0) → Lasts T (y .0 .0) (y .0 .3) → Type 0) → Type 1
 Saidˡ 𝓤 H A T c y ψ = (r : Res (T .signature) (y .0 .0)) (ws : Lasts T (y .0 .0) (y .0 .3)) → ent 𝓤 (c (y .0 .0) (y .0 .3) .ensures (y .1) r (atExit T (y .0 .0) (y .0 .3) ws)) (fact 𝓤 (ψ r ws))
 
-module _ {M : Type 1} {𝓤 : URA M} {H : Heap 𝓤} {A : Atoms 𝓤} {K : Type 0} {W : Given 𝓤 H A} {Γ : List (Item 𝓤)} where
+module _ {M : Type 1} {𝓤 : URA M} {H : Heap 𝓤} {A : Atoms 𝓤} {K : Type 0} (W : Given 𝓤 H A) {Γ : List (Item 𝓤)} where
   backˡ : K → (T : Ended) (c : Clauses 𝓤 T) (y : Of 𝓤 H A T c .Ghost) (ψ : Res (T .signature) (y .0 .0) → Lasts T (y .0 .0) (y .0 .3) → Type 0) (v : Val) {G : Goal 𝓤 H} → Soaks G → Saidˡ 𝓤 H A T c y ψ
       → ((r : Res (T .signature) (y .0 .0)) (ws : Lasts T (y .0 .0) (y .0 .3)) → Is (Out 𝓤 H A T c y) r (v ∷ []) → ψ r ws
-      → Seq K W (Tok 𝓤 H A T c y ∷ ‵ (Out 𝓤 H A T c y .own r (v ∷ [])) ∷ ‵ (lasts T (y .0 .0) (y .0 .3) ws) ∷ Γ) G)
+      → Seq K W (Tok 𝓤 H A T c y ∷ ‵ (lasts T (y .0 .0) (y .0 .3) ws) ∷ Γ) G)
       → Seq K W (raw (Of 𝓤 H A T c .post y v) ∷ Γ) G
   backˡ t T c y ψ v soaks said k =
       use1 W (later (some (λ (r : Res (T .signature) (y .0 .0)). (Tok 𝓤 H A T c y ⊛ ‵ (Out 𝓤 H A T c y .own r (v ∷ [])))
@@ -96,14 +96,14 @@ module _ {M : Type 1} {𝓤 : URA M} {H : Heap 𝓤} {A : Atoms 𝓤} {K : Type 
       await t soaks $ pick t (λ r.
       split t $ move t (1 ∷ []) $ pick t (λ ws. split t $ move t (1 ∷ []) $ use1 W (raw (fact 𝓤 (ψ r ws))) (said r ws) $
       heard t (ψ r ws) (λ e. move t (1 ∷ []) $ split t $ move t (1 ∷ []) $ peeks t (Out 𝓤 H A T c y) (Is (Out 𝓤 H A T c y)) (shows 𝓤 H A (Out 𝓤 H A T c y)) r (v ∷ []) (λ is.
-      move t (1 ∷ []) $ k r ws is e))))
+      drop t $ k r ws is e))))
 
   module _ {E : Env 𝓤 H} {C : Calls 𝓤 H} {Λ : Loops 𝓤 H} {q : Post 𝓤 H} {f : Name} {xs : List Operand} {d : Place} where
     pub asksˡ : K → FmC 𝓤 H (W .laws) C → {rest : Body} (T : Ended) (c : Clauses 𝓤 T) (y : Of 𝓤 H A T c .Ghost) (ψ : Res (T .signature) (y .0 .0) → Lasts T (y .0 .0) (y .0 .3) → Type 0)
         → ent 𝓤 (Of 𝓤 H A T c .pre y) (C f (Of 𝓤 H A T c .args y) (Of 𝓤 H A T c .post y)) → ent 𝓤 (emp 𝓤) (Req 𝓤 H A T c y) → Saidˡ 𝓤 H A T c y ψ
         → Opds K W (Pre 𝓤 H A T c y ∷ Γ) E xs (Of 𝓤 H A T c .args y)
         → ((v : Val) (r : Res (T .signature) (y .0 .0)) (ws : Lasts T (y .0 .0) (y .0 .3)) → Is (Out 𝓤 H A T c y) r (v ∷ []) → ψ r ws
-        → Seq K W (Tok 𝓤 H A T c y ∷ ‵ (Out 𝓤 H A T c y .own r (v ∷ [])) ∷ ‵ (lasts T (y .0 .0) (y .0 .3) ws) ∷ Γ) (lands C Λ E d v rest q))
+        → Seq K W (Tok 𝓤 H A T c y ∷ ‵ (lasts T (y .0 .0) (y .0 .3) ws) ∷ Γ) (lands C Λ E d v rest q))
         → Seq K W (Tok 𝓤 H A T c y ∷ Args-own 𝓤 H A T c y ∷ Γ) (runs C Λ E (seq (call f xs d) rest) q)
     asksˡ t fm T c y ψ known req said os k =
         join t $ use0 W (raw (Req 𝓤 H A T c y)) req $ move t (1 ∷ 0 ∷ []) $ join t $
@@ -113,7 +113,7 @@ module _ {M : Type 1} {𝓤 : URA M} {H : Heap 𝓤} {A : Atoms 𝓤} {K : Type 
         → ent 𝓤 (Of 𝓤 H A T c .pre y) (C f (Of 𝓤 H A T c .args y) (Of 𝓤 H A T c .post y)) → ent 𝓤 (emp 𝓤) (Req 𝓤 H A T c y) → Saidˡ 𝓤 H A T c y ψ
         → Opds K W (Pre 𝓤 H A T c y ∷ Γ) E xs (Of 𝓤 H A T c .args y)
         → ((v : Val) (r : Res (T .signature) (y .0 .0)) (ws : Lasts T (y .0 .0) (y .0 .3)) → Is (Out 𝓤 H A T c y) r (v ∷ []) → ψ r ws
-        → Seq K W (Tok 𝓤 H A T c y ∷ ‵ (Out 𝓤 H A T c y .own r (v ∷ [])) ∷ ‵ (lasts T (y .0 .0) (y .0 .3) ws) ∷ Γ) (settles E d v q))
+        → Seq K W (Tok 𝓤 H A T c y ∷ ‵ (lasts T (y .0 .0) (y .0 .3) ws) ∷ Γ) (settles E d v q))
         → Seq K W (Tok 𝓤 H A T c y ∷ Args-own 𝓤 H A T c y ∷ Γ) (runs C Λ E (call f xs d) q)
     asksˡ-last t fm T c y ψ known req said os k =
         join t $ use0 W (raw (Req 𝓤 H A T c y)) req $ move t (1 ∷ 0 ∷ []) $ join t $

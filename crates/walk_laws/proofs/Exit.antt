@@ -48,7 +48,7 @@ module _ {M : Type 1} (𝓤 : URA M) (H : Heap 𝓤) (A : Atoms 𝓤) (W : Given
   go-dropped n [] ks q = tt
   go-dropped n (s ∷ ss) ks q = (goes-dropped 𝓤 H A W n s (ks .0) (q .0), go-dropped n ss (ks .1) (q .1))
 
-  -- the same at any choice of what is had of the parameters at exit: a function with a `&mut` has some of it
+  -- at any choice of what is had of the parameters at exit: a function with a `&mut` has some of it
   module _ (T : Ended) (c : Clauses 𝓤 T) (hs : Stays (T .signature .params) (T .kept)) where
     pub leave-by : (y : walkOf 𝓤 H A T hs c .Ghost) (v : Val) (r : Res (T .signature) (y .0 .0)) (ws : Lasts T (y .0 .0) (y .0 .3)) → Fit T hs (y .0 .0) (y .0 .3) ws
         → ent 𝓤 (emp 𝓤) (c (y .0 .0) (y .0 .3) .ensures (y .1) r (atExit T (y .0 .0) (y .0 .3) ws))

@@ -34,19 +34,6 @@ module _ {M : Type 1} {𝓤 : URA M} {H : Heap 𝓤} {A : Atoms 𝓤} {K : Type 
         (monoR 𝓤 (sep 𝓤 (H .room τ b 0) (H .dies τ b)) (s .prf)))));
   })
 
-  -- a local that holds nothing
-  pub freed-room : K → (n : ℕ) {τ : Ty} {b : ℕ} {E : Env 𝓤 H} {g : Goal 𝓤 H} → nth 𝓤 H A n Γ ≡ ‵ (froom τ b 0) → nth 𝓤 H A n (del 𝓤 H A n Γ) ≡ ‵ (fdies τ b)
-      → Step K W (del 𝓤 H A n (del 𝓤 H A n Γ)) (frees E g) Γ (frees ((τ, b) ∷ E) g)
-  freed-room t n {τ} {b} {E} {g} e e′ = step (λ s. record {
-    prf =
-        via 𝓤 (sep 𝓤 (H .room τ b 0) (⋆ 𝓤 H A (del 𝓤 H A n Γ)))
-        (subst (λ (j : Item 𝓤). ent 𝓤 (⋆ 𝓤 H A Γ) (sep 𝓤 (mean 𝓤 H A j) (⋆ 𝓤 H A (del 𝓤 H A n Γ)))) e (pull 𝓤 H A n Γ))
-        (via 𝓤 (sep 𝓤 (H .room τ b 0) (sep 𝓤 (H .dies τ b) (⋆ 𝓤 H A (del 𝓤 H A n (del 𝓤 H A n Γ)))))
-        (monoR 𝓤 (H .room τ b 0) (subst (λ (j : Item 𝓤). ent 𝓤 (⋆ 𝓤 H A (del 𝓤 H A n Γ)) (sep 𝓤 (mean 𝓤 H A j) (⋆ 𝓤 H A (del 𝓤 H A n (del 𝓤 H A n Γ))))) e′ (pull 𝓤 H A n (del 𝓤 H A n Γ))))
-        (via 𝓤 (sep 𝓤 (sep 𝓤 (H .room τ b 0) (H .dies τ b)) (⋆ 𝓤 H A (del 𝓤 H A n (del 𝓤 H A n Γ)))) (assoc′ 𝓤 (H .room τ b 0) (H .dies τ b) (⋆ 𝓤 H A (del 𝓤 H A n (del 𝓤 H A n Γ))))
-        (monoR 𝓤 (sep 𝓤 (H .room τ b 0) (H .dies τ b)) (s .prf))));
-  })
-
 -- ---- a function's locals are freed in one step: each holds something, or nothing
 pub data Local′ : Type 0 where
   full : Ty → ℕ → Val → Local′
@@ -81,7 +68,7 @@ pub dies-of : List (Ty × ℕ) → Fml
 dies-of [] = ftrue
 dies-of (e ∷ es) = fsep (fdies (e .0) (e .1)) (dies-of es)
 
--- how two parts come by the other
+-- the same by the locals themselves; the inductions below go by these
 abbrev dies-in : List Local′ → Fml
 dies-in [] = ftrue
 dies-in (h ∷ hs) = fsep (died h) (dies-in hs)
@@ -158,10 +145,10 @@ module _ {M : Type 1} {𝓤 : URA M} {H : Heap 𝓤} {A : Atoms 𝓤} {K : Type 
         (subst (λ (F : Fml). ent 𝓤 (⋆ 𝓤 H A (cells-of 𝓤 hs (‵ F ∷ Γ))) (aim 𝓤 H G)) (sym (dies-same hs)) (k (dies-of (env-of hs)) refl .prf)));
   }
 
-  pub frees-gathered : K → (hs : List Local′) (F : Fml) → F ≡ dies-of (env-of hs) → (Γ : List (Item 𝓤)) {g : Goal 𝓤 H} → Step K W Γ g (cells-of 𝓤 hs (‵ F ∷ Γ)) (frees (env-of hs) g)
-  frees-gathered t hs F e Γ {g} = step (λ s. record {
+  pub frees-gathered : K → (hs : List Local′) (F : Fml) → F ≡ dies-of (env-of hs) → (Γ : List (Item 𝓤)) {g : Goal 𝓤 H} → Seq K W Γ g → Seq K W (cells-of 𝓤 hs (‵ F ∷ Γ)) (frees (env-of hs) g)
+  frees-gathered t hs F e Γ {g} s = record {
     prf = subst (λ (F′ : Fml). ent 𝓤 (⋆ 𝓤 H A (cells-of 𝓤 hs (‵ F′ ∷ Γ))) (aim 𝓤 H (frees (env-of hs) g))) (sym e)
         (subst (λ (F′ : Fml). ent 𝓤 (⋆ 𝓤 H A (cells-of 𝓤 hs (‵ F′ ∷ Γ))) (aim 𝓤 H (frees (env-of hs) g))) (dies-same hs)
         (via 𝓤 (⋆ 𝓤 H A (pairs-in 𝓤 hs Γ)) (spread 𝓤 H A hs Γ)
         (subst (λ (Δ : List (Item 𝓤)). ent 𝓤 (⋆ 𝓤 H A Δ) (aim 𝓤 H (frees (env-of hs) g))) (sym (pairs-same 𝓤 hs Γ)) ((frees-all t hs Γ $ s) .prf))));
-  })
+  }

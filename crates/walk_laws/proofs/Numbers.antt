@@ -1,5 +1,5 @@
 -- What a function knows of the numbers in a slice that it is lent: each fits its width.
---     numbers-fit      what a `&[T]` owns, with its token, updates to itself and that fact
+--     numbers-fit      what a `&[T]` owns, with its token, updates to itself and that fact; `learns` is it as a rule of a walk
 use mathlib.Core.Path.{refl}
 use mathlib.Core.List.{List, [], _∷_}
 use Prim.Native.Nat.{ℕ, _<_, _^_}
@@ -12,7 +12,7 @@ use base.Logic.{SProp, ent, sep, guard}
 use base.Fml.{Lft, Share, Fml, flft}
 use prog.Wp.{Heap}
 use ghost.Atoms.{Atoms, sem}
-use types.Kit.{Given, ‵, _⊛_, given, later, _$_, !, qed, use2, drop, split, learn, check, fsplit, fjoin, feqI, await, updating, now as at-once, done}
+use types.Kit.{Given, Item, Goal, Soaks, Seq, ‵, _⊛_, given, later, _$_, !, qed, use2, drop, split, learn, check, fsplit, fjoin, feqI, await, updating, now as at-once, done}
 use denote.Plain.{UInt}
 use denote.Ref.{RefT}
 use denote.Slice.{sliceVal, ShrSlice}
@@ -48,3 +48,7 @@ module _ {M : Type 1} (𝓤 : URA M) (H : Heap 𝓤) (A : Atoms 𝓤) (W : Given
       use2 W (later (given (AllWT (fInt w) (x .now)) (‵ Bare ⊛ ‵ (flft κ q)))) (shs-known 𝓤 H A W (fInt w) κ q (x .ptr .0) (x .ptr .1) (x .name) (x .now)) $ await ! tt $ learn ! (λ a. split ! $
       fsplit ! $ feqI ! (List Val) (sliceVal (x .ptr) (length (x .now)) ∷ []) (sliceVal (x .ptr) (length (x .now)) ∷ []) refl $ fjoin ! $ fjoin ! $
       at-once ! $ check ! (λ i. fit-at (fInt w) 0 (zero-fits w) (x .now) a i .fits) $ done !))
+
+  -- the same as a rule of a walk
+  pub learns : {K : Type 0} {Γ : List (Item 𝓤)} {G : Goal 𝓤 H} → K → Soaks G → (AllFit → Seq K W (‵ Own ∷ ‵ (flft κ q) ∷ Γ) G) → Seq K W (‵ Own ∷ ‵ (flft κ q) ∷ Γ) G
+  learns t soaks k = use2 W (later (given AllFit (‵ Own ⊛ ‵ (flft κ q)))) numbers-fit $ await t soaks $ learn t (λ fit. split t $ k fit)

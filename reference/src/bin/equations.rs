@@ -12,8 +12,13 @@ use std::fmt::Write;
 const NODES: usize = 2048;
 const STORE: usize = 8704;
 
-/// One text of so many is about characters, beside those that any text may hold.
-const CHARACTERS: u64 = 13;
+/// Of so many texts one is about characters and one about values, beside those
+/// that any text may hold.
+const ROUND: u64 = 13;
+
+/// The places of these two in a round.
+const CHARACTERS: u64 = 0;
+const VALUES: u64 = 6;
 
 fn main() {
     let words: Vec<String> = std::env::args().collect();
@@ -37,8 +42,11 @@ fn main() {
 
 /// The three equations of one text.
 fn equations(k: u64, generator: &mut Generator, unfolds: &str) -> String {
-    let text =
-        if k.is_multiple_of(CHARACTERS) { generator.character_text() } else { generator.text(Size::Small) };
+    let text = match k % ROUND {
+        CHARACTERS => generator.character_text(),
+        VALUES => generator.value_text(),
+        _ => generator.text(Size::Small),
+    };
     let line = generator.line(&text);
     let fuel = generator.fuel().clamp(1, 60);
     let room = generator.room().min(400);

@@ -3,10 +3,11 @@
 use super::characters;
 use super::random::Random;
 use super::style::Style;
+use super::values;
 use super::Size;
 
 /// Expressions that give fault 15 unless such a name is stored.
-const FAULTS: [&[u8]; 4] = [b"A", b"1A", b"2147483648", b"B1"];
+const FAULTS: [&[u8]; 4] = [b"A", b"1A", b"9223372036854775808", b"B1"];
 
 /// Function 1 with the digits it may have.
 const CHANNELS: [&[u8]; 4] = [b"1", b"1", b"13", b"10"];
@@ -233,16 +234,30 @@ impl Bodies<'_> {
     }
 
     fn operand(&mut self, depth: usize) -> Vec<u8> {
-        match self.random.weighted(&[70, 6, 14, 6, 4]) {
+        match self.random.weighted(&[66, 8, 14, 6, 4, 4]) {
             0 => vec![self.random.pick(b"0112234579")],
-            1 => self.random.pick(&[&b"2147483647"[..], b"65536", b"10", b"007"]).to_vec(),
+            1 => self.large_operand(),
             2 if depth > 0 => {
                 let inner = self.expression(depth - 1);
                 self.style.bracketed(&inner)
             }
             3 => self.escape(b'1', b'0'),
             4 => self.escape(b'1', b'5'),
+            5 => vec![self.style.literal(self.random)],
             _ => b"3".to_vec(),
+        }
+    }
+
+    /// Digits near the end of a range, the least value, or a few digits.
+    fn large_operand(&mut self) -> Vec<u8> {
+        match self.random.weighted(&[50, 15, 35]) {
+            0 => values::digits(self.random).into_bytes(),
+            1 => {
+                let minus = self.style.minus();
+                let least = [&[minus][..], b"9223372036854775807", &[minus], b"1"].concat();
+                self.style.bracketed(&least)
+            }
+            _ => self.random.pick(&[&b"65536"[..], b"10", b"007"]).to_vec(),
         }
     }
 
@@ -253,11 +268,20 @@ impl Bodies<'_> {
             lines.push(self.assign(&name, b'1'));
         }
         if self.random.chance(60) {
-            let text = self.row(3);
+            let text = if self.random.chance(30) { self.stored_number() } else { self.row(3) };
             lines.push(self.assign(&text, b'2'));
         }
         lines.push(self.function(b"3"));
         lines
+    }
+
+    /// A stored number, with the style's minus.
+    fn stored_number(&mut self) -> Vec<u8> {
+        let mut number = values::stored(self.random).into_bytes();
+        if number.first() == Some(&b'-') {
+            number[0] = self.style.minus();
+        }
+        number
     }
 
     fn skip(&mut self) -> Lines {
@@ -295,7 +319,8 @@ impl Bodies<'_> {
     fn count(&mut self) -> Vec<u8> {
         match self.random.weighted(&[83, 6, 3, 8]) {
             0 => vec![self.random.pick(b"0111223")],
-            1 => self.random.pick(&[&b"9"[..], b"40", b"2147483647"]).to_vec(),
+            1 if self.random.chance(60) => self.random.pick(&[&b"9"[..], b"40"]).to_vec(),
+            1 => values::count(self.random).into(),
             2 => vec![self.style.minus(), b'1'],
             _ => self.expression(1),
         }
@@ -351,7 +376,7 @@ impl Bodies<'_> {
     fn times(&mut self, depth: usize) -> Lines {
         let mut opening = match self.random.weighted(&[78, 2, 10, 10]) {
             0 => vec![self.random.pick(b"011223")],
-            1 => b"2147483647".to_vec(),
+            1 => values::count(self.random).into(),
             2 => Vec::new(),
             _ => self.expression(1),
         };

@@ -8,6 +8,7 @@ mod edges;
 mod mutation;
 mod random;
 mod style;
+mod values;
 
 use body::Bodies;
 use random::Random;
@@ -40,7 +41,7 @@ impl Generator {
     /// A text. About nine of ten load.
     pub fn text(&mut self, size: Size) -> Vec<u8> {
         loop {
-            let text = match self.random.weighted(&[70, 19, 11, 7]) {
+            let text = match self.random.weighted(&[70, 19, 11, 7, 7]) {
                 0 => self.plain_text(size),
                 1 => {
                     let mut text = self.plain_text(size);
@@ -48,7 +49,8 @@ impl Generator {
                     text
                 }
                 2 => edges::text(&mut self.random, size),
-                _ => self.character_text(),
+                3 => self.character_text(),
+                _ => self.value_text(),
             };
             if size == Size::Large || text.len() <= SMALL_TEXT {
                 return text;
@@ -59,6 +61,18 @@ impl Generator {
     /// A small text that counts, values and takes apart characters.
     pub fn character_text(&mut self) -> Vec<u8> {
         characters::text(&mut self.random)
+    }
+
+    /// A small text that values, compares, skips and counts passes near the ends
+    /// of the range.
+    pub fn value_text(&mut self) -> Vec<u8> {
+        values::text(&mut self.random)
+    }
+
+    /// An expression near the ends of the range in the session's marks, and names
+    /// with what is stored under them.
+    pub fn expression(&mut self) -> (String, [(&'static str, String); 2]) {
+        values::with_names(&mut self.random)
     }
 
     /// A line for fitting that resembles one of the text's templates.

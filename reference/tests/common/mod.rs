@@ -40,3 +40,18 @@ pub fn pattern(length: usize) -> Vec<u8> {
 
 static PATTERN: LazyLock<Vec<u8>> =
     LazyLock::new(|| (0..65_536).map(|at: usize| 128 + (at * 37 % 127) as u8).collect());
+
+/// A multiplicative generator, enough for choosing bytes and numbers.
+pub struct Dice(pub u64);
+
+impl Dice {
+    /// A word, whose low bits repeat soon.
+    pub fn word(&mut self) -> u64 {
+        self.0 = self.0.wrapping_mul(6_364_136_223_846_793_005).wrapping_add(1_442_695_040_888_963_407);
+        self.0
+    }
+
+    pub fn below(&mut self, limit: u64) -> u64 {
+        (self.word() >> 33) % limit
+    }
+}

@@ -85,3 +85,8 @@ class Forms(unittest.TestCase):
         self.change("crates/a_loop/src/lib.rt", lambda text: text.replace("i += 1;", "i = (i << 1) + 1;"))
         with self.assertRaisesRegex(Fault, "answers/a_loop:1: a_loop::count has a form that tools/walk has no steps for: the operation shl"):
             walks.write_all(self.root, ["a_loop"])
+
+    def test_a_match_on_a_number(self):
+        self.change("crates/a_loop/src/lib.rt", lambda text: text.replace("i += 1;", "match i {\n            0 => i += 1,\n            _ => i += 1,\n        }"))
+        with self.assertRaisesRegex(Fault, "a_loop::count has a form that tools/walk has no steps for: a match on a number"):
+            walks.write_all(self.root, ["a_loop"])

@@ -6,13 +6,13 @@ import text
 
 class Layout(unittest.TestCase):
     def test_steps_share_a_line(self):
-        self.assertEqual(text.layout("        a $\n        b $\n        c"), "        a $ b $ c")
+        self.assertEqual(text.layout("        a (\n        b (\n        c))"), "        a (b (c))")
 
     def test_a_let_begins_a_line(self):
-        self.assertEqual(text.layout("        a $\n        let x = y in"), "        a $\n        let x = y in")
+        self.assertEqual(text.layout("        a (\n        let x = y in"), "        a (\n        let x = y in")
 
     def test_no_step_joins_past_the_width(self):
-        step = "        " + "x" * 100 + " $"
+        step = "        " + "x" * 100 + " ("
         self.assertEqual(text.layout(step + "\n" + step), step + "\n" + step)
 
     def test_a_long_list_is_cut_at_its_parts(self):

@@ -4,15 +4,16 @@ use Prim.Native.Nat.{_-_}
 use borrow.Author.Needs.{needs}
 use native.Mathlib.Omega.{arith}
 use lib.ListN.{length}
+use Rattle.atom.specs.Atoms.{brackets}
 use Rattle.atom.proofs.Atoms.{none-past-end, none-at-right, one-byte, Scan, scan-start, scan-step, scan-end, scan-closed}
 use Rattle.atom.proofs.next_atom.Statement.{statement}
 use Rattle.atom.proofs.next_atom.Tie as tie
 
 abbrev Inv-loop : tie.InvT-loop
-Inv-loop line at m b i₀ depth₀ i depth = Scan m line at i depth
+Inv-loop line at left right b i₀ depth₀ i depth = Scan (brackets left right) line at i depth
 
 abbrev μ-loop : tie.MeasureT-loop
-μ-loop line at m b i₀ depth₀ i depth = length line - i
+μ-loop line at left right b i₀ depth₀ i depth = length line - i
 
 returns : tie.Need-returns Inv-loop μ-loop
 returns c = search (none-past-end, needs)

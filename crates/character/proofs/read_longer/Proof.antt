@@ -1,6 +1,6 @@
 -- read_longer reads the form that the first byte begins.
 use borrow.Author.Needs.{needs}
-use Rattle.character.proofs.Decoding.{first-two, first-three, first-four, reads-short, reads-none, reads-two, reads-three, reads-four}
+use Rattle.character.proofs.Decoding.{reads-short, reads-none, reads-two, reads-three, reads-four}
 use Rattle.character.proofs.read_longer.Statement.{statement}
 use Rattle.character.proofs.read_longer.Tie as tie
 
@@ -23,7 +23,7 @@ shared-slice-read-join-two : tie.Need-shared-slice-read-join-two
 shared-slice-read-join-two c = search needs
 
 join-two-requires : tie.Need-join-two-requires
-join-two-requires c κs = search (first-two, needs)
+join-two-requires c κs = search (c .before .before .before .count-bytes .ensures .two, needs)
 
 add-join-three : tie.Need-add-join-three
 add-join-three c = search needs
@@ -38,7 +38,7 @@ shared-slice-read-join-three-2 : tie.Need-shared-slice-read-join-three-2
 shared-slice-read-join-three-2 c = search needs
 
 join-three-requires : tie.Need-join-three-requires
-join-three-requires c κs = search (first-three, needs)
+join-three-requires c κs = search (c .before .before .before .before .count-bytes .ensures .three, needs)
 
 add-join-four : tie.Need-add-join-four
 add-join-four c = search needs
@@ -59,7 +59,7 @@ shared-slice-read-join-four-3 : tie.Need-shared-slice-read-join-four-3
 shared-slice-read-join-four-3 c = search needs
 
 join-four-requires : tie.Need-join-four-requires
-join-four-requires c κs = search (first-four, needs)
+join-four-requires c κs = search (c .before .before .before .before .before .count-bytes .ensures .four, needs)
 
 returns-2 : tie.Need-returns-2
 returns-2 c = search (reads-two, needs)

@@ -1,7 +1,7 @@
 -- take_bits: a byte after the first is 80 to BF.
 use borrow.Author.Needs.{needs}
 use native.Mathlib.Omega.{arith}
-use Rattle.character.proofs.Decoding.{tail-is}
+use Rattle.model.proofs.Utf8.{tail-is}
 use Rattle.character.proofs.take_bits.Statement.{statement}
 use Rattle.character.proofs.take_bits.Tie as tie
 

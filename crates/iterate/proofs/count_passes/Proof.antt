@@ -1,5 +1,6 @@
 -- count_passes is the value, or 0 where that is negative.
-use Rattle.iterate.proofs.Repeats.{counts-none, counts-fit, counts-some}
+use Rattle.number.proofs.Signed.{plain-fits}
+use Rattle.iterate.proofs.Repeats.{counts-none, counts-some}
 use Rattle.iterate.proofs.count_passes.Statement.{statement}
 use Rattle.iterate.proofs.count_passes.Tie as tie
 
@@ -7,7 +8,7 @@ returns : tie.Need-returns
 returns c = search counts-none
 
 cast-result : tie.Need-cast-result
-cast-result c = counts-fit (c .before .fits .v) (c .if1 .left)
+cast-result c = plain-fits (c .before .fits .v) (c .if1 .left)
 
 returns-2 : tie.Need-returns-2
 returns-2 c = search counts-some

@@ -20,7 +20,7 @@ use ghost.Atoms.{Atoms}
 use contract.Monad.{Fun, factI}
 use contract.Running.{givenOf, tables, tablesOf}
 use types.Kit as Kit
-use types.Kit.{Given, ‵, raw, _⊛_, _$_, _∵_, ! }
+use types.Kit.{Given, ‵, raw, _∵_, ! }
 use types.Run as Run
 use sound.WpLaws.{FmC, fmOf}
 use denote.RattleType.{RattleType, owns}
@@ -95,79 +95,76 @@ module _ {M : Type 1} (𝓤 : URA M) (H : Heap 𝓤) (A : Atoms 𝓤) (W : Given
     walk-child is-nodes fits-node fits-e pre =
         Kit.qed W (raw (alive 𝓤 H A f-child.signature (κ₀, tt) (q₀, tt)) ∷ ‵ (owns (T-nodes ∷ (UInt w64) ∷ (UInt w16) ∷ []) (nodes, (node, (e, tt)))
         (v-nodes ∷ [], ((vint w64 node) ∷ [], ((vint w16 e) ∷ [], tt)))) ∷ []) ∵
-        Kit.move ! (1 ∷ []) $ Kit.fsplit ! $ Kit.move ! (1 ∷ []) $ Kit.fsplit ! $ Kit.drop ! $ Kit.fsplit ! $ Kit.drop ! $ Kit.drop ! $
-        Kit.move ! (1 ∷ []) $ Kit.use1 W (‵ (flft κ₀ q₀) ⊛ (raw (emp 𝓤))) (id⊢ 𝓤 _) $ Kit.split ! $ Kit.move ! (1 ∷ []) $ Kit.drop ! $
-        Run.enter ! (𝓣 .C) (𝓣 .Λ) code.function (v-nodes ∷ (vint w64 node) ∷ (vint w16 e) ∷ []) Post $
+        Walk.move ! (1 ∷ []) (
+        Walk.hears W (Walk.stays (T-nodes .own nodes (v-nodes ∷ [])) ∷ Walk.gone ((UInt w64) .own node ((vint w64 node) ∷ [])) ∷
+        Walk.gone ((UInt w16) .own e ((vint w16 e) ∷ [])) ∷ []) ! (
+        Walk.move ! (1 ∷ []) (Walk.tokens-out W ((κ₀, q₀) ∷ []) ! (id⊢ 𝓤 _) (
+        Walk.enter ! (𝓣 .C) (𝓣 .Λ) code.function (v-nodes ∷ (vint w64 node) ∷ (vint w16 e) ∷ []) Post (
         Run.alloc1 ! (λ l₀. Run.alloc1 ! (λ l₁. Run.alloc1 ! (λ l₂. Run.alloc1 ! (λ l₃. Run.alloc1 ! (λ l₄. Run.alloc1 ! (λ l₅. Run.alloc1 ! (λ l₆. Run.alloc1 ! (λ l₇. Run.alloc1 ! (λ l₈. Run.alloc1 ! (λ l₉.
         let E : Env 𝓤 H = Walk.at-addresses (code.function .locals) (l₀ ∷ l₁ ∷ l₂ ∷ l₃ ∷ l₄ ∷ l₅ ∷ l₆ ∷ l₇ ∷ l₈ ∷ l₉ ∷ []) in
-        Kit.move ! (18 ∷ 19 ∷ 16 ∷ 17 ∷ 14 ∷ 15 ∷ 12 ∷ 13 ∷ 10 ∷ 11 ∷ 8 ∷ 9 ∷ 6 ∷ 7 ∷ 4 ∷ 5 ∷ 2 ∷ 3 ∷ 0 ∷ 1 ∷ []) $
+        Walk.move ! (18 ∷ 18 ∷ 16 ∷ 16 ∷ 14 ∷ 14 ∷ 12 ∷ 12 ∷ 10 ∷ 10 ∷ 8 ∷ 8 ∷ 6 ∷ 6 ∷ 4 ∷ 4 ∷ 2 ∷ 2 ∷ 0 ∷ 0 ∷ []) (
         Walk.gathers ! (Walk.bare (tyInt w64) l₀ ∷ Walk.bare Y-nodes l₁ ∷ Walk.bare (tyInt w64) l₂ ∷ Walk.bare (tyInt w16) l₃ ∷
         Walk.bare Node-L.mir l₄ ∷ Walk.bare (tyInt w64) l₅ ∷ Walk.bare (tyInt w64) l₆ ∷ Walk.bare tyBool l₇ ∷ Walk.bare tyBool l₈ ∷
         Walk.bare Node-L.mir l₉ ∷ []) (‵ (flft κ₀ q₀) ∷ ‵ (T-nodes .own nodes (sliceVal (nodes .ptr) (length (nodes .now)) ∷ [])) ∷ []) (λ Fd ed.
-        Run.alloc0 ! $ Run.params1 ! $
-        Run.pass1 ! (Run.init ! 1 refl (shr-slice-lawful 𝓤 H A W (named 0) κ₀ Node-T.the-row .typed nodes _ is-nodes .0)) $
-        Run.pass1 ! (Run.init ! 2 refl ((tt, record { fits = fits-node }))) $ Run.pass1 ! (Run.init ! 3 refl ((tt, record { fits = fits-e }))) $
-        Run.pass0 ! $
+        Walk.allocated ! (Walk.after-result ! (
+        Walk.pass ! (Run.init ! 1 refl (shr-slice-lawful 𝓤 H A W (named 0) κ₀ Node-T.the-row .typed nodes _ is-nodes .0)) (
+        Walk.pass ! (Run.init ! 2 refl ((tt, record { fits = fits-node }))) (Walk.pass ! (Run.init ! 3 refl ((tt, record { fits = fits-e }))) (
+        Walk.passed ! (
         -- [the locals; their ends; κ₀; nodes]
         -- call 1: node_at (nodes, node)
-        Walk.nothing ! $ Kit.use0 W (‵ ((UInt w64) .own node ((vint w64 node) ∷ []))) (uint-makes 𝓤 H A W w64 node _ (refl, fits-node)) $
-        Kit.fjoin ! $ Kit.move ! (13 ∷ []) $
-        Kit.use1 W (‵ (T-nodes .own nodes (v-nodes ∷ [])) ⊛ ‵ (T-nodes .own nodes (v-nodes ∷ [])))
-        (shr-slice-copy 𝓤 H A W (named 0) κ₀ Node-T.the-row .twice nodes _) $ Kit.split ! $
-        Kit.move ! (0 ∷ 2 ∷ []) $ Kit.fjoin ! $ Walk.nothing-raw ! $ Kit.move ! (14 ∷ 0 ∷ []) $ Kit.join ! $
-        Kit.use1 W (raw (alive 𝓤 H A g-node-at.signature (κ₀, tt) (q₀, tt))) (id⊢ 𝓤 _) $
-        Walk.asks ! fm g-node-at.ended (g-node-at.clauses 𝓤 H A mem run)
+        Walk.move ! (12 ∷ []) (
+        Walk.gives W (Walk.copied (T-nodes .own nodes (v-nodes ∷ [])) (shr-slice-copy 𝓤 H A W (named 0) κ₀ Node-T.the-row .twice nodes _) ∷
+        Walk.made ((UInt w64) .own node ((vint w64 node) ∷ [])) (uint-makes 𝓤 H A W w64 node _ (refl, fits-node)) ∷ []) _ ! (
+        Walk.move ! (13 ∷ []) (Walk.tokens-in W ((κ₀, q₀) ∷ []) _ ! (alive 𝓤 H A g-node-at.signature (κ₀, tt) (q₀, tt)) (id⊢ 𝓤 _) (
+        Walk.asks W ! fm g-node-at.ended (g-node-at.clauses 𝓤 H A mem run)
         (((κ₀, tt), (q₀, tt), tt, (nodes, (node, tt)), (v-nodes ∷ [], ((vint w64 node) ∷ [], tt))), tt) _ (known-node-at (((κ₀, tt), (q₀, tt), tt, (nodes, (node, tt)), (v-nodes ∷ [], ((vint w64 node) ∷ [], tt))), tt)) (factI 𝓤 _ (emp 𝓤) (pre .0)) (λ r ws. id⊢ 𝓤 _)
-        (Run.and-then ! (Run.load ! (Run.from ! (Run.stop !)) (Run.look ! 3 refl)) (Run.and-then ! (Run.load ! (Run.from ! (Run.stop !))
-        (Run.look ! 4 refl)) (Run.no-more !))) (λ u1 r1 is1′ e1.
-        Kit.use1 W (‵ (flft κ₀ q₀) ⊛ (raw (emp 𝓤))) (id⊢ 𝓤 _) $ Kit.split ! $ Kit.move ! (1 ∷ []) $ Kit.drop ! $ Kit.move ! (1 ∷ []) $ Kit.drop ! $
-        Run.land ! (Run.from ! (Run.stop !)) (Run.init ! 6 refl (LL.lawful Node-T.the-type Node-L.the-laws 𝓤 H A W .typed r1 _ is1′ .0)) $
-        Kit.rewrite ! 6 (λ (w : Val). ‵ (fat fullShare Node-L.mir l₄ 0 w)) (ap only (LL.tells Node-T.the-type Node-L.the-laws r1 _ is1′)) refl $
+        (Run.and-then ! (Walk.local ! 3 refl) (Run.and-then ! (Walk.local ! 4 refl) (Run.no-more !))) (λ u1 r1 is1′ e1.
+        Walk.tokens-out W ((κ₀, q₀) ∷ []) ! (id⊢ 𝓤 _) (
+        Walk.lands-in ! (Walk.init-as ! 6 refl (LL.lawful Node-T.the-type Node-L.the-laws 𝓤 H A W .typed r1 _ is1′ .0)
+        (ap only (LL.tells Node-T.the-type Node-L.the-laws r1 _ is1′))) (
         let is1 : Is Node-T.the-row r1 ((Node-L.lowered r1) ∷ []) = subst (λ (vs : List Val). Is Node-T.the-row r1 vs)
         (LL.tells Node-T.the-type Node-L.the-laws r1 _ is1′) is1′ in
         Walk.written-out ! (‵ (flft κ₀ q₀) ∷ ‵ (T-nodes .own nodes (sliceVal (nodes .ptr) (length (nodes .now)) ∷ [])) ∷
         ‵ (froom (tyInt w64) l₀ 0) ∷ ‵ (fat fullShare Y-nodes l₁ 0 (sliceVal (nodes .ptr) (length (nodes .now)))) ∷
         ‵ (fat fullShare (tyInt w64) l₂ 0 (vint w64 node)) ∷ ‵ (fat fullShare (tyInt w16) l₃ 0 (vint w16 e)) ∷
         ‵ (fat fullShare Node-L.mir l₄ 0 (Node-L.lowered r1)) ∷ ‵ (froom (tyInt w64) l₅ 0) ∷ ‵ (froom (tyInt w64) l₆ 0) ∷ ‵ (froom tyBool l₇ 0) ∷
-        ‵ (froom tyBool l₈ 0) ∷ ‵ (froom Node-L.mir l₉ 0) ∷ ‵ Fd ∷ []) refl $
+        ‵ (froom tyBool l₈ 0) ∷ ‵ (froom Node-L.mir l₉ 0) ∷ ‵ Fd ∷ []) refl (
         -- [κ₀; nodes; the locals; their ends]
         -- call 2: first_of (r1)
-        Walk.nothing ! $
-        Kit.use0 W (‵ (Node-T.the-row .own r1 ((Node-L.lowered r1) ∷ []))) (LL.makes Node-T.the-type Node-L.the-plain 𝓤 H A r1 _ is1) $ Kit.fjoin ! $
-        Walk.nothing-raw ! $ Kit.use1 W (raw (alive 𝓤 H A g-first-of.signature tt tt)) (id⊢ 𝓤 _) $
-        Walk.asks ! fm g-first-of.ended (g-first-of.clauses 𝓤 H A mem run)
+        Walk.gives W (Walk.made (Node-T.the-row .own r1 ((Node-L.lowered r1) ∷ [])) (LL.makes Node-T.the-type Node-L.the-plain 𝓤 H A r1 _ is1) ∷
+        []) _ ! (
+        Walk.tokens-in W ([]) _ ! (alive 𝓤 H A g-first-of.signature tt tt) (id⊢ 𝓤 _) (
+        Walk.asks W ! fm g-first-of.ended (g-first-of.clauses 𝓤 H A mem run)
         ((tt, tt, tt, (r1, tt), ((Node-L.lowered r1) ∷ [], tt)), tt) _ (known-first-of ((tt, tt, tt, (r1, tt), ((Node-L.lowered r1) ∷ [], tt)), tt))
         (id⊢ 𝓤 (emp 𝓤)) (λ r ws. id⊢ 𝓤 _)
-        (Run.and-then ! (Run.load ! (Run.from ! (Run.stop !)) (Run.look ! 7 refl)) (Run.no-more !)) (λ u2 r2 is2′ e2.
-        Kit.use1 W (raw (emp 𝓤)) (id⊢ 𝓤 _) $ Kit.drop ! $ Kit.drop ! $
-        Run.land ! (Run.from ! (Run.stop !)) (Run.init ! 7 refl (uint-lawful 𝓤 H A W w64 .typed r2 _ is2′ .0)) $
-        Kit.rewrite ! 7 (λ (w : Val). ‵ (fat fullShare (tyInt w64) l₅ 0 w)) (ap only (uint-tells w64 r2 _ is2′)) refl $
+        (Run.and-then ! (Walk.local ! 7 refl) (Run.no-more !)) (λ u2 r2 is2′ e2.
+        Walk.tokens-out W ([]) ! (id⊢ 𝓤 _) (
+        Walk.lands-in ! (Walk.init-as ! 7 refl (uint-lawful 𝓤 H A W w64 .typed r2 _ is2′ .0) (ap only (uint-tells w64 r2 _ is2′))) (
         let is2 : Is (UInt w64) r2 ((vint w64 r2) ∷ []) = subst (λ (vs : List Val). Is (UInt w64) r2 vs) (uint-tells w64 r2 _ is2′) is2′ in
         Walk.written-out ! (‵ (flft κ₀ q₀) ∷ ‵ (T-nodes .own nodes (sliceVal (nodes .ptr) (length (nodes .now)) ∷ [])) ∷
         ‵ (froom (tyInt w64) l₀ 0) ∷ ‵ (fat fullShare Y-nodes l₁ 0 (sliceVal (nodes .ptr) (length (nodes .now)))) ∷
         ‵ (fat fullShare (tyInt w64) l₂ 0 (vint w64 node)) ∷ ‵ (fat fullShare (tyInt w16) l₃ 0 (vint w16 e)) ∷
         ‵ (fat fullShare Node-L.mir l₄ 0 (Node-L.lowered r1)) ∷ ‵ (fat fullShare (tyInt w64) l₅ 0 (vint w64 r2)) ∷ ‵ (froom (tyInt w64) l₆ 0) ∷
-        ‵ (froom tyBool l₇ 0) ∷ ‵ (froom tyBool l₈ 0) ∷ ‵ (froom Node-L.mir l₉ 0) ∷ ‵ Fd ∷ []) refl $
+        ‵ (froom tyBool l₇ 0) ∷ ‵ (froom tyBool l₈ 0) ∷ ‵ (froom Node-L.mir l₉ 0) ∷ ‵ Fd ∷ []) refl (
         -- [κ₀; nodes; the locals; their ends]
         -- call 3: end_of (r1)
-        Walk.nothing ! $
-        Kit.use0 W (‵ (Node-T.the-row .own r1 ((Node-L.lowered r1) ∷ []))) (LL.makes Node-T.the-type Node-L.the-plain 𝓤 H A r1 _ is1) $ Kit.fjoin ! $
-        Walk.nothing-raw ! $ Kit.use1 W (raw (alive 𝓤 H A g-end-of.signature tt tt)) (id⊢ 𝓤 _) $
-        Walk.asks ! fm g-end-of.ended (g-end-of.clauses 𝓤 H A mem run)
+        Walk.gives W (Walk.made (Node-T.the-row .own r1 ((Node-L.lowered r1) ∷ [])) (LL.makes Node-T.the-type Node-L.the-plain 𝓤 H A r1 _ is1) ∷
+        []) _ ! (
+        Walk.tokens-in W ([]) _ ! (alive 𝓤 H A g-end-of.signature tt tt) (id⊢ 𝓤 _) (
+        Walk.asks W ! fm g-end-of.ended (g-end-of.clauses 𝓤 H A mem run)
         ((tt, tt, tt, (r1, tt), ((Node-L.lowered r1) ∷ [], tt)), tt) _ (known-end-of ((tt, tt, tt, (r1, tt), ((Node-L.lowered r1) ∷ [], tt)), tt))
         (id⊢ 𝓤 (emp 𝓤)) (λ r ws. id⊢ 𝓤 _)
-        (Run.and-then ! (Run.load ! (Run.from ! (Run.stop !)) (Run.look ! 7 refl)) (Run.no-more !)) (λ u3 r3 is3′ e3.
-        Kit.use1 W (raw (emp 𝓤)) (id⊢ 𝓤 _) $ Kit.drop ! $ Kit.drop ! $
-        Run.land ! (Run.from ! (Run.stop !)) (Run.init ! 8 refl (uint-lawful 𝓤 H A W w64 .typed r3 _ is3′ .0)) $
-        Kit.rewrite ! 8 (λ (w : Val). ‵ (fat fullShare (tyInt w64) l₆ 0 w)) (ap only (uint-tells w64 r3 _ is3′)) refl $
+        (Run.and-then ! (Walk.local ! 7 refl) (Run.no-more !)) (λ u3 r3 is3′ e3.
+        Walk.tokens-out W ([]) ! (id⊢ 𝓤 _) (
+        Walk.lands-in ! (Walk.init-as ! 8 refl (uint-lawful 𝓤 H A W w64 .typed r3 _ is3′ .0) (ap only (uint-tells w64 r3 _ is3′))) (
         let is3 : Is (UInt w64) r3 ((vint w64 r3) ∷ []) = subst (λ (vs : List Val). Is (UInt w64) r3 vs) (uint-tells w64 r3 _ is3′) is3′ in
         Walk.written-out ! (‵ (flft κ₀ q₀) ∷ ‵ (T-nodes .own nodes (sliceVal (nodes .ptr) (length (nodes .now)) ∷ [])) ∷
         ‵ (froom (tyInt w64) l₀ 0) ∷ ‵ (fat fullShare Y-nodes l₁ 0 (sliceVal (nodes .ptr) (length (nodes .now)))) ∷
         ‵ (fat fullShare (tyInt w64) l₂ 0 (vint w64 node)) ∷ ‵ (fat fullShare (tyInt w16) l₃ 0 (vint w16 e)) ∷
         ‵ (fat fullShare Node-L.mir l₄ 0 (Node-L.lowered r1)) ∷ ‵ (fat fullShare (tyInt w64) l₅ 0 (vint w64 r2)) ∷
         ‵ (fat fullShare (tyInt w64) l₆ 0 (vint w64 r3)) ∷ ‵ (froom tyBool l₇ 0) ∷ ‵ (froom tyBool l₈ 0) ∷ ‵ (froom Node-L.mir l₉ 0) ∷ ‵ Fd ∷
-        []) refl $
-        Walk.first-then ! $ Walk.blocks-in ! $
+        []) refl (
+        Walk.first-then ! (Walk.blocks-in ! (
         let D1 : Type 0 = ℕ × Unit {0} in
         let P1 : D1 → Type 0 = λ s1. let j : ℕ = (s1 .0) in (j < 2 ^ 64) × (Seek (nodes .now) node e r3 j) in
         let μ1 : D1 → ℕ = λ s1. let j : ℕ = (s1 .0) in r3 - j in
@@ -176,28 +173,25 @@ module _ {M : Type 1} (𝓤 : URA M) (H : Heap 𝓤) (A : Atoms 𝓤) (W : Given
         ‵ (fat fullShare (tyInt w64) l₂ 0 (vint w64 node)) ∷ ‵ (fat fullShare (tyInt w16) l₃ 0 (vint w16 e)) ∷
         ‵ (fat fullShare Node-L.mir l₄ 0 (Node-L.lowered r1)) ∷ ‵ (fat fullShare (tyInt w64) l₅ 0 (vint w64 j)) ∷
         ‵ (fat fullShare (tyInt w64) l₆ 0 (vint w64 r3)) ∷ ‵ (froom tyBool l₇ 0) ∷ ‵ (froom tyBool l₈ 0) ∷ ‵ (froom Node-L.mir l₉ 0) ∷ ‵ Fd ∷ []) in
-        Walk.loops-by ! 𝓣 P1 μ1 I1 (λ s1 h1 X1 next1. let j : ℕ = (s1 .0) in
+        Walk.loops-by ! 𝓣 P1 μ1 I1
+        (λ s1 h1 X1 next1. let j : ℕ = (s1 .0) in
         let fits-j : (j < 2 ^ 64) = h1 .0 in let inv1 : (Seek (nodes .now) node e r3 j) = h1 .1 in
-        Run.assigns ! (Run.bin ! (Run.load ! (Run.from ! (Run.stop !)) (Run.look ! 7 refl)) (Run.load ! (Run.from ! (Run.stop !))
-        (Run.look ! 8 refl)) tt) (Run.from ! (Run.stop !)) (Run.init ! 9 refl ((tt, tt))) $
-        Walk.first-then ! $ Run.branches ! (Run.load ! (Run.from ! (Run.stop !)) (Run.look ! 9 refl))
+        Walk.sets ! (Run.bin ! (Walk.local ! 7 refl) (Walk.local ! 8 refl) tt) (Run.init ! 9 refl ((tt, tt))) (Walk.first-then ! (
+        Run.branches ! (Walk.local ! 9 refl)
         (λ h1. let t1 : (ltb j r3) ≡ true = Walk.is-true _ h1 in
-        Walk.skips-then ! $
+        Walk.skips-then ! (
         -- [κ₀; nodes; the locals; their ends]
         -- call 4: node_at (nodes, j)
-        Walk.nothing ! $ Kit.use0 W (‵ ((UInt w64) .own j ((vint w64 j) ∷ []))) (uint-makes 𝓤 H A W w64 j _ (refl, fits-j)) $ Kit.fjoin ! $
-        Kit.move ! (2 ∷ []) $
-        Kit.use1 W (‵ (T-nodes .own nodes (v-nodes ∷ [])) ⊛ ‵ (T-nodes .own nodes (v-nodes ∷ [])))
-        (shr-slice-copy 𝓤 H A W (named 0) κ₀ Node-T.the-row .twice nodes _) $ Kit.split ! $
-        Kit.move ! (0 ∷ 2 ∷ []) $ Kit.fjoin ! $ Walk.nothing-raw ! $ Kit.move ! (3 ∷ 0 ∷ []) $ Kit.join ! $
-        Kit.use1 W (raw (alive 𝓤 H A g-node-at.signature (κ₀, tt) (q₀, tt))) (id⊢ 𝓤 _) $
-        Walk.asks ! fm g-node-at.ended (g-node-at.clauses 𝓤 H A mem run)
+        Walk.move ! (1 ∷ []) (
+        Walk.gives W (Walk.copied (T-nodes .own nodes (v-nodes ∷ [])) (shr-slice-copy 𝓤 H A W (named 0) κ₀ Node-T.the-row .twice nodes _) ∷
+        Walk.made ((UInt w64) .own j ((vint w64 j) ∷ [])) (uint-makes 𝓤 H A W w64 j _ (refl, fits-j)) ∷ []) _ ! (
+        Walk.move ! (2 ∷ []) (Walk.tokens-in W ((κ₀, q₀) ∷ []) _ ! (alive 𝓤 H A g-node-at.signature (κ₀, tt) (q₀, tt)) (id⊢ 𝓤 _) (
+        Walk.asks W ! fm g-node-at.ended (g-node-at.clauses 𝓤 H A mem run)
         (((κ₀, tt), (q₀, tt), tt, (nodes, (j, tt)), (v-nodes ∷ [], ((vint w64 j) ∷ [], tt))), tt) _ (known-node-at (((κ₀, tt), (q₀, tt), tt, (nodes, (j, tt)), (v-nodes ∷ [], ((vint w64 j) ∷ [], tt))), tt)) (factI 𝓤 _ (emp 𝓤) (omega (arith, (ltb-true j r3 t1), inv1 .high))) (λ r ws. id⊢ 𝓤 _)
-        (Run.and-then ! (Run.load ! (Run.from ! (Run.stop !)) (Run.look ! 3 refl)) (Run.and-then ! (Run.load ! (Run.from ! (Run.stop !))
-        (Run.look ! 7 refl)) (Run.no-more !))) (λ u4 r4 is4′ e4.
-        Kit.use1 W (‵ (flft κ₀ q₀) ⊛ (raw (emp 𝓤))) (id⊢ 𝓤 _) $ Kit.split ! $ Kit.move ! (1 ∷ []) $ Kit.drop ! $ Kit.move ! (1 ∷ []) $ Kit.drop ! $
-        Run.land ! (Run.from ! (Run.stop !)) (Run.init ! 11 refl (LL.lawful Node-T.the-type Node-L.the-laws 𝓤 H A W .typed r4 _ is4′ .0)) $
-        Kit.rewrite ! 11 (λ (w : Val). ‵ (fat fullShare Node-L.mir l₉ 0 w)) (ap only (LL.tells Node-T.the-type Node-L.the-laws r4 _ is4′)) refl $
+        (Run.and-then ! (Walk.local ! 3 refl) (Run.and-then ! (Walk.local ! 7 refl) (Run.no-more !))) (λ u4 r4 is4′ e4.
+        Walk.tokens-out W ((κ₀, q₀) ∷ []) ! (id⊢ 𝓤 _) (
+        Walk.lands-in ! (Walk.init-as ! 11 refl (LL.lawful Node-T.the-type Node-L.the-laws 𝓤 H A W .typed r4 _ is4′ .0)
+        (ap only (LL.tells Node-T.the-type Node-L.the-laws r4 _ is4′))) (
         let is4 : Is Node-T.the-row r4 ((Node-L.lowered r4) ∷ []) = subst (λ (vs : List Val). Is Node-T.the-row r4 vs)
         (LL.tells Node-T.the-type Node-L.the-laws r4 _ is4′) is4′ in
         Walk.written-out ! (‵ (flft κ₀ q₀) ∷ ‵ (T-nodes .own nodes (sliceVal (nodes .ptr) (length (nodes .now)) ∷ [])) ∷
@@ -205,65 +199,62 @@ module _ {M : Type 1} (𝓤 : URA M) (H : Heap 𝓤) (A : Atoms 𝓤) (W : Given
         ‵ (fat fullShare (tyInt w64) l₂ 0 (vint w64 node)) ∷ ‵ (fat fullShare (tyInt w16) l₃ 0 (vint w16 e)) ∷
         ‵ (fat fullShare Node-L.mir l₄ 0 (Node-L.lowered r1)) ∷ ‵ (fat fullShare (tyInt w64) l₅ 0 (vint w64 j)) ∷
         ‵ (fat fullShare (tyInt w64) l₆ 0 (vint w64 r3)) ∷ ‵ (fat fullShare tyBool l₇ 0 (vbool (ltb j r3))) ∷ ‵ (froom tyBool l₈ 0) ∷
-        ‵ (fat fullShare Node-L.mir l₉ 0 (Node-L.lowered r4)) ∷ ‵ Fd ∷ []) refl $
+        ‵ (fat fullShare Node-L.mir l₉ 0 (Node-L.lowered r4)) ∷ ‵ Fd ∷ []) refl (
         -- [κ₀; nodes; the locals; their ends]
         -- call 5: has_element (r4, e)
-        Walk.nothing ! $ Kit.use0 W (‵ ((UInt w16) .own e ((vint w16 e) ∷ []))) (uint-makes 𝓤 H A W w16 e _ (refl, fits-e)) $ Kit.fjoin ! $
-        Kit.use0 W (‵ (Node-T.the-row .own r4 ((Node-L.lowered r4) ∷ []))) (LL.makes Node-T.the-type Node-L.the-plain 𝓤 H A r4 _ is4) $ Kit.fjoin ! $
-        Walk.nothing-raw ! $ Kit.use1 W (raw (alive 𝓤 H A g-has-element.signature tt tt)) (id⊢ 𝓤 _) $
-        Walk.asks ! fm g-has-element.ended (g-has-element.clauses 𝓤 H A mem run)
+        Walk.gives W (Walk.made (Node-T.the-row .own r4 ((Node-L.lowered r4) ∷ [])) (LL.makes Node-T.the-type Node-L.the-plain 𝓤 H A r4 _ is4) ∷
+        Walk.made ((UInt w16) .own e ((vint w16 e) ∷ [])) (uint-makes 𝓤 H A W w16 e _ (refl, fits-e)) ∷ []) _ ! (
+        Walk.tokens-in W ([]) _ ! (alive 𝓤 H A g-has-element.signature tt tt) (id⊢ 𝓤 _) (
+        Walk.asks W ! fm g-has-element.ended (g-has-element.clauses 𝓤 H A mem run)
         ((tt, tt, tt, (r4, (e, tt)), ((Node-L.lowered r4) ∷ [], ((vint w16 e) ∷ [], tt))), tt) _ (known-has-element ((tt, tt, tt, (r4, (e, tt)), ((Node-L.lowered r4) ∷ [], ((vint w16 e) ∷ [], tt))), tt)) (id⊢ 𝓤 (emp 𝓤)) (λ r ws. id⊢ 𝓤 _)
-        (Run.and-then ! (Run.load ! (Run.from ! (Run.stop !)) (Run.look ! 12 refl)) (Run.and-then ! (Run.load ! (Run.from ! (Run.stop !))
-        (Run.look ! 6 refl)) (Run.no-more !))) (λ u5 r5 is5′ e5.
-        Kit.use1 W (raw (emp 𝓤)) (id⊢ 𝓤 _) $ Kit.drop ! $ Kit.drop ! $
-        Run.land ! (Run.from ! (Run.stop !)) (Run.init ! 10 refl (bool-lawful 𝓤 H A W .typed r5 _ is5′ .0)) $
-        Kit.rewrite ! 10 (λ (w : Val). ‵ (fat fullShare tyBool l₈ 0 w)) (ap only (bool-tells r5 _ is5′)) refl $
+        (Run.and-then ! (Walk.local ! 12 refl) (Run.and-then ! (Walk.local ! 6 refl) (Run.no-more !))) (λ u5 r5 is5′ e5.
+        Walk.tokens-out W ([]) ! (id⊢ 𝓤 _) (
+        Walk.lands-in ! (Walk.init-as ! 10 refl (bool-lawful 𝓤 H A W .typed r5 _ is5′ .0) (ap only (bool-tells r5 _ is5′))) (
         let is5 : Is Boolean r5 ((vbool r5) ∷ []) = subst (λ (vs : List Val). Is Boolean r5 vs) (bool-tells r5 _ is5′) is5′ in
         Walk.written-out ! (‵ (flft κ₀ q₀) ∷ ‵ (T-nodes .own nodes (sliceVal (nodes .ptr) (length (nodes .now)) ∷ [])) ∷
         ‵ (froom (tyInt w64) l₀ 0) ∷ ‵ (fat fullShare Y-nodes l₁ 0 (sliceVal (nodes .ptr) (length (nodes .now)))) ∷
         ‵ (fat fullShare (tyInt w64) l₂ 0 (vint w64 node)) ∷ ‵ (fat fullShare (tyInt w16) l₃ 0 (vint w16 e)) ∷
         ‵ (fat fullShare Node-L.mir l₄ 0 (Node-L.lowered r1)) ∷ ‵ (fat fullShare (tyInt w64) l₅ 0 (vint w64 j)) ∷
         ‵ (fat fullShare (tyInt w64) l₆ 0 (vint w64 r3)) ∷ ‵ (fat fullShare tyBool l₇ 0 (vbool (ltb j r3))) ∷
-        ‵ (fat fullShare tyBool l₈ 0 (vbool r5)) ∷ ‵ (fat fullShare Node-L.mir l₉ 0 (Node-L.lowered r4)) ∷ ‵ Fd ∷ []) refl $
-        Walk.first-then ! $ Run.branches ! (Run.load ! (Run.from ! (Run.stop !)) (Run.look ! 10 refl))
+        ‵ (fat fullShare tyBool l₈ 0 (vbool r5)) ∷ ‵ (fat fullShare Node-L.mir l₉ 0 (Node-L.lowered r4)) ∷ ‵ Fd ∷ []) refl (
+        Walk.first-then ! (Run.branches ! (Walk.local ! 10 refl)
         (λ h2. let t2 : r5 ≡ true = Walk.is-true _ h2 in
-        Run.assigns ! (Run.of-opd ! (Run.load ! (Run.from ! (Run.stop !)) (Run.look ! 7 refl))) (Run.from ! (Run.stop !))
-        (Run.init ! 2 refl ((tt, record { fits = fits-j }))) $
-        Run.returns-within ! Post (Walk.through 𝓤 H (𝓣 .C)
+        Walk.sets ! (Run.of-opd ! (Walk.local ! 7 refl)) (Run.init ! 2 refl ((tt, record { fits = fits-j }))) (
+        Walk.returns-by ! Post (Walk.through 𝓤 H (𝓣 .C)
         (𝓣 .Λ) E _ _ Post (Walk.through-turn 𝓤 H E _ _ Post (Walk.through-block 𝓤 H E _ Post (Walk.through 𝓤 H (𝓣 .C) (𝓣 .Λ) E _ _ Post refl))))
-        (Run.look ! 2 refl) $
-        Kit.move ! (2 ∷ 3 ∷ 4 ∷ 5 ∷ 6 ∷ 7 ∷ 8 ∷ 9 ∷ 10 ∷ 11 ∷ 12 ∷ []) $
+        (Run.look ! 2 refl) (
+        Walk.move ! (2 ∷ 2 ∷ 2 ∷ 2 ∷ 2 ∷ 2 ∷ 2 ∷ 2 ∷ 2 ∷ 2 ∷ 2 ∷ []) (
         Walk.frees-gathered ! (Walk.full (tyInt w64) l₀ (vint w64 j) ∷ Walk.full Y-nodes l₁ (sliceVal (nodes .ptr) (length (nodes .now))) ∷
         Walk.full (tyInt w64) l₂ (vint w64 node) ∷ Walk.full (tyInt w16) l₃ (vint w16 e) ∷ Walk.full Node-L.mir l₄ (Node-L.lowered r1) ∷
         Walk.full (tyInt w64) l₅ (vint w64 j) ∷ Walk.full (tyInt w64) l₆ (vint w64 r3) ∷ Walk.full tyBool l₇ (vbool (ltb j r3)) ∷
         Walk.full tyBool l₈ (vbool r5) ∷ Walk.full Node-L.mir l₉ (Node-L.lowered r4) ∷ []) Fd ed (‵ (flft κ₀ q₀) ∷
-        ‵ (T-nodes .own nodes (sliceVal (nodes .ptr) (length (nodes .now)) ∷ [])) ∷ []) $
-        Kit.use0 W (‵ ((UInt w64) .own j ((vint w64 j) ∷ []))) (uint-makes 𝓤 H A W w64 j _ (refl, fits-j)) $ Walk.nothing-raw ! $
-        Kit.move ! (2 ∷ 0 ∷ []) $ Kit.join ! $ Kit.use1 W (raw (alive 𝓤 H A f-child.signature (κ₀, tt) (q₀, tt))) (id⊢ 𝓤 _) $
-        Kit.keep ! (0 ∷ 1 ∷ []) $
+        ‵ (T-nodes .own nodes (sliceVal (nodes .ptr) (length (nodes .now)) ∷ [])) ∷ []) (
+        Walk.tokens-in W ((κ₀, q₀) ∷ []) _ ! (alive 𝓤 H A f-child.signature (κ₀, tt) (q₀, tt)) (id⊢ 𝓤 _) (
+        Walk.use0 W ! (‵ ((UInt w64) .own j ((vint w64 j) ∷ []))) (uint-makes 𝓤 H A W w64 j _ (refl, fits-j)) (Walk.keep ! (1 ∷ 0 ∷ []) (
         Kit.by ! (Walk.leave 𝓤 H A W f-child.ended (f-child.clauses 𝓤 H A mem run) bound (vint w64 j) j (tt, (tt, (tt, tt))) (factI 𝓤 _ (emp 𝓤)
-        (seek-here _ _ _ _ _ _ _ e4 e5 (ltb-true j r3 t1) inv1 t2))))
+        (seek-here _ _ _ _ _ _ _ e4 e5 (ltb-true j r3 t1) inv1 t2)))))))))))
         (λ h2. let t2 : r5 ≡ false = Walk.is-false _ h2 in
-        Walk.skips-then ! $
+        Walk.skips-then ! (
         let add1 : (j + 1) < 2 ^ 64 = omega (arith, (ltb-true j r3 t1), inv1 .high, is-nodes .0 .1 .0) in
-        Walk.assigns-to ! (Walk.turn-here _) (Run.bin ! (Run.load ! (Run.from ! (Run.stop !)) (Run.look ! 7 refl)) (Run.lit ! tt)
-        (record { fits = add1 })) (Run.from ! (Run.stop !)) (Run.store ! 7 refl ((tt, record { fits = add1 }))) $
-        Run.forget ! 9 refl $ Run.forget ! 10 refl $ Run.forget ! 11 refl $
-        next1 ((j + 1), tt) (add1, (seek-on _ _ _ _ _ _ _ e4 e5 (ltb-true j r3 t1) inv1 t2)) (omega (arith, (ltb-true j r3 t1)))))))
+        Walk.assigns-to ! (Walk.turn-here _) (Run.bin ! (Walk.local ! 7 refl) (Run.lit ! tt) (record { fits = add1 }))
+        (Run.store ! 7 refl ((tt, record { fits = add1 }))) (
+        Walk.forget ! 9 refl (Walk.forget ! 10 refl (Walk.forget ! 11 refl (
+        next1 ((j + 1), tt) (add1, (seek-on _ _ _ _ _ _ _ e4 e5 (ltb-true j r3 t1) inv1 t2))
+        (omega (arith, (ltb-true j r3 t1))))))))))))))))))))))))))
         (λ h1. let t1 : (ltb j r3) ≡ false = Walk.is-false _ h1 in
-        Walk.jumps-by ! (Walk.past _ (Walk.leaves-turn _ (Walk.leaves-here Walk.here))) $
-        Run.assigns ! (Run.of-opd ! (Run.lit ! tt)) (Run.from ! (Run.stop !)) (Run.init ! 2 refl ((tt, record { fits = lit< tt }))) $
-        Run.returns-within ! Post refl (Run.look ! 2 refl) $ Kit.move ! (2 ∷ 3 ∷ 4 ∷ 5 ∷ 6 ∷ 7 ∷ 8 ∷ 9 ∷ 10 ∷ 11 ∷ 12 ∷ []) $
+        Walk.jumps-by ! (Walk.past _ (Walk.leaves-turn _ (Walk.leaves-here Walk.here))) (
+        Walk.sets ! (Run.of-opd ! (Run.lit ! tt)) (Run.init ! 2 refl ((tt, record { fits = lit< tt }))) (
+        Walk.returns-by ! Post refl (Run.look ! 2 refl) (Walk.move ! (2 ∷ 2 ∷ 2 ∷ 2 ∷ 2 ∷ 2 ∷ 2 ∷ 2 ∷ 2 ∷ 2 ∷ 2 ∷ []) (
         Walk.frees-gathered ! (Walk.full (tyInt w64) l₀ (vint w64 0) ∷ Walk.full Y-nodes l₁ (sliceVal (nodes .ptr) (length (nodes .now))) ∷
         Walk.full (tyInt w64) l₂ (vint w64 node) ∷ Walk.full (tyInt w16) l₃ (vint w16 e) ∷ Walk.full Node-L.mir l₄ (Node-L.lowered r1) ∷
         Walk.full (tyInt w64) l₅ (vint w64 j) ∷ Walk.full (tyInt w64) l₆ (vint w64 r3) ∷ Walk.full tyBool l₇ (vbool (ltb j r3)) ∷
         Walk.bare tyBool l₈ ∷ Walk.bare Node-L.mir l₉ ∷ []) Fd ed (‵ (flft κ₀ q₀) ∷ ‵ (T-nodes .own nodes (sliceVal (nodes .ptr)
-        (length (nodes .now)) ∷ [])) ∷ []) $
-        Kit.use0 W (‵ ((UInt w64) .own 0 ((vint w64 0) ∷ []))) (uint-makes 𝓤 H A W w64 0 _ (refl, lit< tt)) $ Walk.nothing-raw ! $
-        Kit.move ! (2 ∷ 0 ∷ []) $ Kit.join ! $ Kit.use1 W (raw (alive 𝓤 H A f-child.signature (κ₀, tt) (q₀, tt))) (id⊢ 𝓤 _) $
-        Kit.keep ! (0 ∷ 1 ∷ []) $
+        (length (nodes .now)) ∷ [])) ∷ []) (
+        Walk.tokens-in W ((κ₀, q₀) ∷ []) _ ! (alive 𝓤 H A f-child.signature (κ₀, tt) (q₀, tt)) (id⊢ 𝓤 _) (
+        Walk.use0 W ! (‵ ((UInt w64) .own 0 ((vint w64 0) ∷ []))) (uint-makes 𝓤 H A W w64 0 _ (refl, lit< tt)) (Walk.keep ! (1 ∷ 0 ∷ []) (
         Kit.by ! (Walk.leave 𝓤 H A W f-child.ended (f-child.clauses 𝓤 H A mem run) bound (vint w64 0) 0 (tt, (tt, (tt, tt))) (factI 𝓤 _ (emp 𝓤)
-        (seek-none _ _ _ _ _ (pre .0) (ltb-false j r3 t1) inv1))))) (r2, tt) (is2 .1, (seek-start _ _ _ _ _ _ e1 e2 e3 (pre .1)))))))))))))))))
+        (seek-none _ _ _ _ _ (pre .0) (ltb-false j r3 t1) inv1))))))))))))))) (r2, tt)
+        (is2 .1, (seek-start _ _ _ _ _ _ e1 e2 e3 (pre .1))))))))))))))))))))))))))))))))))))))))))))))))
 
 pub child-spec : {M : Type 1} → stated.statement M
 unfolding code.routine tablesOf

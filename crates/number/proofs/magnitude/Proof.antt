@@ -1,32 +1,27 @@
--- magnitude takes the sign away, at 64 bits.
-use lib.Dec.{lit<}
-use lib.IntN.{pos}
-use mir.Facts.{toZ-ofZ}
-use Rattle.number.proofs.Signed.{widens, wide, difference-fits, below-zero, above-zero, abs-minus}
+-- magnitude takes the sign away: of a value below 0 by its complement, whose range is no larger.
+use Rattle.number.proofs.Signed.{complement-fits, complement-plain, size-fits, size-told, plain-fits}
+use borrow.Author.Needs.{needs}
 use Rattle.number.proofs.magnitude.Statement.{statement}
 use Rattle.number.proofs.magnitude.Tie as tie
 
-cast-z : tie.Need-cast-z
-cast-z c = widens (c .fits .v)
-
 sub-result : tie.Need-sub-result
-sub-result c = rw (wide (c .before .fits .v)) (difference-fits {a = pos 0} (record { sfits = lit< tt }) (c .before .fits .v))
+sub-result c = search complement-fits
 
 cast-result : tie.Need-cast-result
-cast-result c =
-    rw (toZ-ofZ (sub-result c), wide (c .before .fits .v))
-    (below-zero (c .before .args .v) (c .before .fits .v) (rw (wide (c .before .fits .v)) at (c .if1 .taken)))
+cast-result c = complement-plain (c .before .fits .v) (c .if1 .taken)
+
+add-result : tie.Need-add-result
+add-result c = search size-fits
 
 returns : tie.Need-returns
-returns c = rw (toZ-ofZ (sub-result c), wide (c .before .fits .v)) (abs-minus (c .before .args .v))
+returns c = search size-told
 
 cast-result-2 : tie.Need-cast-result-2
-cast-result-2 c =
-    rw (wide (c .before .fits .v))
-    (above-zero (c .before .args .v) (c .before .fits .v) (rw (wide (c .before .fits .v)) at (c .if1 .left)))
+cast-result-2 c = plain-fits (c .before .fits .v) (c .if1 .left)
 
 returns-2 : tie.Need-returns-2
-returns-2 c = rw (wide (c .before .fits .v))
+returns-2 c = search needs
 
 pub magnitude-spec : {M : Type 1} → statement M
-magnitude-spec = tie.close (tie.spec cast-z sub-result cast-result returns cast-result-2 returns-2)
+magnitude-spec =
+    tie.close (tie.spec sub-result cast-result add-result returns cast-result-2 returns-2)

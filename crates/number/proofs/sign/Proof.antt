@@ -1,11 +1,5 @@
--- sign gives the amount its sign, and narrow decides its range.
-use mathlib.Core.Path.{_≡_}
-use native.Mathlib.Omega.{arith}
-use lib.IntN.{pos, negℤ, +ℤ-idl}
-use mir.Syntax.{w64}
-use mir.Val.{toZ}
-use mir.Facts.{toZ-pos, toZ-ofZ}
-use Rattle.number.proofs.Signed.{minus-fits}
+-- sign compares the amount with the two ends of the range.
+use Rattle.number.proofs.Products.{minus-fits, amount-minus, amount-plain, amount-least, amount-fault}
 use borrow.Author.Needs.{needs}
 use Rattle.number.proofs.sign.Statement.{statement}
 use Rattle.number.proofs.sign.Tie as tie
@@ -13,26 +7,23 @@ use Rattle.number.proofs.sign.Tie as tie
 cast-z : tie.Need-cast-z
 cast-z c = search needs
 
-read-back : (c : tie.Start) → toZ w64 (c .args .amount) ≡ pos (c .args .amount)
-read-back c = toZ-pos w64 (omega arith)
-
-sub-narrow : tie.Need-sub-narrow
-sub-narrow c = rw (read-back (c .before)) (minus-fits _ (c .before .pre))
-
-narrow-requires : tie.Need-narrow-requires
-narrow-requires c κs = search needs
+sub-t6 : tie.Need-sub-t6
+sub-t6 c = search minus-fits
 
 returns : tie.Need-returns
-returns c =
-    rw (c .before .if1 .taken)
-    (rw (toZ-ofZ (sub-narrow (c .before)), read-back (c .before .before), +ℤ-idl (negℤ (pos (c .before .before .args .amount)))) at (c .narrow .ensures))
-
-narrow-requires-2 : tie.Need-narrow-requires-2
-narrow-requires-2 c κs = search needs
+returns c = search amount-minus
 
 returns-2 : tie.Need-returns-2
-returns-2 c = rw (c .before .if1 .left) (rw (read-back (c .before .before)) at (c .narrow2 .ensures))
+returns-2 c = search amount-plain
+
+add-if3 : tie.Need-add-if3
+add-if3 c = search needs
+
+returns-3 : tie.Need-returns-3
+returns-3 c = search amount-least
+
+returns-4 : tie.Need-returns-4
+returns-4 c = search amount-fault
 
 pub sign-spec : {M : Type 1} → statement M
-sign-spec =
-    tie.close (tie.spec cast-z sub-narrow narrow-requires returns narrow-requires-2 returns-2)
+sign-spec = tie.close (tie.spec cast-z sub-t6 returns returns-2 add-if3 returns-3 returns-4)

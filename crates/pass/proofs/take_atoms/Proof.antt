@@ -3,6 +3,7 @@
 use Prim.Native.Nat.{_-_}
 use borrow.Author.Needs.{needs}
 use lib.ListN.{length}
+use Rattle.atom.proofs.Atoms.{atom-by-brackets}
 use Rattle.pass.proofs.Pieces.{Taking, taking-begins, taking-goes-on, taking-falls, taking-delimiter, taking-fails, taking-ends}
 use Rattle.pass.proofs.take_atoms.Statement.{statement}
 use Rattle.pass.proofs.take_atoms.Tie as tie
@@ -35,13 +36,13 @@ next-atom-requires : tie.Need-next-atom-requires Inv-loop μ-loop
 next-atom-requires c κs = search needs
 
 returns-2 : tie.Need-returns-2 Inv-loop μ-loop
-returns-2 c = search (taking-fails, needs)
+returns-2 c = search (taking-fails, atom-by-brackets, needs)
 
 loop-less : tie.Need-loop-less Inv-loop μ-loop
 loop-less c = search (taking-falls, needs)
 
 loop-again : tie.Need-loop-again Inv-loop μ-loop
-loop-again c = search (taking-goes-on, needs)
+loop-again c = search (taking-goes-on, atom-by-brackets, needs)
 
 returns-3 : tie.Need-returns-3 Inv-loop μ-loop
 returns-3 c = search (taking-ends, needs)

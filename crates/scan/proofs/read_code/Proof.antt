@@ -7,28 +7,20 @@ use Rattle.scan.proofs.read_code.Tie as tie
 returns : tie.Need-returns
 returns c = search (code-past, needs)
 
-read-line-requires : tie.Need-read-line-requires
-read-line-requires c κs = search needs
+shared-slice-read-begins-marked : tie.Need-shared-slice-read-begins-marked
+shared-slice-read-begins-marked c = search needs
 
-begins-with-requires : tie.Need-begins-with-requires
-begins-with-requires c κs = search needs
+begins-marked-requires : tie.Need-begins-marked-requires
+begins-marked-requires c κs = search needs
 
 returns-2 : tie.Need-returns-2
-returns-2 c = search code-ends
+returns-2 c = search (code-ends, needs)
 
-find-byte-requires : tie.Need-find-byte-requires
-find-byte-requires c κs = search needs
+read-content-requires : tie.Need-read-content-requires
+read-content-requires c κs = search needs
 
 returns-3 : tie.Need-returns-3
-returns-3 c = search code-more
+returns-3 c = search (code-more, needs)
 
 pub read-code-spec : {M : Type 1} → statement M
-read-code-spec =
-    tie.close
-    (tie.spec
-    returns
-    read-line-requires
-    begins-with-requires
-    returns-2
-    find-byte-requires
-    returns-3)
+read-code-spec = tie.close (tie.spec returns shared-slice-read-begins-marked begins-marked-requires returns-2 read-content-requires returns-3)

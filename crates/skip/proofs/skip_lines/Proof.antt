@@ -1,5 +1,6 @@
 -- skip_lines skips as many lines as the value says, unless it is negative.
-use Rattle.skip.proofs.Skipping.{skips-negative, skip-fits, skips-lines}
+use Rattle.number.proofs.Signed.{plain-fits}
+use Rattle.skip.proofs.Skipping.{skips-negative, skips-lines}
 use borrow.Author.Needs.{needs}
 use Rattle.skip.proofs.skip_lines.Statement.{statement}
 use Rattle.skip.proofs.skip_lines.Tie as tie
@@ -11,7 +12,7 @@ returns : tie.Need-returns
 returns c = search (skips-negative, needs)
 
 cast-land-skip : tie.Need-cast-land-skip
-cast-land-skip c = skip-fits (c .before .before .fits .v) (c .if1 .left)
+cast-land-skip c = plain-fits (c .before .before .fits .v) (c .if1 .left)
 
 land-skip-requires : tie.Need-land-skip-requires
 land-skip-requires c κs = search needs

@@ -18,7 +18,7 @@ use ghost.Atoms.{Atoms}
 use contract.Monad.{Fun, factI}
 use contract.Running.{givenOf, tables, tablesOf}
 use types.Kit as Kit
-use types.Kit.{Given, ‵, raw, _⊛_, _$_, _∵_, ! }
+use types.Kit.{Given, ‵, raw, _∵_, ! }
 use types.Run as Run
 use types.Part as Part
 use sound.WpLaws.{FmC, fmOf}
@@ -97,95 +97,89 @@ module _ {M : Type 1} (𝓤 : URA M) (H : Heap 𝓤) (A : Atoms 𝓤) (W : Given
     walk-check is-text is-nodes =
         Kit.qed W (raw (alive 𝓤 H A f-check.signature (κ₀, (κ₁, tt)) (q₀, (q₁, tt))) ∷ ‵ (owns (T-text ∷ T-nodes ∷ []) (text, (nodes, tt))
         (v-text ∷ [], (v-nodes ∷ [], tt))) ∷ []) ∵
-        Kit.move ! (1 ∷ []) $ Kit.fsplit ! $ Kit.move ! (1 ∷ []) $ Kit.fsplit ! $ Kit.move ! (1 ∷ []) $ Kit.drop ! $ Kit.move ! (2 ∷ []) $
-        Kit.use1 W (‵ (flft κ₀ q₀) ⊛ (‵ (flft κ₁ q₁) ⊛ (raw (emp 𝓤)))) (id⊢ 𝓤 _) $ Kit.split ! $ Kit.move ! (1 ∷ []) $ Kit.split ! $
-        Kit.move ! (1 ∷ []) $ Kit.drop ! $ Run.enter ! C Λ code.function (v-text ∷ v-nodes ∷ []) Post $
+        Walk.move ! (1 ∷ []) (Walk.hears W (Walk.stays (T-text .own text (v-text ∷ [])) ∷ Walk.stays (T-nodes .own nodes (v-nodes ∷ [])) ∷ []) ! (
+        Walk.move ! (2 ∷ []) (Walk.tokens-out W ((κ₀, q₀) ∷ (κ₁, q₁) ∷ []) ! (id⊢ 𝓤 _) (Walk.enter ! C Λ code.function (v-text ∷ v-nodes ∷ []) Post (
         Run.alloc1 ! (λ l₀. Run.alloc1 ! (λ l₁. Run.alloc1 ! (λ l₂. Run.alloc1 ! (λ l₃. Run.alloc1 ! (λ l₄.
         let E : Env 𝓤 H = Walk.at-addresses (code.function .locals) (l₀ ∷ l₁ ∷ l₂ ∷ l₃ ∷ l₄ ∷ []) in
-        Kit.move ! (8 ∷ 9 ∷ 6 ∷ 7 ∷ 4 ∷ 5 ∷ 2 ∷ 3 ∷ 0 ∷ 1 ∷ []) $
+        Walk.move ! (8 ∷ 8 ∷ 6 ∷ 6 ∷ 4 ∷ 4 ∷ 2 ∷ 2 ∷ 0 ∷ 0 ∷ []) (
         Walk.gathers ! (Walk.bare Checked-L.mir l₀ ∷ Walk.bare Y-text l₁ ∷ Walk.bare Y-nodes l₂ ∷ Walk.bare tyBool l₃ ∷ Walk.bare (tyInt w64) l₄ ∷
-        []) (‵ (flft κ₁ q₁) ∷ ‵ (flft κ₀ q₀) ∷ ‵ (T-nodes .own nodes (sliceVal (nodes .ptr) (length (nodes .now)) ∷ [])) ∷
+        []) (‵ (flft κ₀ q₀) ∷ ‵ (flft κ₁ q₁) ∷ ‵ (T-nodes .own nodes (sliceVal (nodes .ptr) (length (nodes .now)) ∷ [])) ∷
         ‵ (T-text .own text (sliceVal (text .ptr) (length (text .now)) ∷ [])) ∷ []) (λ Fd ed.
-        Run.alloc0 ! $ Run.params1 ! $ Run.pass1 ! (Run.init ! 1 refl (shr-slice-lawful 𝓤 H A W (named 0) κ₀ (UInt w8) .typed text _ is-text .0)) $
-        Run.pass1 ! (Run.init ! 2 refl (mut-slice-lawful 𝓤 H A W (named 1) κ₁ Node-T.the-row .typed nodes _ is-nodes .0)) $ Run.pass0 ! $
-        Run.assigns ! (Run.of-opd ! (Run.load ! (Run.from ! (Run.fld ! refl (Run.stop !))) (Part.look-in ! 2 (Part.sub ! 1 refl (Part.whole !)))))
-        (Run.from ! (Run.stop !)) (Run.init ! 4 refl ((tt, record { fits = is-nodes .0 .1 .0 }))) $
-        -- [the locals; their ends; κ₁; κ₀; nodes; text]
+        Walk.allocated ! (Walk.after-result ! (
+        Walk.pass ! (Run.init ! 1 refl (shr-slice-lawful 𝓤 H A W (named 0) κ₀ (UInt w8) .typed text _ is-text .0)) (
+        Walk.pass ! (Run.init ! 2 refl (mut-slice-lawful 𝓤 H A W (named 1) κ₁ Node-T.the-row .typed nodes _ is-nodes .0)) (Walk.passed ! (
+        Walk.sets ! (Run.of-opd ! (Walk.part ! 2 refl refl refl)) (Run.init ! 4 refl ((tt, record { fits = is-nodes .0 .1 .0 }))) (
+        -- [the locals; their ends; κ₀; κ₁; nodes; text]
         -- call 1: is_short (length (nodes .now))
-        Walk.nothing ! $
-        Kit.use0 W (‵ ((UInt w64) .own (length (nodes .now)) ((vint w64 (length (nodes .now))) ∷ [])))
-        (uint-makes 𝓤 H A W w64 (length (nodes .now)) _ (refl, is-nodes .0 .1 .0)) $
-        Kit.fjoin ! $ Walk.nothing-raw ! $ Kit.use1 W (raw (alive 𝓤 H A g-is-short.signature tt tt)) (id⊢ 𝓤 _) $
-        Walk.asks ! fm g-is-short.ended (g-is-short.clauses 𝓤 H A mem run)
+        Walk.gives W (Walk.made ((UInt w64) .own (length (nodes .now)) ((vint w64 (length (nodes .now))) ∷ []))
+        (uint-makes 𝓤 H A W w64 (length (nodes .now)) _ (refl, is-nodes .0 .1 .0)) ∷ []) _ ! (
+        Walk.tokens-in W ([]) _ ! (alive 𝓤 H A g-is-short.signature tt tt) (id⊢ 𝓤 _) (
+        Walk.asks W ! fm g-is-short.ended (g-is-short.clauses 𝓤 H A mem run)
         ((tt, tt, tt, ((length (nodes .now)), tt), ((vint w64 (length (nodes .now))) ∷ [], tt)), tt) _ (known-is-short ((tt, tt, tt, ((length (nodes .now)), tt), ((vint w64 (length (nodes .now))) ∷ [], tt)), tt)) (id⊢ 𝓤 (emp 𝓤)) (λ r ws. id⊢ 𝓤 _)
-        (Run.and-then ! (Run.load ! (Run.from ! (Run.stop !)) (Run.look ! 5 refl)) (Run.no-more !)) (λ u1 r1 is1′ e1.
-        Kit.use1 W (raw (emp 𝓤)) (id⊢ 𝓤 _) $ Kit.drop ! $ Kit.drop ! $
-        Run.land ! (Run.from ! (Run.stop !)) (Run.init ! 3 refl (bool-lawful 𝓤 H A W .typed r1 _ is1′ .0)) $
-        Kit.rewrite ! 3 (λ (w : Val). ‵ (fat fullShare tyBool l₃ 0 w)) (ap only (bool-tells r1 _ is1′)) refl $
+        (Run.and-then ! (Walk.local ! 5 refl) (Run.no-more !)) (λ u1 r1 is1′ e1.
+        Walk.tokens-out W ([]) ! (id⊢ 𝓤 _) (
+        Walk.lands-in ! (Walk.init-as ! 3 refl (bool-lawful 𝓤 H A W .typed r1 _ is1′ .0) (ap only (bool-tells r1 _ is1′))) (
         let is1 : Is Boolean r1 ((vbool r1) ∷ []) = subst (λ (vs : List Val). Is Boolean r1 vs) (bool-tells r1 _ is1′) is1′ in
         Walk.written-out ! (‵ (froom Checked-L.mir l₀ 0) ∷ ‵ (fat fullShare Y-text l₁ 0 (sliceVal (text .ptr) (length (text .now)))) ∷
         ‵ (fat fullShare Y-nodes l₂ 0 (sliceVal (nodes .ptr) (length (nodes .now)))) ∷ ‵ (fat fullShare tyBool l₃ 0 (vbool r1)) ∷
-        ‵ (fat fullShare (tyInt w64) l₄ 0 (vint w64 (length (nodes .now)))) ∷ ‵ Fd ∷ ‵ (flft κ₁ q₁) ∷ ‵ (flft κ₀ q₀) ∷
+        ‵ (fat fullShare (tyInt w64) l₄ 0 (vint w64 (length (nodes .now)))) ∷ ‵ Fd ∷ ‵ (flft κ₀ q₀) ∷ ‵ (flft κ₁ q₁) ∷
         ‵ (T-nodes .own nodes (sliceVal (nodes .ptr) (length (nodes .now)) ∷ [])) ∷ ‵ (T-text .own text (sliceVal (text .ptr) (length (text .now)) ∷
-        [])) ∷ []) refl $
-        Walk.first-then ! $ Run.branches ! (Run.load ! (Run.from ! (Run.stop !)) (Run.look ! 3 refl))
+        [])) ∷ []) refl (
+        Walk.first-then ! (Run.branches ! (Walk.local ! 3 refl)
         (λ h1. let t1 : r1 ≡ true = Walk.is-true _ h1 in
         let made1 : Checked = record { number = 1; line = 0 } in
         let is-made1 : Is Checked-T.the-row made1 ((Checked-L.lowered made1) ∷
         []) = LL.owes Checked-T.the-type Checked-L.the-laws made1 ((refl, lit< tt), ((refl, lit< tt), tt)) in
-        Run.assigns ! (Part.agg ! (Run.and-then ! (Run.lit ! tt) (Run.and-then ! (Run.lit ! tt) (Run.no-more !)))) (Run.from ! (Run.stop !))
-        (Run.init ! 0 refl (LL.lawful Checked-T.the-type Checked-L.the-laws 𝓤 H A W .typed made1 _ is-made1 .0)) $
-        Run.returns-within ! Post (Walk.through 𝓤 H C Λ E _ _ Post refl) (Run.look ! 0 refl) $
+        Walk.sets ! (Part.agg ! (Run.and-then ! (Run.lit ! tt) (Run.and-then ! (Run.lit ! tt) (Run.no-more !))))
+        (Run.init ! 0 refl (LL.lawful Checked-T.the-type Checked-L.the-laws 𝓤 H A W .typed made1 _ is-made1 .0)) (
+        Walk.returns-by ! Post (Walk.through 𝓤 H C Λ E _ _ Post refl) (Run.look ! 0 refl) (
         Walk.frees-gathered ! (Walk.full Checked-L.mir l₀ (Checked-L.lowered made1) ∷ Walk.full Y-text l₁ (sliceVal (text .ptr)
         (length (text .now))) ∷ Walk.full Y-nodes l₂ (sliceVal (nodes .ptr) (length (nodes .now))) ∷ Walk.full tyBool l₃ (vbool r1) ∷
-        Walk.full (tyInt w64) l₄ (vint w64 (length (nodes .now))) ∷ []) Fd ed (‵ (flft κ₁ q₁) ∷ ‵ (flft κ₀ q₀) ∷
+        Walk.full (tyInt w64) l₄ (vint w64 (length (nodes .now))) ∷ []) Fd ed (‵ (flft κ₀ q₀) ∷ ‵ (flft κ₁ q₁) ∷
         ‵ (T-nodes .own nodes (sliceVal (nodes .ptr) (length (nodes .now)) ∷ [])) ∷ ‵ (T-text .own text (sliceVal (text .ptr) (length (text .now)) ∷
-        [])) ∷ []) $
-        Kit.use0 W (‵ (Checked-T.the-row .own made1 ((Checked-L.lowered made1) ∷ [])))
-        (LL.makes Checked-T.the-type Checked-L.the-plain 𝓤 H A made1 _ is-made1) $
-        Kit.move ! (3 ∷ []) $
-        Kit.use1 W (‵ (finally Node-T.the-row (nodes .name) (nodes .now)))
-        (Walk.ended-slice 𝓤 H A W (named 1) κ₁ Node-T.the-row nodes (nodes .now) _) $
-        Walk.nothing ! $ Kit.move ! (1 ∷ 0 ∷ []) $ Kit.fjoin ! $ Walk.nothing ! $ Kit.fjoin ! $ Walk.nothing-raw ! $ Kit.move ! (3 ∷ 0 ∷ []) $
-        Kit.join ! $ Kit.move ! (3 ∷ 0 ∷ []) $ Kit.join ! $ Kit.use1 W (raw (alive 𝓤 H A f-check.signature (κ₀, (κ₁, tt)) (q₀, (q₁, tt)))) (id⊢ 𝓤 _) $
-        Kit.keep ! (0 ∷ 1 ∷ 2 ∷ []) $
-        Kit.by ! (Walk.leave-by 𝓤 H A W f-check.ended (f-check.clauses 𝓤 H A mem run) stayed-check bound (Checked-L.lowered made1) made1 (tt, ((nodes .now), tt)) (tt, (refl, tt)) (factI 𝓤 _ (emp 𝓤) (check-short _ _ e1 t1))))
+        [])) ∷ []) (
+        Walk.move ! (2 ∷ []) (
+        Walk.gives W (Walk.nothing ∷ Walk.turned (T-nodes .own nodes (sliceVal (nodes .ptr) (length (nodes .now)) ∷ []))
+        (finally Node-T.the-row (nodes .name) (nodes .now)) (Walk.ended-slice 𝓤 H A W (named 1) κ₁ Node-T.the-row nodes (nodes .now) _) ∷ []) _ ! (
+        Walk.move ! (1 ∷ 1 ∷ []) (
+        Walk.tokens-in W ((κ₀, q₀) ∷ (κ₁, q₁) ∷ []) _ ! (alive 𝓤 H A f-check.signature (κ₀, (κ₁, tt)) (q₀, (q₁, tt))) (id⊢ 𝓤 _) (
+        Walk.use0 W ! (‵ (Checked-T.the-row .own made1 ((Checked-L.lowered made1) ∷ [])))
+        (LL.makes Checked-T.the-type Checked-L.the-plain 𝓤 H A made1 _ is-made1) (
+        Walk.keep ! (1 ∷ 1 ∷ 0 ∷ []) (
+        Kit.by ! (Walk.leave-by 𝓤 H A W f-check.ended (f-check.clauses 𝓤 H A mem run) stayed-check bound (Checked-L.lowered made1) made1 (tt, ((nodes .now), tt)) (tt, (refl, tt)) (factI 𝓤 _ (emp 𝓤) (check-short _ _ e1 t1)))))))))))))
         (λ h1. let t1 : r1 ≡ false = Walk.is-false _ h1 in
-        Walk.skips-then ! $
-        -- [the locals; their ends; κ₁; κ₀; nodes; text]
+        Walk.skips-then ! (
+        -- [the locals; their ends; κ₀; κ₁; nodes; text]
         -- call 2: check_in (text)
-        Walk.nothing ! $ Kit.move ! (10 ∷ []) $
-        Kit.use1 W (‵ (T-text .own text (v-text ∷ [])) ⊛ ‵ (T-text .own text (v-text ∷ [])))
-        (shr-slice-copy 𝓤 H A W (named 0) κ₀ (UInt w8) .twice text _) $ Kit.split ! $
-        Kit.move ! (0 ∷ 2 ∷ []) $ Kit.fjoin ! $ Walk.nothing-raw ! $ Kit.move ! (10 ∷ 0 ∷ []) $ Kit.join ! $
-        Kit.use1 W (raw (alive 𝓤 H A g-check-in.signature (κ₀, tt) (q₀, tt))) (id⊢ 𝓤 _) $
-        Walk.asks ! fm g-check-in.ended (g-check-in.clauses 𝓤 H A mem run)
+        Walk.move ! (9 ∷ []) (
+        Walk.gives W (Walk.copied (T-text .own text (v-text ∷ [])) (shr-slice-copy 𝓤 H A W (named 0) κ₀ (UInt w8) .twice text _) ∷ []) _ ! (
+        Walk.move ! (8 ∷ []) (Walk.tokens-in W ((κ₀, q₀) ∷ []) _ ! (alive 𝓤 H A g-check-in.signature (κ₀, tt) (q₀, tt)) (id⊢ 𝓤 _) (
+        Walk.asks W ! fm g-check-in.ended (g-check-in.clauses 𝓤 H A mem run)
         (((κ₀, tt), (q₀, tt), tt, (text, tt), (v-text ∷ [], tt)), tt) _ (known-check-in (((κ₀, tt), (q₀, tt), tt, (text, tt), (v-text ∷ [], tt)), tt)) (id⊢ 𝓤 (emp 𝓤)) (λ r ws. id⊢ 𝓤 _)
-        (Run.and-then ! (Run.load ! (Run.from ! (Run.stop !)) (Run.look ! 3 refl)) (Run.no-more !)) (λ u2 r2 is2′ e2.
-        Kit.use1 W (‵ (flft κ₀ q₀) ⊛ (raw (emp 𝓤))) (id⊢ 𝓤 _) $ Kit.split ! $ Kit.move ! (1 ∷ []) $ Kit.drop ! $ Kit.move ! (1 ∷ []) $ Kit.drop ! $
-        Run.land ! (Run.from ! (Run.stop !)) (Run.init ! 2 refl (LL.lawful Checked-T.the-type Checked-L.the-laws 𝓤 H A W .typed r2 _ is2′ .0)) $
-        Kit.rewrite ! 2 (λ (w : Val). ‵ (fat fullShare Checked-L.mir l₀ 0 w))
-        (ap only (LL.tells Checked-T.the-type Checked-L.the-laws r2 _ is2′)) refl $
+        (Run.and-then ! (Walk.local ! 3 refl) (Run.no-more !)) (λ u2 r2 is2′ e2.
+        Walk.tokens-out W ((κ₀, q₀) ∷ []) ! (id⊢ 𝓤 _) (
+        Walk.lands-in ! (Walk.init-as ! 2 refl (LL.lawful Checked-T.the-type Checked-L.the-laws 𝓤 H A W .typed r2 _ is2′ .0)
+        (ap only (LL.tells Checked-T.the-type Checked-L.the-laws r2 _ is2′))) (
         let is2 : Is Checked-T.the-row r2 ((Checked-L.lowered r2) ∷ []) = subst (λ (vs : List Val). Is Checked-T.the-row r2 vs)
         (LL.tells Checked-T.the-type Checked-L.the-laws r2 _ is2′) is2′ in
         Walk.written-out ! (‵ (flft κ₀ q₀) ∷ ‵ (T-text .own text (sliceVal (text .ptr) (length (text .now)) ∷ [])) ∷
         ‵ (fat fullShare Checked-L.mir l₀ 0 (Checked-L.lowered r2)) ∷ ‵ (fat fullShare Y-text l₁ 0 (sliceVal (text .ptr) (length (text .now)))) ∷
         ‵ (fat fullShare Y-nodes l₂ 0 (sliceVal (nodes .ptr) (length (nodes .now)))) ∷ ‵ (fat fullShare tyBool l₃ 0 (vbool r1)) ∷
         ‵ (fat fullShare (tyInt w64) l₄ 0 (vint w64 (length (nodes .now)))) ∷ ‵ Fd ∷ ‵ (flft κ₁ q₁) ∷ ‵ (T-nodes .own nodes (sliceVal (nodes .ptr)
-        (length (nodes .now)) ∷ [])) ∷ []) refl $
-        Run.returns-within ! Post refl (Run.look ! 2 refl) $ Kit.move ! (2 ∷ 3 ∷ 4 ∷ 5 ∷ 6 ∷ 7 ∷ []) $
+        (length (nodes .now)) ∷ [])) ∷ []) refl (
+        Walk.returns-by ! Post refl (Run.look ! 2 refl) (Walk.move ! (2 ∷ 2 ∷ 2 ∷ 2 ∷ 2 ∷ 2 ∷ []) (
         Walk.frees-gathered ! (Walk.full Checked-L.mir l₀ (Checked-L.lowered r2) ∷ Walk.full Y-text l₁ (sliceVal (text .ptr) (length (text .now))) ∷
         Walk.full Y-nodes l₂ (sliceVal (nodes .ptr) (length (nodes .now))) ∷ Walk.full tyBool l₃ (vbool r1) ∷
         Walk.full (tyInt w64) l₄ (vint w64 (length (nodes .now))) ∷ []) Fd ed (‵ (flft κ₀ q₀) ∷ ‵ (T-text .own text (sliceVal (text .ptr)
-        (length (text .now)) ∷ [])) ∷ ‵ (flft κ₁ q₁) ∷ ‵ (T-nodes .own nodes (sliceVal (nodes .ptr) (length (nodes .now)) ∷ [])) ∷ []) $
-        Kit.use0 W (‵ (Checked-T.the-row .own r2 ((Checked-L.lowered r2) ∷ []))) (LL.makes Checked-T.the-type Checked-L.the-plain 𝓤 H A r2 _ is2) $
-        Kit.move ! (4 ∷ []) $
-        Kit.use1 W (‵ (finally Node-T.the-row (nodes .name) (nodes .now)))
-        (Walk.ended-slice 𝓤 H A W (named 1) κ₁ Node-T.the-row nodes (nodes .now) _) $
-        Walk.nothing ! $ Kit.move ! (1 ∷ 0 ∷ []) $ Kit.fjoin ! $ Walk.nothing ! $ Kit.fjoin ! $ Walk.nothing-raw ! $ Kit.move ! (5 ∷ 0 ∷ []) $
-        Kit.join ! $ Kit.move ! (3 ∷ 0 ∷ []) $ Kit.join ! $ Kit.use1 W (raw (alive 𝓤 H A f-check.signature (κ₀, (κ₁, tt)) (q₀, (q₁, tt)))) (id⊢ 𝓤 _) $
-        Kit.keep ! (0 ∷ 1 ∷ 2 ∷ []) $
-        Kit.by ! (Walk.leave-by 𝓤 H A W f-check.ended (f-check.clauses 𝓤 H A mem run) stayed-check bound (Checked-L.lowered r2) r2 (tt, ((nodes .now), tt)) (tt, (refl, tt)) (factI 𝓤 _ (emp 𝓤) (check-legal _ _ e1 t1 e2))))))))))))
+        (length (text .now)) ∷ [])) ∷ ‵ (flft κ₁ q₁) ∷ ‵ (T-nodes .own nodes (sliceVal (nodes .ptr) (length (nodes .now)) ∷ [])) ∷ []) (
+        Walk.move ! (3 ∷ []) (
+        Walk.gives W (Walk.nothing ∷ Walk.turned (T-nodes .own nodes (sliceVal (nodes .ptr) (length (nodes .now)) ∷ []))
+        (finally Node-T.the-row (nodes .name) (nodes .now)) (Walk.ended-slice 𝓤 H A W (named 1) κ₁ Node-T.the-row nodes (nodes .now) _) ∷ []) _ ! (
+        Walk.move ! (1 ∷ 2 ∷ []) (
+        Walk.tokens-in W ((κ₀, q₀) ∷ (κ₁, q₁) ∷ []) _ ! (alive 𝓤 H A f-check.signature (κ₀, (κ₁, tt)) (q₀, (q₁, tt))) (id⊢ 𝓤 _) (
+        Walk.use0 W ! (‵ (Checked-T.the-row .own r2 ((Checked-L.lowered r2) ∷ []))) (LL.makes Checked-T.the-type Checked-L.the-plain 𝓤 H A r2 _ is2) (
+        Walk.keep ! (1 ∷ 1 ∷ 0 ∷ []) (
+        Kit.by ! (Walk.leave-by 𝓤 H A W f-check.ended (f-check.clauses 𝓤 H A mem run) stayed-check bound (Checked-L.lowered r2) r2 (tt, ((nodes .now), tt)) (tt, (refl, tt)) (factI 𝓤 _ (emp 𝓤) (check-legal _ _ e1 t1 e2)))))))))))))))))))))))))))))))))))))))))))))))
 
 pub check-spec : {M : Type 1} → stated.statement M
 unfolding code.routine tablesOf

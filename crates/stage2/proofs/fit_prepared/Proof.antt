@@ -19,9 +19,8 @@ use ghost.Atoms.{Atoms}
 use contract.Monad.{Fun, factI}
 use contract.Running.{givenOf, tables, tablesOf}
 use types.Kit as Kit
-use types.Kit.{Given, ‵, raw, _⊛_, _$_, _∵_, ! }
+use types.Kit.{Given, ‵, raw, _∵_, ! }
 use types.Run as Run
-use types.Part as Part
 use sound.WpLaws.{FmC, fmOf}
 use denote.RattleType.{RattleType, owns}
 use denote.Laws.{Is}
@@ -121,47 +120,41 @@ module _ {M : Type 1} (𝓤 : URA M) (H : Heap 𝓤) (A : Atoms 𝓤) (W : Given
         Kit.qed W (raw (alive 𝓤 H A f-fit-prepared.signature (κ₀, (κ₁, (κ₂, tt))) (q₀, (q₁, (q₂, tt)))) ∷ ‵ (owns (T-text ∷ T-nodes ∷
         Tables-T.the-row ∷ T-line ∷ []) (text, (nodes, (t, (line, tt))))
         (v-text ∷ [], (v-nodes ∷ [], ((LL.val Tables-T.the-type Tables-L.the-laws t) ∷ [], (v-line ∷ [], tt))))) ∷ []) ∵
-        Kit.move ! (1 ∷ []) $ Kit.fsplit ! $ Kit.move ! (1 ∷ []) $ Kit.fsplit ! $ Kit.move ! (1 ∷ []) $ Kit.fsplit ! $ Kit.drop ! $ Kit.fsplit ! $
-        Kit.move ! (1 ∷ []) $ Kit.drop ! $ Kit.move ! (3 ∷ []) $
-        Kit.use1 W (‵ (flft κ₀ q₀) ⊛ (‵ (flft κ₁ q₁) ⊛ (‵ (flft κ₂ q₂) ⊛ (raw (emp 𝓤))))) (id⊢ 𝓤 _) $ Kit.split ! $ Kit.move ! (1 ∷ []) $
-        Kit.split ! $ Kit.move ! (1 ∷ []) $ Kit.split ! $ Kit.move ! (1 ∷ []) $ Kit.drop ! $
-        Run.enter ! C Λ code.function (v-text ∷ v-nodes ∷ (LL.val Tables-T.the-type Tables-L.the-laws t) ∷ v-line ∷ []) Post $
+        Walk.move ! (1 ∷ []) (
+        Walk.hears W (Walk.stays (T-text .own text (v-text ∷ [])) ∷ Walk.stays (T-nodes .own nodes (v-nodes ∷ [])) ∷
+        Walk.gone (Tables-T.the-row .own t ((LL.val Tables-T.the-type Tables-L.the-laws t) ∷ [])) ∷ Walk.stays (T-line .own line (v-line ∷ [])) ∷
+        []) ! (
+        Walk.move ! (3 ∷ []) (Walk.tokens-out W ((κ₀, q₀) ∷ (κ₁, q₁) ∷ (κ₂, q₂) ∷ []) ! (id⊢ 𝓤 _) (
+        Walk.enter ! C Λ code.function (v-text ∷ v-nodes ∷ (LL.val Tables-T.the-type Tables-L.the-laws t) ∷ v-line ∷ []) Post (
         Run.alloc1 ! (λ l₀. Run.alloc1 ! (λ l₁. Run.alloc1 ! (λ l₂. Run.alloc1 ! (λ l₃. Run.alloc1 ! (λ l₄. Run.alloc1 ! (λ l₅. Run.alloc1 ! (λ l₆. Run.alloc1 ! (λ l₇. Run.alloc1 ! (λ l₈.
         let E : Env 𝓤 H = Walk.at-addresses (code.function .locals) (l₀ ∷ l₁ ∷ l₂ ∷ l₃ ∷ l₄ ∷ l₅ ∷ l₆ ∷ l₇ ∷ l₈ ∷ []) in
-        Kit.move ! (16 ∷ 17 ∷ 14 ∷ 15 ∷ 12 ∷ 13 ∷ 10 ∷ 11 ∷ 8 ∷ 9 ∷ 6 ∷ 7 ∷ 4 ∷ 5 ∷ 2 ∷ 3 ∷ 0 ∷ 1 ∷ []) $
+        Walk.move ! (16 ∷ 16 ∷ 14 ∷ 14 ∷ 12 ∷ 12 ∷ 10 ∷ 10 ∷ 8 ∷ 8 ∷ 6 ∷ 6 ∷ 4 ∷ 4 ∷ 2 ∷ 2 ∷ 0 ∷ 0 ∷ []) (
         Walk.gathers ! (Walk.bare Fitted-L.mir l₀ ∷ Walk.bare Y-text l₁ ∷ Walk.bare Y-nodes l₂ ∷ Walk.bare Tables-L.mir l₃ ∷ Walk.bare Y-line l₄ ∷
-        Walk.bare Loading-L.mir l₅ ∷ Walk.bare (tyInt w64) l₆ ∷ Walk.bare Choice-L.mir l₇ ∷ Walk.bare tyBool l₈ ∷ []) (‵ (flft κ₂ q₂) ∷
-        ‵ (flft κ₁ q₁) ∷ ‵ (flft κ₀ q₀) ∷ ‵ (T-line .own line (sliceVal (line .ptr) (length (line .now)) ∷ [])) ∷
+        Walk.bare Loading-L.mir l₅ ∷ Walk.bare (tyInt w64) l₆ ∷ Walk.bare Choice-L.mir l₇ ∷ Walk.bare tyBool l₈ ∷ []) (‵ (flft κ₀ q₀) ∷
+        ‵ (flft κ₁ q₁) ∷ ‵ (flft κ₂ q₂) ∷ ‵ (T-line .own line (sliceVal (line .ptr) (length (line .now)) ∷ [])) ∷
         ‵ (T-nodes .own nodes (sliceVal (nodes .ptr) (length (nodes .now)) ∷ [])) ∷ ‵ (T-text .own text (sliceVal (text .ptr) (length (text .now)) ∷
         [])) ∷ []) (λ Fd ed.
-        Run.alloc0 ! $ Run.params1 ! $ Run.pass1 ! (Run.init ! 1 refl (shr-slice-lawful 𝓤 H A W (named 0) κ₀ (UInt w8) .typed text _ is-text .0)) $
-        Run.pass1 ! (Run.init ! 2 refl (shr-slice-lawful 𝓤 H A W (named 1) κ₁ Node-T.the-row .typed nodes _ is-nodes .0)) $
-        Run.pass1 ! (Run.init ! 3 refl (LL.lawful Tables-T.the-type Tables-L.the-laws 𝓤 H A W .typed t _ is-t .0)) $
-        Run.pass1 ! (Run.init ! 4 refl (shr-slice-lawful 𝓤 H A W (named 2) κ₂ (UInt w8) .typed line _ is-line .0)) $ Run.pass0 ! $
-        Run.assigns ! (Run.of-opd ! (Run.load ! (Run.from ! (Run.fld ! refl (Run.stop !))) (Part.look-in ! 3 (Part.sub ! 0 refl (Part.whole !)))))
-        (Run.from ! (Run.stop !))
-        (Run.init ! 5 refl (LL.lawful Loading-T.the-type Loading-L.the-laws 𝓤 H A W .typed (t .loading) _ (LL.owed Tables-T.the-type Tables-L.the-laws t _ is-t .0) .0)) $
-        Run.assigns ! (Run.bin ! (Run.load ! (Run.from ! (Run.fld ! refl (Run.stop !))) (Part.look-in ! 5 (Part.sub ! 0 refl (Part.whole !))))
-        (Run.lit ! tt) tt) (Run.from ! (Run.stop !)) (Run.init ! 8 refl ((tt, tt))) $
-        Walk.first-then ! $ Run.branches ! (Run.load ! (Run.from ! (Run.stop !)) (Run.look ! 8 refl))
+        Walk.allocated ! (Walk.after-result ! (
+        Walk.pass ! (Run.init ! 1 refl (shr-slice-lawful 𝓤 H A W (named 0) κ₀ (UInt w8) .typed text _ is-text .0)) (
+        Walk.pass ! (Run.init ! 2 refl (shr-slice-lawful 𝓤 H A W (named 1) κ₁ Node-T.the-row .typed nodes _ is-nodes .0)) (
+        Walk.pass ! (Run.init ! 3 refl (LL.lawful Tables-T.the-type Tables-L.the-laws 𝓤 H A W .typed t _ is-t .0)) (
+        Walk.pass ! (Run.init ! 4 refl (shr-slice-lawful 𝓤 H A W (named 2) κ₂ (UInt w8) .typed line _ is-line .0)) (Walk.passed ! (
+        Walk.sets ! (Run.of-opd ! (Walk.part ! 3 refl refl refl))
+        (Run.init ! 5 refl (LL.lawful Loading-T.the-type Loading-L.the-laws 𝓤 H A W .typed (t .loading) _ (LL.owed Tables-T.the-type Tables-L.the-laws t _ is-t .0) .0)) (
+        Walk.sets ! (Run.bin ! (Walk.part ! 5 refl refl refl) (Run.lit ! tt) tt) (Run.init ! 8 refl ((tt, tt))) (Walk.first-then ! (
+        Run.branches ! (Walk.local ! 8 refl)
         (λ h1. let t1 : (not (eqb ((t .loading) .number) 0)) ≡ true = Walk.is-true _ h1 in
-        -- [the locals; their ends; κ₂; κ₁; κ₀; line; nodes; text]
+        -- [the locals; their ends; κ₀; κ₁; κ₂; line; nodes; text]
         -- call 1: no_pieces ((t .loading) .number, (t .loading) .line)
-        Walk.nothing ! $
-        Kit.use0 W (‵ ((UInt w64) .own ((t .loading) .line) ((vint w64 ((t .loading) .line)) ∷ [])))
-        (uint-makes 𝓤 H A W w64 ((t .loading) .line) _ (refl, LL.owed Loading-T.the-type Loading-L.the-laws (t .loading) _ (LL.owed Tables-T.the-type Tables-L.the-laws t _ is-t .0) .1 .0 .1)) $
-        Kit.fjoin ! $
-        Kit.use0 W (‵ ((UInt w64) .own ((t .loading) .number) ((vint w64 ((t .loading) .number)) ∷ [])))
-        (uint-makes 𝓤 H A W w64 ((t .loading) .number) _ (refl, LL.owed Loading-T.the-type Loading-L.the-laws (t .loading) _ (LL.owed Tables-T.the-type Tables-L.the-laws t _ is-t .0) .0 .1)) $
-        Kit.fjoin ! $ Walk.nothing-raw ! $ Kit.use1 W (raw (alive 𝓤 H A g-no-pieces.signature tt tt)) (id⊢ 𝓤 _) $
-        Walk.asks ! fm g-no-pieces.ended (g-no-pieces.clauses 𝓤 H A mem run)
+        Walk.gives W (Walk.made ((UInt w64) .own ((t .loading) .number) ((vint w64 ((t .loading) .number)) ∷ []))
+        (uint-makes 𝓤 H A W w64 ((t .loading) .number) _ (refl, LL.owed Loading-T.the-type Loading-L.the-laws (t .loading) _ (LL.owed Tables-T.the-type Tables-L.the-laws t _ is-t .0) .0 .1)) ∷ Walk.made ((UInt w64) .own ((t .loading) .line) ((vint w64 ((t .loading) .line)) ∷ [])) (uint-makes 𝓤 H A W w64 ((t .loading) .line) _ (refl, LL.owed Loading-T.the-type Loading-L.the-laws (t .loading) _ (LL.owed Tables-T.the-type Tables-L.the-laws t _ is-t .0) .1 .0 .1)) ∷ []) _ ! (
+        Walk.tokens-in W ([]) _ ! (alive 𝓤 H A g-no-pieces.signature tt tt) (id⊢ 𝓤 _) (
+        Walk.asks W ! fm g-no-pieces.ended (g-no-pieces.clauses 𝓤 H A mem run)
         ((tt, tt, tt, (((t .loading) .number), (((t .loading) .line), tt)), ((vint w64 ((t .loading) .number)) ∷ [], ((vint w64 ((t .loading) .line)) ∷ [], tt))), tt) _ (known-no-pieces ((tt, tt, tt, (((t .loading) .number), (((t .loading) .line), tt)), ((vint w64 ((t .loading) .number)) ∷ [], ((vint w64 ((t .loading) .line)) ∷ [], tt))), tt)) (id⊢ 𝓤 (emp 𝓤)) (λ r ws. id⊢ 𝓤 _)
-        (Run.and-then ! (Run.load ! (Run.from ! (Run.fld ! refl (Run.stop !))) (Part.look-in ! 6 (Part.sub ! 0 refl (Part.whole !))))
-        (Run.and-then ! (Run.load ! (Run.from ! (Run.fld ! refl (Run.stop !))) (Part.look-in ! 6 (Part.sub ! 1 refl (Part.whole !))))
-        (Run.no-more !))) (λ u1 r1 is1′ e1.
-        Kit.use1 W (raw (emp 𝓤)) (id⊢ 𝓤 _) $ Kit.drop ! $ Kit.drop ! $
-        Run.land ! (Run.from ! (Run.stop !)) (Run.init ! 0 refl (LL.lawful Fitted-T.the-type Fitted-L.the-laws 𝓤 H A W .typed r1 _ is1′ .0)) $
-        Kit.rewrite ! 0 (λ (w : Val). ‵ (fat fullShare Fitted-L.mir l₀ 0 w)) (ap only (LL.tells Fitted-T.the-type Fitted-L.the-laws r1 _ is1′)) refl $
+        (Run.and-then ! (Walk.part ! 6 refl refl refl) (Run.and-then ! (Walk.part ! 6 refl refl refl) (Run.no-more !))) (λ u1 r1 is1′ e1.
+        Walk.tokens-out W ([]) ! (id⊢ 𝓤 _) (
+        Walk.lands-in ! (Walk.init-as ! 0 refl (LL.lawful Fitted-T.the-type Fitted-L.the-laws 𝓤 H A W .typed r1 _ is1′ .0)
+        (ap only (LL.tells Fitted-T.the-type Fitted-L.the-laws r1 _ is1′))) (
         let is1 : Is Fitted-T.the-row r1 ((LL.val Fitted-T.the-type Fitted-L.the-laws r1) ∷
         []) = subst (λ (vs : List Val). Is Fitted-T.the-row r1 vs) (LL.tells Fitted-T.the-type Fitted-L.the-laws r1 _ is1′) is1′ in
         Walk.written-out ! (‵ (fat fullShare Fitted-L.mir l₀ 0 (LL.val Fitted-T.the-type Fitted-L.the-laws r1)) ∷
@@ -169,41 +162,39 @@ module _ {M : Type 1} (𝓤 : URA M) (H : Heap 𝓤) (A : Atoms 𝓤) (W : Given
         (length (nodes .now)))) ∷ ‵ (fat fullShare Tables-L.mir l₃ 0 (LL.val Tables-T.the-type Tables-L.the-laws t)) ∷
         ‵ (fat fullShare Y-line l₄ 0 (sliceVal (line .ptr) (length (line .now)))) ∷
         ‵ (fat fullShare Loading-L.mir l₅ 0 (Loading-L.lowered (t .loading))) ∷ ‵ (froom (tyInt w64) l₆ 0) ∷ ‵ (froom Choice-L.mir l₇ 0) ∷
-        ‵ (fat fullShare tyBool l₈ 0 (vbool (not (eqb ((t .loading) .number) 0)))) ∷ ‵ Fd ∷ ‵ (flft κ₂ q₂) ∷ ‵ (flft κ₁ q₁) ∷ ‵ (flft κ₀ q₀) ∷
+        ‵ (fat fullShare tyBool l₈ 0 (vbool (not (eqb ((t .loading) .number) 0)))) ∷ ‵ Fd ∷ ‵ (flft κ₀ q₀) ∷ ‵ (flft κ₁ q₁) ∷ ‵ (flft κ₂ q₂) ∷
         ‵ (T-line .own line (sliceVal (line .ptr) (length (line .now)) ∷ [])) ∷ ‵ (T-nodes .own nodes (sliceVal (nodes .ptr) (length (nodes .now)) ∷
-        [])) ∷ ‵ (T-text .own text (sliceVal (text .ptr) (length (text .now)) ∷ [])) ∷ []) refl $
-        Run.returns-within ! Post (Walk.through 𝓤 H C Λ E _ _ Post refl) (Run.look ! 0 refl) $
+        [])) ∷ ‵ (T-text .own text (sliceVal (text .ptr) (length (text .now)) ∷ [])) ∷ []) refl (
+        Walk.returns-by ! Post (Walk.through 𝓤 H C Λ E _ _ Post refl) (Run.look ! 0 refl) (
         Walk.frees-gathered ! (Walk.full Fitted-L.mir l₀ (LL.val Fitted-T.the-type Fitted-L.the-laws r1) ∷ Walk.full Y-text l₁ (sliceVal (text .ptr)
         (length (text .now))) ∷ Walk.full Y-nodes l₂ (sliceVal (nodes .ptr) (length (nodes .now))) ∷
         Walk.full Tables-L.mir l₃ (LL.val Tables-T.the-type Tables-L.the-laws t) ∷ Walk.full Y-line l₄ (sliceVal (line .ptr) (length (line .now))) ∷
         Walk.full Loading-L.mir l₅ (Loading-L.lowered (t .loading)) ∷ Walk.bare (tyInt w64) l₆ ∷ Walk.bare Choice-L.mir l₇ ∷
-        Walk.full tyBool l₈ (vbool (not (eqb ((t .loading) .number) 0))) ∷ []) Fd ed (‵ (flft κ₂ q₂) ∷ ‵ (flft κ₁ q₁) ∷ ‵ (flft κ₀ q₀) ∷
+        Walk.full tyBool l₈ (vbool (not (eqb ((t .loading) .number) 0))) ∷ []) Fd ed (‵ (flft κ₀ q₀) ∷ ‵ (flft κ₁ q₁) ∷ ‵ (flft κ₂ q₂) ∷
         ‵ (T-line .own line (sliceVal (line .ptr) (length (line .now)) ∷ [])) ∷ ‵ (T-nodes .own nodes (sliceVal (nodes .ptr) (length (nodes .now)) ∷
-        [])) ∷ ‵ (T-text .own text (sliceVal (text .ptr) (length (text .now)) ∷ [])) ∷ []) $
-        Kit.use0 W (‵ (Fitted-T.the-row .own r1 ((LL.val Fitted-T.the-type Fitted-L.the-laws r1) ∷ [])))
-        (LL.makes Fitted-T.the-type Fitted-L.the-plain 𝓤 H A r1 _ is1) $
-        Walk.nothing-raw ! $ Kit.move ! (2 ∷ 0 ∷ []) $ Kit.join ! $ Kit.move ! (2 ∷ 0 ∷ []) $ Kit.join ! $ Kit.move ! (2 ∷ 0 ∷ []) $ Kit.join ! $
-        Kit.use1 W (raw (alive 𝓤 H A f-fit-prepared.signature (κ₀, (κ₁, (κ₂, tt))) (q₀, (q₁, (q₂, tt))))) (id⊢ 𝓤 _) $ Kit.keep ! (0 ∷ 1 ∷ []) $
-        Kit.by ! (Walk.leave 𝓤 H A W f-fit-prepared.ended (f-fit-prepared.clauses 𝓤 H A mem run) bound (LL.val Fitted-T.the-type Fitted-L.the-laws r1) r1 (tt, (tt, (tt, (tt, tt)))) (factI 𝓤 _ (emp 𝓤) (fit-refused _ pre (eqb-false _ _ (not-true _ t1)) e1)))))
+        [])) ∷ ‵ (T-text .own text (sliceVal (text .ptr) (length (text .now)) ∷ [])) ∷ []) (
+        Walk.tokens-in W ((κ₀, q₀) ∷ (κ₁, q₁) ∷ (κ₂, q₂) ∷ []) _ ! (alive 𝓤 H A f-fit-prepared.signature (κ₀, (κ₁, (κ₂, tt))) (q₀, (q₁, (q₂, tt))))
+        (id⊢ 𝓤 _) (
+        Walk.use0 W ! (‵ (Fitted-T.the-row .own r1 ((LL.val Fitted-T.the-type Fitted-L.the-laws r1) ∷ [])))
+        (LL.makes Fitted-T.the-type Fitted-L.the-plain 𝓤 H A r1 _ is1) (
+        Walk.keep ! (1 ∷ 0 ∷ []) (
+        Kit.by ! (Walk.leave 𝓤 H A W f-fit-prepared.ended (f-fit-prepared.clauses 𝓤 H A mem run) bound (LL.val Fitted-T.the-type Fitted-L.the-laws r1) r1 (tt, (tt, (tt, (tt, tt)))) (factI 𝓤 _ (emp 𝓤) (fit-refused _ pre (eqb-false _ _ (not-true _ t1)) e1)))))))))))))))
         (λ h1. let t1 : (not (eqb ((t .loading) .number) 0)) ≡ false = Walk.is-false _ h1 in
-        Walk.skips-then ! $
-        Run.assigns ! (Run.of-opd ! (Run.load ! (Run.from ! (Run.fld ! refl (Run.stop !))) (Part.look-in ! 4 (Part.sub ! 1 refl (Part.whole !)))))
-        (Run.from ! (Run.stop !)) (Run.init ! 6 refl ((tt, record { fits = is-line .0 .1 .0 }))) $
-        Run.assigns ! (Run.bin ! (Run.lit ! tt) (Run.load ! (Run.from ! (Run.stop !)) (Run.look ! 6 refl)) tt) (Run.from ! (Run.stop !))
-        (Run.store ! 8 refl ((tt, tt))) $
-        Walk.first-then ! $ Run.branches ! (Run.load ! (Run.from ! (Run.stop !)) (Run.look ! 8 refl))
+        Walk.skips-then ! (Walk.sets ! (Run.of-opd ! (Walk.part ! 4 refl refl refl)) (Run.init ! 6 refl ((tt, record { fits = is-line .0 .1 .0 }))) (
+        Walk.sets ! (Run.bin ! (Run.lit ! tt) (Walk.local ! 6 refl) tt) (Run.store ! 8 refl ((tt, tt))) (Walk.first-then ! (
+        Run.branches ! (Walk.local ! 8 refl)
         (λ h2. let t2 : (ltb 200 (length (line .now))) ≡ true = Walk.is-true _ h2 in
-        -- [the locals; their ends; κ₂; κ₁; κ₀; line; nodes; text]
+        -- [the locals; their ends; κ₀; κ₁; κ₂; line; nodes; text]
         -- call 2: no_pieces (11, 0)
-        Walk.nothing ! $ Kit.use0 W (‵ ((UInt w64) .own 0 ((vint w64 0) ∷ []))) (uint-makes 𝓤 H A W w64 0 _ (refl, lit< tt)) $ Kit.fjoin ! $
-        Kit.use0 W (‵ ((UInt w64) .own 11 ((vint w64 11) ∷ []))) (uint-makes 𝓤 H A W w64 11 _ (refl, lit< tt)) $ Kit.fjoin ! $ Walk.nothing-raw ! $
-        Kit.use1 W (raw (alive 𝓤 H A g-no-pieces.signature tt tt)) (id⊢ 𝓤 _) $
-        Walk.asks ! fm g-no-pieces.ended (g-no-pieces.clauses 𝓤 H A mem run)
+        Walk.gives W (Walk.made ((UInt w64) .own 11 ((vint w64 11) ∷ [])) (uint-makes 𝓤 H A W w64 11 _ (refl, lit< tt)) ∷
+        Walk.made ((UInt w64) .own 0 ((vint w64 0) ∷ [])) (uint-makes 𝓤 H A W w64 0 _ (refl, lit< tt)) ∷ []) _ ! (
+        Walk.tokens-in W ([]) _ ! (alive 𝓤 H A g-no-pieces.signature tt tt) (id⊢ 𝓤 _) (
+        Walk.asks W ! fm g-no-pieces.ended (g-no-pieces.clauses 𝓤 H A mem run)
         ((tt, tt, tt, (11, (0, tt)), ((vint w64 11) ∷ [], ((vint w64 0) ∷ [], tt))), tt) _ (known-no-pieces ((tt, tt, tt, (11, (0, tt)), ((vint w64 11) ∷ [], ((vint w64 0) ∷ [], tt))), tt)) (id⊢ 𝓤 (emp 𝓤)) (λ r ws. id⊢ 𝓤 _)
         (Run.and-then ! (Run.lit ! tt) (Run.and-then ! (Run.lit ! tt) (Run.no-more !))) (λ u2 r2 is2′ e2.
-        Kit.use1 W (raw (emp 𝓤)) (id⊢ 𝓤 _) $ Kit.drop ! $ Kit.drop ! $
-        Run.land ! (Run.from ! (Run.stop !)) (Run.init ! 0 refl (LL.lawful Fitted-T.the-type Fitted-L.the-laws 𝓤 H A W .typed r2 _ is2′ .0)) $
-        Kit.rewrite ! 0 (λ (w : Val). ‵ (fat fullShare Fitted-L.mir l₀ 0 w)) (ap only (LL.tells Fitted-T.the-type Fitted-L.the-laws r2 _ is2′)) refl $
+        Walk.tokens-out W ([]) ! (id⊢ 𝓤 _) (
+        Walk.lands-in ! (Walk.init-as ! 0 refl (LL.lawful Fitted-T.the-type Fitted-L.the-laws 𝓤 H A W .typed r2 _ is2′ .0)
+        (ap only (LL.tells Fitted-T.the-type Fitted-L.the-laws r2 _ is2′))) (
         let is2 : Is Fitted-T.the-row r2 ((LL.val Fitted-T.the-type Fitted-L.the-laws r2) ∷
         []) = subst (λ (vs : List Val). Is Fitted-T.the-row r2 vs) (LL.tells Fitted-T.the-type Fitted-L.the-laws r2 _ is2′) is2′ in
         Walk.written-out ! (‵ (fat fullShare Fitted-L.mir l₀ 0 (LL.val Fitted-T.the-type Fitted-L.the-laws r2)) ∷
@@ -211,54 +202,43 @@ module _ {M : Type 1} (𝓤 : URA M) (H : Heap 𝓤) (A : Atoms 𝓤) (W : Given
         (length (nodes .now)))) ∷ ‵ (fat fullShare Tables-L.mir l₃ 0 (LL.val Tables-T.the-type Tables-L.the-laws t)) ∷
         ‵ (fat fullShare Y-line l₄ 0 (sliceVal (line .ptr) (length (line .now)))) ∷
         ‵ (fat fullShare Loading-L.mir l₅ 0 (Loading-L.lowered (t .loading))) ∷ ‵ (fat fullShare (tyInt w64) l₆ 0 (vint w64 (length (line .now)))) ∷
-        ‵ (froom Choice-L.mir l₇ 0) ∷ ‵ (fat fullShare tyBool l₈ 0 (vbool (ltb 200 (length (line .now))))) ∷ ‵ Fd ∷ ‵ (flft κ₂ q₂) ∷
-        ‵ (flft κ₁ q₁) ∷ ‵ (flft κ₀ q₀) ∷ ‵ (T-line .own line (sliceVal (line .ptr) (length (line .now)) ∷ [])) ∷
+        ‵ (froom Choice-L.mir l₇ 0) ∷ ‵ (fat fullShare tyBool l₈ 0 (vbool (ltb 200 (length (line .now))))) ∷ ‵ Fd ∷ ‵ (flft κ₀ q₀) ∷
+        ‵ (flft κ₁ q₁) ∷ ‵ (flft κ₂ q₂) ∷ ‵ (T-line .own line (sliceVal (line .ptr) (length (line .now)) ∷ [])) ∷
         ‵ (T-nodes .own nodes (sliceVal (nodes .ptr) (length (nodes .now)) ∷ [])) ∷ ‵ (T-text .own text (sliceVal (text .ptr) (length (text .now)) ∷
-        [])) ∷ []) refl $
-        Run.returns-within ! Post (Walk.through 𝓤 H C Λ E _ _ Post refl) (Run.look ! 0 refl) $
+        [])) ∷ []) refl (
+        Walk.returns-by ! Post (Walk.through 𝓤 H C Λ E _ _ Post refl) (Run.look ! 0 refl) (
         Walk.frees-gathered ! (Walk.full Fitted-L.mir l₀ (LL.val Fitted-T.the-type Fitted-L.the-laws r2) ∷ Walk.full Y-text l₁ (sliceVal (text .ptr)
         (length (text .now))) ∷ Walk.full Y-nodes l₂ (sliceVal (nodes .ptr) (length (nodes .now))) ∷
         Walk.full Tables-L.mir l₃ (LL.val Tables-T.the-type Tables-L.the-laws t) ∷ Walk.full Y-line l₄ (sliceVal (line .ptr) (length (line .now))) ∷
         Walk.full Loading-L.mir l₅ (Loading-L.lowered (t .loading)) ∷ Walk.full (tyInt w64) l₆ (vint w64 (length (line .now))) ∷
-        Walk.bare Choice-L.mir l₇ ∷ Walk.full tyBool l₈ (vbool (ltb 200 (length (line .now)))) ∷ []) Fd ed (‵ (flft κ₂ q₂) ∷ ‵ (flft κ₁ q₁) ∷
-        ‵ (flft κ₀ q₀) ∷ ‵ (T-line .own line (sliceVal (line .ptr) (length (line .now)) ∷ [])) ∷ ‵ (T-nodes .own nodes (sliceVal (nodes .ptr)
-        (length (nodes .now)) ∷ [])) ∷ ‵ (T-text .own text (sliceVal (text .ptr) (length (text .now)) ∷ [])) ∷ []) $
-        Kit.use0 W (‵ (Fitted-T.the-row .own r2 ((LL.val Fitted-T.the-type Fitted-L.the-laws r2) ∷ [])))
-        (LL.makes Fitted-T.the-type Fitted-L.the-plain 𝓤 H A r2 _ is2) $
-        Walk.nothing-raw ! $ Kit.move ! (2 ∷ 0 ∷ []) $ Kit.join ! $ Kit.move ! (2 ∷ 0 ∷ []) $ Kit.join ! $ Kit.move ! (2 ∷ 0 ∷ []) $ Kit.join ! $
-        Kit.use1 W (raw (alive 𝓤 H A f-fit-prepared.signature (κ₀, (κ₁, (κ₂, tt))) (q₀, (q₁, (q₂, tt))))) (id⊢ 𝓤 _) $ Kit.keep ! (0 ∷ 1 ∷ []) $
-        Kit.by ! (Walk.leave 𝓤 H A W f-fit-prepared.ended (f-fit-prepared.clauses 𝓤 H A mem run) bound (LL.val Fitted-T.the-type Fitted-L.the-laws r2) r2 (tt, (tt, (tt, (tt, tt)))) (factI 𝓤 _ (emp 𝓤) (fit-long _ pre (eqb-true _ _ (not-false _ t1)) (ltb-true _ _ t2) e2)))))
+        Walk.bare Choice-L.mir l₇ ∷ Walk.full tyBool l₈ (vbool (ltb 200 (length (line .now)))) ∷ []) Fd ed (‵ (flft κ₀ q₀) ∷ ‵ (flft κ₁ q₁) ∷
+        ‵ (flft κ₂ q₂) ∷ ‵ (T-line .own line (sliceVal (line .ptr) (length (line .now)) ∷ [])) ∷ ‵ (T-nodes .own nodes (sliceVal (nodes .ptr)
+        (length (nodes .now)) ∷ [])) ∷ ‵ (T-text .own text (sliceVal (text .ptr) (length (text .now)) ∷ [])) ∷ []) (
+        Walk.tokens-in W ((κ₀, q₀) ∷ (κ₁, q₁) ∷ (κ₂, q₂) ∷ []) _ ! (alive 𝓤 H A f-fit-prepared.signature (κ₀, (κ₁, (κ₂, tt))) (q₀, (q₁, (q₂, tt))))
+        (id⊢ 𝓤 _) (
+        Walk.use0 W ! (‵ (Fitted-T.the-row .own r2 ((LL.val Fitted-T.the-type Fitted-L.the-laws r2) ∷ [])))
+        (LL.makes Fitted-T.the-type Fitted-L.the-plain 𝓤 H A r2 _ is2) (
+        Walk.keep ! (1 ∷ 0 ∷ []) (
+        Kit.by ! (Walk.leave 𝓤 H A W f-fit-prepared.ended (f-fit-prepared.clauses 𝓤 H A mem run) bound (LL.val Fitted-T.the-type Fitted-L.the-laws r2) r2 (tt, (tt, (tt, (tt, tt)))) (factI 𝓤 _ (emp 𝓤) (fit-long _ pre (eqb-true _ _ (not-false _ t1)) (ltb-true _ _ t2) e2)))))))))))))))
         (λ h2. let t2 : (ltb 200 (length (line .now))) ≡ false = Walk.is-false _ h2 in
-        Walk.skips-then ! $
-        -- [the locals; their ends; κ₂; κ₁; κ₀; line; nodes; text]
+        Walk.skips-then ! (
+        -- [the locals; their ends; κ₀; κ₁; κ₂; line; nodes; text]
         -- call 3: first_reading ((t .loading) .marks, nodes, line, length (line .now))
-        Walk.nothing ! $
-        Kit.use0 W (‵ ((UInt w64) .own (length (line .now)) ((vint w64 (length (line .now))) ∷ [])))
-        (uint-makes 𝓤 H A W w64 (length (line .now)) _ (refl, is-line .0 .1 .0)) $
-        Kit.fjoin ! $ Kit.move ! (14 ∷ []) $
-        Kit.use1 W (‵ (T-line .own line (v-line ∷ [])) ⊛ ‵ (T-line .own line (v-line ∷ [])))
-        (shr-slice-copy 𝓤 H A W (named 2) κ₂ (UInt w8) .twice line _) $ Kit.split ! $
-        Kit.move ! (0 ∷ 2 ∷ []) $ Kit.fjoin ! $ Kit.move ! (15 ∷ []) $
-        Kit.use1 W (‵ (T-nodes .own nodes (v-nodes ∷ [])) ⊛ ‵ (T-nodes .own nodes (v-nodes ∷ [])))
-        (shr-slice-copy 𝓤 H A W (named 1) κ₁ Node-T.the-row .twice nodes _) $ Kit.split ! $
-        Kit.move ! (0 ∷ 2 ∷ []) $ Kit.fjoin ! $
-        Kit.use0 W (‵ (Marks-T.the-row .own ((t .loading) .marks) ((Marks-L.lowered ((t .loading) .marks)) ∷ [])))
-        (LL.makes Marks-T.the-type Marks-L.the-plain 𝓤 H A ((t .loading) .marks) _ (LL.owed Loading-T.the-type Loading-L.the-laws (t .loading) _ (LL.owed Tables-T.the-type Tables-L.the-laws t _ is-t .0) .1 .1 .0)) $
-        Kit.fjoin ! $ Walk.nothing-raw ! $ Kit.move ! (14 ∷ 0 ∷ []) $ Kit.join ! $ Kit.move ! (14 ∷ 0 ∷ []) $ Kit.join ! $
-        Kit.use1 W (raw (alive 𝓤 H A g-first-reading.signature (κ₁, (κ₂, tt)) (q₁, (q₂, tt)))) (id⊢ 𝓤 _) $
-        Walk.asks ! fm g-first-reading.ended (g-first-reading.clauses 𝓤 H A mem run)
+        Walk.move ! (14 ∷ 13 ∷ []) (
+        Walk.gives W (Walk.made (Marks-T.the-row .own ((t .loading) .marks) ((Marks-L.lowered ((t .loading) .marks)) ∷ []))
+        (LL.makes Marks-T.the-type Marks-L.the-plain 𝓤 H A ((t .loading) .marks) _ (LL.owed Loading-T.the-type Loading-L.the-laws (t .loading) _ (LL.owed Tables-T.the-type Tables-L.the-laws t _ is-t .0) .1 .1 .0)) ∷ Walk.copied (T-nodes .own nodes (v-nodes ∷ [])) (shr-slice-copy 𝓤 H A W (named 1) κ₁ Node-T.the-row .twice nodes _) ∷ Walk.copied (T-line .own line (v-line ∷ [])) (shr-slice-copy 𝓤 H A W (named 2) κ₂ (UInt w8) .twice line _) ∷ Walk.made ((UInt w64) .own (length (line .now)) ((vint w64 (length (line .now))) ∷ [])) (uint-makes 𝓤 H A W w64 (length (line .now)) _ (refl, is-line .0 .1 .0)) ∷ []) _ ! (
+        Walk.move ! (14 ∷ 14 ∷ []) (
+        Walk.tokens-in W ((κ₁, q₁) ∷ (κ₂, q₂) ∷ []) _ ! (alive 𝓤 H A g-first-reading.signature (κ₁, (κ₂, tt)) (q₁, (q₂, tt))) (id⊢ 𝓤 _) (
+        Walk.asks W ! fm g-first-reading.ended (g-first-reading.clauses 𝓤 H A mem run)
         (((κ₁, (κ₂, tt)), (q₁, (q₂, tt)), tt, (((t .loading) .marks), (nodes, (line, ((length (line .now)), tt)))), ((Marks-L.lowered ((t .loading) .marks)) ∷ [], (v-nodes ∷ [], (v-line ∷ [], ((vint w64 (length (line .now))) ∷ [], tt))))), tt) _ (known-first-reading (((κ₁, (κ₂, tt)), (q₁, (q₂, tt)), tt, (((t .loading) .marks), (nodes, (line, ((length (line .now)), tt)))), ((Marks-L.lowered ((t .loading) .marks)) ∷ [], (v-nodes ∷ [], (v-line ∷ [], ((vint w64 (length (line .now))) ∷ [], tt))))), tt)) (factI 𝓤 _ (emp 𝓤) (asks-whole _ pre (eqb-true _ _ (not-false _ t1)) (ltb-false _ _ t2))) (λ r ws. id⊢ 𝓤 _)
-        (Run.and-then ! (Run.load ! (Run.from ! (Run.fld ! refl (Run.stop !))) (Part.look-in ! 8 (Part.sub ! 2 refl (Part.whole !))))
-        (Run.and-then ! (Run.load ! (Run.from ! (Run.stop !)) (Run.look ! 5 refl)) (Run.and-then ! (Run.load ! (Run.from ! (Run.stop !))
-        (Run.look ! 7 refl)) (Run.and-then ! (Run.load ! (Run.from ! (Run.stop !)) (Run.look ! 9 refl)) (Run.no-more !))))) (λ u3 r3 is3′ e3.
-        Kit.use1 W (‵ (flft κ₁ q₁) ⊛ (‵ (flft κ₂ q₂) ⊛ (raw (emp 𝓤)))) (id⊢ 𝓤 _) $ Kit.split ! $ Kit.move ! (1 ∷ []) $ Kit.split ! $
-        Kit.move ! (1 ∷ []) $ Kit.drop ! $ Kit.move ! (2 ∷ []) $ Kit.drop ! $
-        Run.land ! (Run.from ! (Run.stop !)) (Run.init ! 11 refl (LL.lawful Choice-T.the-type Choice-L.the-laws 𝓤 H A W .typed r3 _ is3′ .0)) $
-        Kit.rewrite ! 11 (λ (w : Val). ‵ (fat fullShare Choice-L.mir l₇ 0 w))
-        (ap only (LL.tells Choice-T.the-type Choice-L.the-laws r3 _ is3′)) refl $
+        (Run.and-then ! (Walk.part ! 8 refl refl refl) (Run.and-then ! (Walk.local ! 5 refl) (Run.and-then ! (Walk.local ! 7 refl)
+        (Run.and-then ! (Walk.local ! 9 refl) (Run.no-more !))))) (λ u3 r3 is3′ e3.
+        Walk.tokens-out W ((κ₁, q₁) ∷ (κ₂, q₂) ∷ []) ! (id⊢ 𝓤 _) (
+        Walk.lands-in ! (Walk.init-as ! 11 refl (LL.lawful Choice-T.the-type Choice-L.the-laws 𝓤 H A W .typed r3 _ is3′ .0)
+        (ap only (LL.tells Choice-T.the-type Choice-L.the-laws r3 _ is3′))) (
         let is3 : Is Choice-T.the-row r3 ((LL.val Choice-T.the-type Choice-L.the-laws r3) ∷
         []) = subst (λ (vs : List Val). Is Choice-T.the-row r3 vs) (LL.tells Choice-T.the-type Choice-L.the-laws r3 _ is3′) is3′ in
-        Walk.written-out ! (‵ (flft κ₂ q₂) ∷ ‵ (flft κ₁ q₁) ∷ ‵ (T-nodes .own nodes (sliceVal (nodes .ptr) (length (nodes .now)) ∷ [])) ∷
+        Walk.written-out ! (‵ (flft κ₁ q₁) ∷ ‵ (flft κ₂ q₂) ∷ ‵ (T-nodes .own nodes (sliceVal (nodes .ptr) (length (nodes .now)) ∷ [])) ∷
         ‵ (T-line .own line (sliceVal (line .ptr) (length (line .now)) ∷ [])) ∷ ‵ (froom Fitted-L.mir l₀ 0) ∷
         ‵ (fat fullShare Y-text l₁ 0 (sliceVal (text .ptr) (length (text .now)))) ∷ ‵ (fat fullShare Y-nodes l₂ 0 (sliceVal (nodes .ptr)
         (length (nodes .now)))) ∷ ‵ (fat fullShare Tables-L.mir l₃ 0 (LL.val Tables-T.the-type Tables-L.the-laws t)) ∷
@@ -266,26 +246,23 @@ module _ {M : Type 1} (𝓤 : URA M) (H : Heap 𝓤) (A : Atoms 𝓤) (W : Given
         ‵ (fat fullShare Loading-L.mir l₅ 0 (Loading-L.lowered (t .loading))) ∷ ‵ (fat fullShare (tyInt w64) l₆ 0 (vint w64 (length (line .now)))) ∷
         ‵ (fat fullShare Choice-L.mir l₇ 0 (LL.val Choice-T.the-type Choice-L.the-laws r3)) ∷
         ‵ (fat fullShare tyBool l₈ 0 (vbool (ltb 200 (length (line .now))))) ∷ ‵ Fd ∷ ‵ (flft κ₀ q₀) ∷ ‵ (T-text .own text (sliceVal (text .ptr)
-        (length (text .now)) ∷ [])) ∷ []) refl $
-        -- [κ₂; κ₁; nodes; line; the locals; their ends; κ₀; text]
+        (length (text .now)) ∷ [])) ∷ []) refl (
+        -- [κ₁; κ₂; nodes; line; the locals; their ends; κ₀; text]
         -- call 4: answer_choice (t, r3)
-        Walk.nothing ! $
-        Kit.use0 W (‵ (Choice-T.the-row .own r3 ((LL.val Choice-T.the-type Choice-L.the-laws r3) ∷ [])))
-        (LL.makes Choice-T.the-type Choice-L.the-plain 𝓤 H A r3 _ is3) $
-        Kit.fjoin ! $
-        Kit.use0 W (‵ (Tables-T.the-row .own t ((LL.val Tables-T.the-type Tables-L.the-laws t) ∷ [])))
-        (LL.makes Tables-T.the-type Tables-L.the-plain 𝓤 H A t _ is-t) $
-        Kit.fjoin ! $ Walk.nothing-raw ! $ Kit.use1 W (raw (alive 𝓤 H A g-answer-choice.signature tt tt)) (id⊢ 𝓤 _) $
-        Walk.asks ! fm g-answer-choice.ended (g-answer-choice.clauses 𝓤 H A mem run)
+        Walk.gives W (Walk.made (Tables-T.the-row .own t ((LL.val Tables-T.the-type Tables-L.the-laws t) ∷ []))
+        (LL.makes Tables-T.the-type Tables-L.the-plain 𝓤 H A t _ is-t) ∷
+        Walk.made (Choice-T.the-row .own r3 ((LL.val Choice-T.the-type Choice-L.the-laws r3) ∷ []))
+        (LL.makes Choice-T.the-type Choice-L.the-plain 𝓤 H A r3 _ is3) ∷ []) _ ! (
+        Walk.tokens-in W ([]) _ ! (alive 𝓤 H A g-answer-choice.signature tt tt) (id⊢ 𝓤 _) (
+        Walk.asks W ! fm g-answer-choice.ended (g-answer-choice.clauses 𝓤 H A mem run)
         ((tt, tt, tt, (t, (r3, tt)), ((LL.val Tables-T.the-type Tables-L.the-laws t) ∷ [], ((LL.val Choice-T.the-type Choice-L.the-laws r3) ∷ [], tt))), tt) _ (known-answer-choice ((tt, tt, tt, (t, (r3, tt)), ((LL.val Tables-T.the-type Tables-L.the-laws t) ∷ [], ((LL.val Choice-T.the-type Choice-L.the-laws r3) ∷ [], tt))), tt)) (factI 𝓤 _ (emp 𝓤) (template-within (line .now) pre (eqb-true _ _ (not-false _ t1)) e3)) (λ r ws. id⊢ 𝓤 _)
-        (Run.and-then ! (Run.load ! (Run.from ! (Run.stop !)) (Run.look ! 8 refl)) (Run.and-then ! (Run.load ! (Run.from ! (Run.stop !))
-        (Run.look ! 12 refl)) (Run.no-more !))) (λ u4 r4 is4′ e4.
-        Kit.use1 W (raw (emp 𝓤)) (id⊢ 𝓤 _) $ Kit.drop ! $ Kit.drop ! $
-        Run.land ! (Run.from ! (Run.stop !)) (Run.init ! 4 refl (LL.lawful Fitted-T.the-type Fitted-L.the-laws 𝓤 H A W .typed r4 _ is4′ .0)) $
-        Kit.rewrite ! 4 (λ (w : Val). ‵ (fat fullShare Fitted-L.mir l₀ 0 w)) (ap only (LL.tells Fitted-T.the-type Fitted-L.the-laws r4 _ is4′)) refl $
+        (Run.and-then ! (Walk.local ! 8 refl) (Run.and-then ! (Walk.local ! 12 refl) (Run.no-more !))) (λ u4 r4 is4′ e4.
+        Walk.tokens-out W ([]) ! (id⊢ 𝓤 _) (
+        Walk.lands-in ! (Walk.init-as ! 4 refl (LL.lawful Fitted-T.the-type Fitted-L.the-laws 𝓤 H A W .typed r4 _ is4′ .0)
+        (ap only (LL.tells Fitted-T.the-type Fitted-L.the-laws r4 _ is4′))) (
         let is4 : Is Fitted-T.the-row r4 ((LL.val Fitted-T.the-type Fitted-L.the-laws r4) ∷
         []) = subst (λ (vs : List Val). Is Fitted-T.the-row r4 vs) (LL.tells Fitted-T.the-type Fitted-L.the-laws r4 _ is4′) is4′ in
-        Walk.written-out ! (‵ (flft κ₂ q₂) ∷ ‵ (flft κ₁ q₁) ∷ ‵ (T-nodes .own nodes (sliceVal (nodes .ptr) (length (nodes .now)) ∷ [])) ∷
+        Walk.written-out ! (‵ (flft κ₁ q₁) ∷ ‵ (flft κ₂ q₂) ∷ ‵ (T-nodes .own nodes (sliceVal (nodes .ptr) (length (nodes .now)) ∷ [])) ∷
         ‵ (T-line .own line (sliceVal (line .ptr) (length (line .now)) ∷ [])) ∷
         ‵ (fat fullShare Fitted-L.mir l₀ 0 (LL.val Fitted-T.the-type Fitted-L.the-laws r4)) ∷ ‵ (fat fullShare Y-text l₁ 0 (sliceVal (text .ptr)
         (length (text .now)))) ∷ ‵ (fat fullShare Y-nodes l₂ 0 (sliceVal (nodes .ptr) (length (nodes .now)))) ∷
@@ -294,21 +271,23 @@ module _ {M : Type 1} (𝓤 : URA M) (H : Heap 𝓤) (A : Atoms 𝓤) (W : Given
         ‵ (fat fullShare (tyInt w64) l₆ 0 (vint w64 (length (line .now)))) ∷
         ‵ (fat fullShare Choice-L.mir l₇ 0 (LL.val Choice-T.the-type Choice-L.the-laws r3)) ∷
         ‵ (fat fullShare tyBool l₈ 0 (vbool (ltb 200 (length (line .now))))) ∷ ‵ Fd ∷ ‵ (flft κ₀ q₀) ∷ ‵ (T-text .own text (sliceVal (text .ptr)
-        (length (text .now)) ∷ [])) ∷ []) refl $
-        Run.returns-within ! Post refl (Run.look ! 4 refl) $ Kit.move ! (4 ∷ 5 ∷ 6 ∷ 7 ∷ 8 ∷ 9 ∷ 10 ∷ 11 ∷ 12 ∷ 13 ∷ []) $
+        (length (text .now)) ∷ [])) ∷ []) refl (
+        Walk.returns-by ! Post refl (Run.look ! 4 refl) (Walk.move ! (4 ∷ 4 ∷ 4 ∷ 4 ∷ 4 ∷ 4 ∷ 4 ∷ 4 ∷ 4 ∷ 4 ∷ []) (
         Walk.frees-gathered ! (Walk.full Fitted-L.mir l₀ (LL.val Fitted-T.the-type Fitted-L.the-laws r4) ∷ Walk.full Y-text l₁ (sliceVal (text .ptr)
         (length (text .now))) ∷ Walk.full Y-nodes l₂ (sliceVal (nodes .ptr) (length (nodes .now))) ∷
         Walk.full Tables-L.mir l₃ (LL.val Tables-T.the-type Tables-L.the-laws t) ∷ Walk.full Y-line l₄ (sliceVal (line .ptr) (length (line .now))) ∷
         Walk.full Loading-L.mir l₅ (Loading-L.lowered (t .loading)) ∷ Walk.full (tyInt w64) l₆ (vint w64 (length (line .now))) ∷
         Walk.full Choice-L.mir l₇ (LL.val Choice-T.the-type Choice-L.the-laws r3) ∷ Walk.full tyBool l₈ (vbool (ltb 200 (length (line .now)))) ∷
-        []) Fd ed (‵ (flft κ₂ q₂) ∷ ‵ (flft κ₁ q₁) ∷ ‵ (T-nodes .own nodes (sliceVal (nodes .ptr) (length (nodes .now)) ∷ [])) ∷
+        []) Fd ed (‵ (flft κ₁ q₁) ∷ ‵ (flft κ₂ q₂) ∷ ‵ (T-nodes .own nodes (sliceVal (nodes .ptr) (length (nodes .now)) ∷ [])) ∷
         ‵ (T-line .own line (sliceVal (line .ptr) (length (line .now)) ∷ [])) ∷ ‵ (flft κ₀ q₀) ∷ ‵ (T-text .own text (sliceVal (text .ptr)
-        (length (text .now)) ∷ [])) ∷ []) $
-        Kit.use0 W (‵ (Fitted-T.the-row .own r4 ((LL.val Fitted-T.the-type Fitted-L.the-laws r4) ∷ [])))
-        (LL.makes Fitted-T.the-type Fitted-L.the-plain 𝓤 H A r4 _ is4) $
-        Walk.nothing-raw ! $ Kit.move ! (2 ∷ 0 ∷ []) $ Kit.join ! $ Kit.move ! (2 ∷ 0 ∷ []) $ Kit.join ! $ Kit.move ! (4 ∷ 0 ∷ []) $ Kit.join ! $
-        Kit.use1 W (raw (alive 𝓤 H A f-fit-prepared.signature (κ₀, (κ₁, (κ₂, tt))) (q₀, (q₁, (q₂, tt))))) (id⊢ 𝓤 _) $ Kit.keep ! (0 ∷ 1 ∷ []) $
-        Kit.by ! (Walk.leave 𝓤 H A W f-fit-prepared.ended (f-fit-prepared.clauses 𝓤 H A mem run) bound (LL.val Fitted-T.the-type Fitted-L.the-laws r4) r4 (tt, (tt, (tt, (tt, tt)))) (factI 𝓤 _ (emp 𝓤) (fit-chosen _ pre (eqb-true _ _ (not-false _ t1)) e3 (ltb-false _ _ t2) e4)))))))))))))))))
+        (length (text .now)) ∷ [])) ∷ []) (
+        Walk.move ! (4 ∷ 0 ∷ 0 ∷ []) (
+        Walk.tokens-in W ((κ₀, q₀) ∷ (κ₁, q₁) ∷ (κ₂, q₂) ∷ []) _ ! (alive 𝓤 H A f-fit-prepared.signature (κ₀, (κ₁, (κ₂, tt))) (q₀, (q₁, (q₂, tt))))
+        (id⊢ 𝓤 _) (
+        Walk.use0 W ! (‵ (Fitted-T.the-row .own r4 ((LL.val Fitted-T.the-type Fitted-L.the-laws r4) ∷ [])))
+        (LL.makes Fitted-T.the-type Fitted-L.the-plain 𝓤 H A r4 _ is4) (
+        Walk.keep ! (1 ∷ 0 ∷ []) (
+        Kit.by ! (Walk.leave 𝓤 H A W f-fit-prepared.ended (f-fit-prepared.clauses 𝓤 H A mem run) bound (LL.val Fitted-T.the-type Fitted-L.the-laws r4) r4 (tt, (tt, (tt, (tt, tt)))) (factI 𝓤 _ (emp 𝓤) (fit-chosen _ pre (eqb-true _ _ (not-false _ t1)) e3 (ltb-false _ _ t2) e4)))))))))))))))))))))))))))))))))))))))))))))))))))))))))
 
 pub fit-prepared-spec : {M : Type 1} → stated.statement M
 unfolding code.routine tablesOf

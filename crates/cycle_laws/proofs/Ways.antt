@@ -39,7 +39,7 @@ use Rattle.matching.specs.Book.{Book, Prepared}
 use Rattle.matching.specs.Matches.{opened, Decides, Opened}
 use Rattle.matching.proofs.Matching.{reading-calls}
 use Rattle.cycle_laws.specs.Meets.{Meets, Advances}
-use Rattle.cycle_laws.proofs.Events.{offer-spent, no-call, too-deep, enters}
+use Rattle.cycle_laws.proofs.Events.{eventWith, offer-spent, no-call, too-deep, enters}
 
 -- ---- the measures: twice the fuel, and one more for a body
 
@@ -54,19 +54,9 @@ below-call h = omega arith
 
 -- ---- the states that follow one another
 
--- an event is counted
-counted-follows : {s : State} {o w : Bytes} → Sound s o w → 0 < s .fuel → Follows s o (countedEvent s) o w
-counted-follows h k = record {
-  sound = record { written = h .written; kept = h .kept; symbols = h .symbols; calls = omega (arith, h .calls); total = omega (arith, h .total) };
-  at = refl;
-  line = refl;
-  fuel = omega arith;
-  extends = extends-none (h .written);
-}
-
--- and a call opened with it
-called-follows : {s : State} {o w : Bytes} → Sound s o w → 0 < s .fuel → Follows s o (withCall (countedEvent s)) o w
-called-follows h k = record {
+-- an event is counted, and perhaps a call with it
+event-follows : {s : State} {o w : Bytes} (n : ℕ) → n ≤ s .calls + 1 → Sound s o w → 0 < s .fuel → Follows s o (eventWith n s) o w
+event-follows n few h k = record {
   sound = record { written = h .written; kept = h .kept; symbols = h .symbols; calls = omega (arith, h .calls); total = omega (arith, h .total) };
   at = refl;
   line = refl;
@@ -77,7 +67,7 @@ called-follows h k = record {
 -- ---- offering a line
 
 -- what is known where the line opens a call
-pub record Opens (q : Choice) (depth : ℕ) (s : State) (o : Bytes) (a : Answer) (o₁ : Bytes) : Type 0 where
+pub record EntersCall (q : Choice) (depth : ℕ) (s : State) (o : Bytes) (a : Answer) (o₁ : Bytes) : Type 0 where
   pub some-fuel : 0 < s .fuel
   pub found : q .found ≡ true
   pub shallow : ¬ (depth ≡ 12)
@@ -99,7 +89,7 @@ module _ {m : Marks} {text : Bytes} {row : List Node} {bodies : List ℕ} (line 
     -- the line has no reading
     offer-writes : {r : Answer} {o′ : Bytes} → q .found ≡ false → WritesLine line n (goesBack 0 (countedEvent s)) o r o′ → Meets m text row bodies (some (take n line)) [] depth s o w r o′ w
     offer-writes e p = record {
-      follows = follows-trans (counted-follows sound some-fuel) (wrote-follows refl (p .writes) (counted-follows sound some-fuel .sound));
+      follows = follows-trans (event-follows (s .calls) (omega arith) sound some-fuel) (wrote-follows refl (p .writes) (event-follows (s .calls) (omega arith) sound some-fuel .sound));
       left = wrote-left refl (p .writes);
       same = λ t b fs i nums bytes built. no-call (length o) m text t s o w (b .marks) some-fuel (take n line) fs (g .no-call e _ (b .fits))
           ∙ settle-same (s .fuel - 1) (length o) t _
@@ -110,7 +100,7 @@ module _ {m : Marks} {text : Bytes} {row : List Node} {bodies : List ℕ} (line 
     offer-deep : q .found ≡ true → depth ≡ 12 → Meets m text row bodies (some (take n line)) [] depth s o w (endsWith 14 (countedEvent s)) o w
     unfolding nextAt nextOf
     offer-deep e deep = record {
-      follows = counted-follows sound some-fuel;
+      follows = event-follows (s .calls) (omega arith) sound some-fuel;
       left = refl;
       same = λ t b fs i _ _ _. let c = g .call e (templates (t .macros)) (b .fits) in too-deep (length o) m text t s o w (b .marks) some-fuel (take n line) fs (c .reading) (c .is) (le-leb 12 (length fs) (omega arith))
           ∙ sym (halts-with (s .fuel - 1) (length o) t text 14 [] (countedEvent s) o w);
@@ -134,13 +124,13 @@ module _ {m : Marks} {text : Bytes} {row : List Node} {bodies : List ℕ} (line 
 
 module _ {line : Bytes} {n depth : ℕ} {s : State} {o : Bytes} {q : Choice} {a : Answer} {o₁ : Bytes} (d : Decides q line n depth s o a o₁) where
   -- a call is opened: there is fuel, a reading, and room for the call
-  pub offer-opens : isLeft (turn a) ≡ false → Opens q depth s o a o₁
+  pub offer-opens : isLeft (turn a) ≡ false → EntersCall q depth s o a o₁
   offer-opens e = by (eqb (s .fuel) 0) refl (q .found) refl (eqb depth 12) refl
     where
-      left : {x : Answer} → a ≡ x → isLeft (turn x) ≡ true → Opens q depth s o a o₁
+      left : {x : Answer} → a ≡ x → isLeft (turn x) ≡ true → EntersCall q depth s o a o₁
       left f h = false-not-true (sym e ∙ ap (λ (x : Answer). isLeft (turn x)) f ∙ h)
 
-      by : (spent : Bool) → eqb (s .fuel) 0 ≡ spent → (found : Bool) → q .found ≡ found → (deep : Bool) → eqb depth 12 ≡ deep → Opens q depth s o a o₁
+      by : (spent : Bool) → eqb (s .fuel) 0 ≡ spent → (found : Bool) → q .found ≡ found → (deep : Bool) → eqb depth 12 ≡ deep → EntersCall q depth s o a o₁
       by true f b _ _ _ = left (d .spent (eqb-true _ _ f) .0) refl
       by false f false b _ _ = left refl (wrote-left refl (d .writes (pos-of-ne-zero (eqb-false _ _ f)) b .writes))
       by false f true b true c = left (d .deep (pos-of-ne-zero (eqb-false _ _ f)) b (eqb-true _ _ c) .0) refl
@@ -149,7 +139,7 @@ module _ {line : Bytes} {n depth : ℕ} {s : State} {o : Bytes} {q : Choice} {a 
           let r = d .opens k b (eqb-false _ _ c) in
           record { some-fuel = k; found = b; shallow = eqb-false _ _ c; counted = ap (λ (x : Answer). x .state) (r .0); kept = r .1 }
 
-module _ {depth : ℕ} {s : State} {o w : Bytes} {q : Choice} {a : Answer} {o₁ : Bytes} (sound : Sound s o w) (k : Opens q depth s o a o₁) where
+module _ {depth : ℕ} {s : State} {o w : Bytes} {q : Choice} {a : Answer} {o₁ : Bytes} (sound : Sound s o w) (k : EntersCall q depth s o a o₁) where
   -- the last call's number
   pub calls-small : a .state .calls ≤ 1000000
   calls-small = omega (arith, sound .calls, sound .total, k .some-fuel, ap (λ (y : State). y .calls) (k .counted))
@@ -159,7 +149,7 @@ module _ {depth : ℕ} {s : State} {o w : Bytes} {q : Choice} {a : Answer} {o₁
     called = eu ∙ ap withCall (k .counted)
 
     pub called-sound : Sound u o₁ w
-    called-sound = subst (λ (y : State). Sound y o₁ w) (sym called) (subst (λ (y : Bytes). Sound (withCall (countedEvent s)) y w) (sym (k .kept)) (called-follows sound (k .some-fuel) .sound))
+    called-sound = subst (λ (y : State). Sound y o₁ w) (sym called) (subst (λ (y : Bytes). Sound (withCall (countedEvent s)) y w) (sym (k .kept)) (event-follows (s .calls + 1) (omega arith) sound (k .some-fuel) .sound))
 
     pub called-less : u .fuel < s .fuel
     called-less = omega (arith, k .some-fuel, ap (λ (y : State). y .fuel) called)
@@ -178,7 +168,7 @@ module _ {depth : ℕ} {s : State} {o w : Bytes} {q : Choice} {a : Answer} {o₁
           subst (λ (y : State). Meets m text row bodies none (openedOf m text c ∷ []) depth y o w r o′ w′) called
           (subst (λ (y : Bytes). Meets m text row bodies none (openedOf m text c ∷ []) depth u y w r o′ w′) (k .kept) p) in
           record {
-            follows = follows-trans (called-follows sound (k .some-fuel)) (x .follows);
+            follows = follows-trans (event-follows (s .calls + 1) (omega arith) sound (k .some-fuel)) (x .follows);
             left = x .left;
             same = λ t b fs i nums bytes built.
                 let z = reading-calls line n g (k .found) h text t b in
