@@ -1,11 +1,12 @@
 /* STAGE2 for name tables: check a text, fit a line against a text's templates, and run a text.
  *
  * Link with target/staticlib/libapi.a (x86-64 Linux), which `rt staticlib api` writes. The calls keep nothing between one and
- * the next, allocate nothing, and may run in several threads at once. A check and a fit need 128 KB of stack, a run 256 KB.
+ * the next, allocate nothing, and may run in several threads at once. A check and a fit need 128 KB of stack, a run 256 KB;
+ * the deepest search that was found takes 70 KB, and a run with it 168 KB.
  *
  * An array is passed as a pointer and a count of elements. No pointer may be NULL, not even with a count of 0. The arrays
- * that a call writes to, the node row, output and store, overlap neither each other nor the text or line. Nothing else is
- * asked: every content and every count has its answer.
+ * that a call writes to, the node row, the row of dead places, output and store, overlap neither each other nor the text or
+ * line. Nothing else is asked: every content and every count has its answer.
  */
 #ifndef STAGE2_H
 #define STAGE2_H
@@ -19,6 +20,11 @@ extern "C" {
 
 /* The least count of a node row. The calls use no more of it than this. */
 #define STAGE2_NODES 2048
+
+/* The least count of a row of dead places: a bit for each node at each position of a line. A place is a node together with a
+ * position in the line that is fitted; one that is found to lead nowhere is marked in this row and not taken up again. A caller
+ * only lends the row: what it holds before a call and after it means nothing. The calls use no more of it than this. */
+#define STAGE2_DEAD 51456
 
 /* The longest line that can be fitted. */
 #define STAGE2_LINE 200
@@ -52,6 +58,7 @@ typedef struct {
     uint64_t line;      /* number 0: the template's line in the text, 0 for no call. 1 to 9: the line of the fault */
     uint64_t start[9];  /* where each parameter's piece starts in the line, counted from 0 */
     uint64_t length[9]; /* and how many bytes it has */
+    uint64_t places;    /* number 0: how many places were taken up, at most the tree's nodes times (the line's count + 1) */
 } stage2_fitted;
 
 /* What a run gives. Fields that say nothing are 0. */
@@ -68,19 +75,22 @@ stage2_checked stage2_check(const uint8_t *text, size_t text_count,
                             stage2_node *nodes, size_t nodes_count);
 
 /* Fits a line, taken whole, against the templates of a text: the first of all its readings, or none. Bytes 0 and 10 and the
- * text's marks are bytes like any other. With fewer than STAGE2_NODES nodes the number is 1. Writes to the node row alone. */
+ * text's marks are bytes like any other. With fewer than STAGE2_NODES nodes or a row of dead places below STAGE2_DEAD the
+ * number is 1. Writes to these two rows alone. */
 stage2_fitted stage2_fit(const uint8_t *text, size_t text_count,
                          stage2_node *nodes, size_t nodes_count,
+                         uint8_t *dead, size_t dead_count,
                          const uint8_t *line, size_t line_count);
 
 /* Expands the input lines of a text, with at most so many events. The first bytes of the output are what is written; those of
  * the store are a line of the stored names, byte 0 between them, then a line for each text. All other bytes of both stay as
- * they were, and for numbers 1 to 9 all bytes do. With a fuel that is not 1 to STAGE2_FUEL, fewer than STAGE2_NODES nodes or
- * a store below STAGE2_STORE the number is 1. The output may have any count. A text need not be UTF-8: only where code counts,
- * values or takes apart characters do malformed bytes end the run, with 21. */
+ * they were, and for numbers 1 to 9 all bytes do. With a fuel that is not 1 to STAGE2_FUEL, fewer than STAGE2_NODES nodes, a
+ * row of dead places below STAGE2_DEAD or a store below STAGE2_STORE the number is 1. The output may have any count. A text
+ * need not be UTF-8: only where code counts, values or takes apart characters do malformed bytes end the run, with 21. */
 stage2_ran stage2_run(const uint8_t *text, size_t text_count,
                       uint64_t fuel,
                       stage2_node *nodes, size_t nodes_count,
+                      uint8_t *dead, size_t dead_count,
                       uint8_t *output, size_t output_count,
                       uint8_t *store, size_t store_count);
 

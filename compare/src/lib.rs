@@ -27,6 +27,7 @@ struct RawFitted {
     line: u64,
     start: [u64; 9],
     length: [u64; 9],
+    places: u64,
 }
 
 #[repr(C)]
@@ -46,6 +47,8 @@ extern "C" {
         text_count: usize,
         nodes: *mut Node,
         nodes_count: usize,
+        dead: *mut u8,
+        dead_count: usize,
         line: *const u8,
         line_count: usize,
     ) -> RawFitted;
@@ -55,6 +58,8 @@ extern "C" {
         fuel: u64,
         nodes: *mut Node,
         nodes_count: usize,
+        dead: *mut u8,
+        dead_count: usize,
         output: *mut u8,
         output_count: usize,
         store: *mut u8,
@@ -68,16 +73,32 @@ pub fn check(text: &[u8], nodes: &mut [Node]) -> Checked {
     Checked { number: raw.number, line: raw.line }
 }
 
-/// Fits a line against the templates of a text.
-pub fn fit(text: &[u8], nodes: &mut [Node], line: &[u8]) -> Fitted {
+/// Fits a line against the templates of a text. `dead` is the row of dead places.
+pub fn fit(text: &[u8], nodes: &mut [Node], dead: &mut [u8], line: &[u8]) -> Fitted {
     let raw = unsafe {
-        stage2_fit(text.as_ptr(), text.len(), nodes.as_mut_ptr(), nodes.len(), line.as_ptr(), line.len())
+        stage2_fit(
+            text.as_ptr(),
+            text.len(),
+            nodes.as_mut_ptr(),
+            nodes.len(),
+            dead.as_mut_ptr(),
+            dead.len(),
+            line.as_ptr(),
+            line.len(),
+        )
     };
-    Fitted { number: raw.number, line: raw.line, start: raw.start, length: raw.length }
+    Fitted { number: raw.number, line: raw.line, start: raw.start, length: raw.length, places: raw.places }
 }
 
 /// Runs a text.
-pub fn run(text: &[u8], fuel: u64, nodes: &mut [Node], output: &mut [u8], store: &mut [u8]) -> Ran {
+pub fn run(
+    text: &[u8],
+    fuel: u64,
+    nodes: &mut [Node],
+    dead: &mut [u8],
+    output: &mut [u8],
+    store: &mut [u8],
+) -> Ran {
     let raw = unsafe {
         stage2_run(
             text.as_ptr(),
@@ -85,6 +106,8 @@ pub fn run(text: &[u8], fuel: u64, nodes: &mut [Node], output: &mut [u8], store:
             fuel,
             nodes.as_mut_ptr(),
             nodes.len(),
+            dead.as_mut_ptr(),
+            dead.len(),
             output.as_mut_ptr(),
             output.len(),
             store.as_mut_ptr(),

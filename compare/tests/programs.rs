@@ -113,16 +113,18 @@ fn long_lines_and_texts() {
     }
 }
 
-/// A file of lines has at most 65,536 bytes; the rows of that many lines fit.
+/// A file of lines has at most 65,536 bytes; the rows of that many lines fit, also
+/// where the template's line has four digits and the places two.
 #[test]
 fn many_lines() {
-    let text = b"$!$!0 (+-*/)\n\n$$\n";
-    let text_file = Scratch::new("many.text", text);
-    for lines in [vec![b'\n'; 65_536], b"AAAAAAAAA\n".repeat(6_553), vec![b'A'; 65_536], vec![]] {
-        let lines_file = Scratch::new("many.lines", &lines);
-        assert!(
-            printed("fit_line", &[text_file.name(), lines_file.name()]) == programs::fit_rows(text, &lines)
-        );
+    let late = format!("$!$!0 (+-*/)\nA$\n{}$\n!!!!!!!!!$\n$$\n", "\n".repeat(1_024));
+    for text in [b"$!$!0 (+-*/)\n\n$$\n", late.as_bytes()] {
+        let text_file = Scratch::new("many.text", text);
+        for lines in [vec![b'\n'; 65_536], b"AAAAAAAAA\n".repeat(6_553), vec![b'A'; 65_536], vec![]] {
+            let lines_file = Scratch::new("many.lines", &lines);
+            let rows = printed("fit_line", &[text_file.name(), lines_file.name()]);
+            assert!(rows == programs::fit_rows(text, &lines));
+        }
     }
 }
 

@@ -4,26 +4,27 @@ mod common;
 
 use std::fs;
 use std::path::{Path, PathBuf};
-use std::sync::{mpsc, LazyLock};
-use std::thread;
-use std::time::Duration;
+use std::sync::LazyLock;
 
-use common::{for_texts, for_value_texts, row, shown, Numbers};
-use stage2_compare::{run, Node};
+use common::{
+    answered, any_dead, for_places_texts, for_texts, for_value_texts, shown, Numbers, Rows, LONGEST_DEAD,
+};
+use stage2_compare::run;
 use stage2_reference::generate::{Generator, Size};
-use stage2_reference::{self as reference, Ran, FUEL_LIMIT, NODE_ROW, STORE_ROOM};
+use stage2_reference::{self as reference, Ran, DEAD_ROW, FUEL_LIMIT, NODE_ROW, STORE_ROOM};
 
 /// The sizes that a run is called with.
 #[derive(Clone, Copy, Debug)]
 struct Rooms {
     nodes: usize,
+    dead: usize,
     output: usize,
     store: usize,
 }
 
 impl Rooms {
     fn with_output(output: usize) -> Rooms {
-        Rooms { nodes: NODE_ROW, output, store: STORE_ROOM }
+        Rooms { nodes: NODE_ROW, dead: DEAD_ROW, output, store: STORE_ROOM }
     }
 }
 
@@ -52,9 +53,10 @@ fn pattern(length: usize) -> Vec<u8> {
 
 /// Runs a text. Output and store hold a pattern before, and what lies beyond
 /// the lengths in the answer must still be that.
-fn run_proved(text: &[u8], fuel: u64, rooms: Rooms, row: &mut [Node]) -> Left {
+fn run_proved(text: &[u8], fuel: u64, rooms: Rooms, rows: &mut Rows) -> Left {
     let (mut output, mut store) = (pattern(rooms.output), pattern(rooms.store));
-    let ran = run(text, fuel, &mut row[..rooms.nodes], &mut output, &mut store);
+    let (nodes, dead) = rows.lend(rooms.nodes, rooms.dead);
+    let ran = run(text, fuel, nodes, dead, &mut output, &mut store);
     let unchanged =
         |bytes: &[u8], length: u64| bytes[length as usize..] == PATTERN[length as usize..bytes.len()];
     assert!(unchanged(&output, ran.output), "output, fuel {fuel}, {rooms:?}: {}", shown(text));
@@ -63,10 +65,10 @@ fn run_proved(text: &[u8], fuel: u64, rooms: Rooms, row: &mut [Node]) -> Left {
 }
 
 /// Compares both runs of a text; gives what they left.
-fn compare(text: &[u8], fuel: u64, rooms: Rooms, row: &mut [Node]) -> Left {
-    let left = run_proved(text, fuel, rooms, row);
+fn compare(text: &[u8], fuel: u64, rooms: Rooms, rows: &mut Rows) -> Left {
+    let left = run_proved(text, fuel, rooms, rows);
     let (mut output, mut store) = (pattern(rooms.output), pattern(rooms.store));
-    let ran = reference::run(text, fuel, rooms.nodes, &mut output, &mut store);
+    let ran = reference::run(text, fuel, rooms.nodes, rooms.dead, &mut output, &mut store);
     let expected = Left { ran, output, store };
     // The bytes are not printed: there are many.
     assert_eq!(left.ran, expected.ran, "fuel {fuel}, {rooms:?}: {}", shown(text));
@@ -77,37 +79,56 @@ fn compare(text: &[u8], fuel: u64, rooms: Rooms, row: &mut [Node]) -> Left {
 /// Sizes that are mostly legal.
 fn any_rooms(generator: &mut Generator, turn: u64) -> Rooms {
     Rooms {
-        nodes: if turn % 50 == 0 { NODE_ROW - 1 } else { NODE_ROW + (turn % 3) as usize * 400 },
+        nodes: if turn.is_multiple_of(50) { NODE_ROW - 1 } else { NODE_ROW + (turn % 3) as usize * 400 },
+        dead: any_dead(turn),
         output: generator.room(),
         store: if turn % 50 == 1 { STORE_ROOM - 1 } else { STORE_ROOM + (turn % 2) as usize * 100 },
     }
 }
 
-/// Random texts with random fuels and rooms. All of `expected` must be met
-/// among the numbers of the answers.
+/// Runs with random fuels and rooms, and how often each number was answered.
+struct Trial {
+    rows: Rows,
+    numbers: Numbers,
+    turn: u64,
+}
+
+impl Trial {
+    fn new() -> Trial {
+        Trial { rows: Rows::up_to(3_000, LONGEST_DEAD), numbers: Numbers::default(), turn: 0 }
+    }
+
+    fn compare(&mut self, generator: &mut Generator, text: &[u8]) {
+        let (fuel, rooms) = (generator.fuel(), any_rooms(generator, self.turn));
+        self.numbers.add(compare(text, fuel, rooms, &mut self.rows).ran.number);
+        self.turn += 1;
+    }
+}
+
+/// Random texts. All of `expected` must be met among the numbers of the answers.
 fn compare_random(size: Size, expected: &[u64]) {
-    // The row is used again and again, so each run meets what the last left.
-    let mut row = row(3_000);
-    let mut numbers = Numbers::default();
-    let mut turn = 0;
-    for_texts(size, |generator, text| {
-        let (fuel, rooms) = (generator.fuel(), any_rooms(generator, turn));
-        numbers.add(compare(text, fuel, rooms, &mut row).ran.number);
-        turn += 1;
-    });
-    numbers.assert_met(expected);
+    let mut trial = Trial::new();
+    for_texts(size, |generator, text| trial.compare(generator, text));
+    trial.numbers.assert_met(expected);
+}
+
+/// The same for texts about places.
+fn compare_places(size: Size, expected: &[u64]) {
+    let mut trial = Trial::new();
+    for_places_texts(size, |generator, text| trial.compare(generator, text));
+    trial.numbers.assert_met(expected);
 }
 
 /// Random texts with fuels that lie close together: 1, one event too few, just
 /// enough, and more. More fuel changes nothing of a run that ended, and only
 /// adds to the output of a spent one.
 fn compare_fuels(size: Size) {
-    let mut row = row(NODE_ROW);
+    let mut rows = Rows::least();
     for_texts(size, |generator, text| {
         let rooms = Rooms::with_output(generator.room());
         let less = generator.fuel().clamp(1, 2_000);
         let more = less + generator.fuel().clamp(1, 2_000);
-        let (first, second) = (compare(text, less, rooms, &mut row), compare(text, more, rooms, &mut row));
+        let (first, second) = (compare(text, less, rooms, &mut rows), compare(text, more, rooms, &mut rows));
         if first.ran.number == 20 {
             assert_eq!(first.ran.events, less, "{}", shown(text));
             assert!(second.written().starts_with(first.written()), "{}", shown(text));
@@ -116,13 +137,13 @@ fn compare_fuels(size: Size) {
         }
         let events = second.ran.events;
         if events > 0 && second.ran.number != 20 {
-            assert!(compare(text, events, rooms, &mut row) == second, "fuel {events}: {}", shown(text));
+            assert!(compare(text, events, rooms, &mut rows) == second, "fuel {events}: {}", shown(text));
         }
         if events > 1 {
-            let short = compare(text, events - 1, rooms, &mut row);
+            let short = compare(text, events - 1, rooms, &mut rows);
             assert_eq!((short.ran.number, short.ran.events), (20, events - 1), "{}", shown(text));
         }
-        compare(text, 1, rooms, &mut row);
+        compare(text, 1, rooms, &mut rows);
     });
 }
 
@@ -131,10 +152,10 @@ const EDGES: [u8; 12] = [0x41, 0x7F, 0x80, 0x8F, 0x90, 0x9F, 0xA0, 0xBF, 0xC0, 0
 
 /// Compares the length, the value and the passes of a row of bytes. The name is
 /// stored first, so that the listing shows it after every number.
-fn compare_row(bytes: &[u8], nodes: &mut [Node]) {
+fn compare_row(bytes: &[u8], rows: &mut Rows) {
     for body in ["!15!F1", "!18!F1", "!10!27\n<!20!23>!F1\n!F8"] {
         let text = [b"$!$!0 (+-*/)\nC:!$\n!F3\n", body.as_bytes(), b"\n$$\nC:", bytes, b"\n"].concat();
-        compare(&text, 1_000, Rooms::with_output(100), nodes);
+        compare(&text, 1_000, Rooms::with_output(100), rows);
     }
 }
 
@@ -167,18 +188,18 @@ const VALUED: [&str; 4] =
     ["!14!F1", "!14!26\nA!16\n!F3\nA*1!16\n!14!F1", "!F4\nx!F1\ny!F1", "!10!F7\nx!F1\n!F8"];
 
 /// Compares what bodies do with an expression in parameter 1.
-fn compare_expression(expression: &str, nodes: &mut [Node]) {
+fn compare_expression(expression: &str, rows: &mut Rows) {
     for body in VALUED {
         let text = format!("$!$!0 (+-*/)\nV:!$\n{body}\n$$\nV:{expression}\none\ntwo\nthree\n");
-        compare(text.as_bytes(), 100, Rooms::with_output(100), nodes);
+        compare(text.as_bytes(), 100, Rooms::with_output(100), rows);
     }
 }
 
 /// Compares the four comparisons of two values.
-fn compare_sides(a: &str, b: &str, nodes: &mut [Node]) {
+fn compare_sides(a: &str, b: &str, rows: &mut Rows) {
     for function in ["60", "61", "6-", "6+"] {
         let text = format!("$!$!0 (+-*/)\nC:!,!$\n1!36\n!F{function}\nno!F1\nend!F1\n$$\nC:{a},{b}\n");
-        compare(text.as_bytes(), 100, Rooms::with_output(100), nodes);
+        compare(text.as_bytes(), 100, Rooms::with_output(100), rows);
     }
 }
 
@@ -196,6 +217,18 @@ fn greatest_texts() -> Vec<PathBuf> {
 /// 01's session.
 const SESSION: &[u8] = b"$!$!0 (+-*/)\nNAME !$\n!10!F1$\n$\nNAME !&amp;!$\nNAME !10&!20$\n$$\n\
     NAME Kern &amp; Co$\nplain$\n";
+
+/// Compares runs of the session, which writes 16 bytes.
+fn compare_rooms(rooms: Rooms, rows: &mut Rows) {
+    let left = compare(SESSION, FUEL_LIMIT, rooms, rows);
+    let legal = rooms.nodes >= 2_048 && rooms.dead >= 51_456 && rooms.store >= 8_704;
+    let number = match rooms.output {
+        _ if !legal => 1,
+        0..16 => 13,
+        _ => 0,
+    };
+    assert_eq!(left.ran.number, number, "{rooms:?}");
+}
 
 /// Stores a name, and would make more passes than any fuel allows.
 const ENDLESS: &[u8] = b"$!$!0 (+-*/)\nGO!$\n1000!F7\n1000!F7\n!12!36\n!F8\n!F8\n$$\nGOname\n";
@@ -222,10 +255,10 @@ fn fuels_of_large_texts() {
 
 #[test]
 fn fuels_at_the_limits() {
-    let mut row = row(NODE_ROW);
+    let mut rows = Rows::least();
     for fuel in [0, 1, 2, 4, 5, 6, 999_999, FUEL_LIMIT, FUEL_LIMIT + 1, 1 << 32, u64::MAX] {
         for text in [SESSION, ENDLESS, b""] {
-            let left = compare(text, fuel, Rooms::with_output(1_000), &mut row);
+            let left = compare(text, fuel, Rooms::with_output(1_000), &mut rows);
             let legal = (1..=FUEL_LIMIT).contains(&fuel);
             assert_eq!(left.ran.number == 1, !legal, "fuel {fuel}");
             if text == ENDLESS && legal {
@@ -237,21 +270,13 @@ fn fuels_at_the_limits() {
 
 #[test]
 fn rooms_of_every_kind() {
-    let mut row = row(70_000);
+    let mut rows = Rows::up_to(70_000, 70_000);
     for nodes in [0, 2_047, 2_048, 2_049, 65_535, 65_536, 70_000] {
-        for store in [0, 8_703, 8_704, 8_705, 70_000] {
-            for output in [0, 9, 10, 15, 16, 65_536, 70_000] {
-                let rooms = Rooms { nodes, output, store };
-                let left = compare(SESSION, FUEL_LIMIT, rooms, &mut row);
-                let legal = nodes >= 2_048 && store >= 8_704;
-                let number = if !legal {
-                    1
-                } else if output < 16 {
-                    13
-                } else {
-                    0
-                };
-                assert_eq!(left.ran.number, number, "{rooms:?}");
+        for dead in [0, 51_455, 51_456, 51_457, 70_000] {
+            for store in [0, 8_703, 8_704, 8_705, 70_000] {
+                for output in [0, 9, 10, 15, 16, 65_536, 70_000] {
+                    compare_rooms(Rooms { nodes, dead, output, store }, &mut rows);
+                }
             }
         }
     }
@@ -259,24 +284,24 @@ fn rooms_of_every_kind() {
 
 #[test]
 fn rows_of_one_and_two_bytes() {
-    let mut nodes = row(NODE_ROW);
+    let mut rows = Rows::least();
     for a in 0..=255 {
-        compare_row(&[a], &mut nodes);
+        compare_row(&[a], &mut rows);
         for b in 0..=255 {
-            compare_row(&[a, b], &mut nodes);
+            compare_row(&[a, b], &mut rows);
         }
     }
 }
 
 #[test]
 fn rows_of_three_and_four_bytes() {
-    let mut nodes = row(NODE_ROW);
+    let mut rows = Rows::least();
     for a in 0xC0..=0xFF {
         for b in EDGES {
             for c in EDGES {
-                compare_row(&[a, b, c], &mut nodes);
+                compare_row(&[a, b, c], &mut rows);
                 if a >= 0xEF {
-                    EDGES.iter().for_each(|&d| compare_row(&[a, b, c, d], &mut nodes));
+                    EDGES.iter().for_each(|&d| compare_row(&[a, b, c, d], &mut rows));
                 }
             }
         }
@@ -285,25 +310,35 @@ fn rows_of_three_and_four_bytes() {
 
 #[test]
 fn texts_about_values() {
-    let mut row = row(NODE_ROW);
+    let mut rows = Rows::least();
     let mut numbers = Numbers::default();
     for_value_texts(|generator, text| {
         let (fuel, room) = (generator.fuel().clamp(1, 2_000), generator.room());
-        numbers.add(compare(text, fuel, Rooms::with_output(room), &mut row).ran.number);
+        numbers.add(compare(text, fuel, Rooms::with_output(room), &mut rows).ran.number);
     });
     numbers.assert_met(&[0, 13, 15, 18, 20]);
 }
 
 #[test]
+fn small_texts_about_places() {
+    compare_places(Size::Small, &[0, 1, 12, 13, 20]);
+}
+
+#[test]
+fn large_texts_about_places() {
+    compare_places(Size::Large, &[0, 1, 5, 6, 11, 12, 13, 14, 20]);
+}
+
+#[test]
 fn steps_and_comparisons_at_the_ends() {
-    let mut nodes = row(NODE_ROW);
+    let mut rows = Rows::least();
     for a in OPERANDS {
-        compare_expression(&format!("-{a}"), &mut nodes);
+        compare_expression(&format!("-{a}"), &mut rows);
         for b in OPERANDS {
             for operator in ["+", "-", "*", "/"] {
-                compare_expression(&format!("{a}{operator}{b}"), &mut nodes);
+                compare_expression(&format!("{a}{operator}{b}"), &mut rows);
             }
-            compare_sides(a, b, &mut nodes);
+            compare_sides(a, b, &mut rows);
         }
     }
 }
@@ -316,13 +351,11 @@ fn the_greatest_value_takes_no_time_of_its_own() {
     assert!(texts.len() > 5);
     for path in texts {
         let (text, out) = (fs::read(&path).unwrap(), fs::read_to_string(path.with_extension("out")).unwrap());
-        let (answer, answered) = mpsc::channel();
-        thread::spawn(move || {
-            let ran = compare(&text, FUEL_LIMIT, Rooms::with_output(65_536), &mut row(NODE_ROW)).ran;
-            answer.send(format!("END {} {} {}", ran.number, ran.line, ran.events))
-        });
-        let end = answered.recv_timeout(Duration::from_secs(60));
-        assert_eq!(end.as_deref(), Ok(out.lines().last().unwrap()), "{}", path.display());
+        println!("{}", path.display());
+        let ran =
+            answered(move || compare(&text, FUEL_LIMIT, Rooms::with_output(65_536), &mut Rows::least()).ran);
+        let end = format!("END {} {} {}", ran.number, ran.line, ran.events);
+        assert_eq!(end, out.lines().last().unwrap(), "{}", path.display());
     }
 }
 
@@ -331,6 +364,6 @@ fn texts_of_the_greatest_length() {
     for length in [65_535, 65_536, 65_537] {
         let mut text = SESSION.to_vec();
         text.resize(length, b'\n');
-        compare(&text, FUEL_LIMIT, Rooms::with_output(70_000), &mut row(NODE_ROW));
+        compare(&text, FUEL_LIMIT, Rooms::with_output(70_000), &mut Rows::least());
     }
 }

@@ -6,9 +6,9 @@ mod common;
 use std::ffi::c_void;
 use std::ptr;
 
-use common::row;
+use common::Rows;
 use stage2_compare::{check, fit, run};
-use stage2_reference::{FUEL_LIMIT, NODE_ROW, STORE_ROOM};
+use stage2_reference::{self as reference, DEAD_ROW, FUEL_LIMIT, NODE_ROW, STORE_ROOM};
 
 /// What the header asks for.
 const RUN_STACK: usize = 256 * 1024;
@@ -61,15 +61,31 @@ fn stack_of(call: &mut dyn FnMut()) -> usize {
     WHOLE - untouched
 }
 
+/// A row of 200 bytes with nine that are `hole`.
+fn longest(hole: &str) -> String {
+    format!("Z{}Z", (hole.to_string() + &"Z".repeat(21)).repeat(9))
+}
+
 /// Twelve calls in one another. The innermost offers its parameter, which the
-/// search may follow to the end of the longest template, or through a piece that
-/// grows by an atom at a time, and then takes its value.
+/// search may follow to the end of the longest templates, without a placeholder
+/// and with nine, or through a piece that grows by an atom at a time behind eight
+/// that are empty, and then takes its value.
 fn nested(parameters: &[&str]) -> String {
-    let longest = "Z".repeat(200);
+    let templates = ["Z".repeat(200), longest("!"), "!Y".to_string(), "!!!!!!!!!Y".to_string()];
     let calls: String =
         ('A'..'L').map(|name| format!("{name}!$\n{}!10\n$\n", (name as u8 + 1) as char)).collect();
     let input: String = parameters.iter().map(|parameter| format!("A{parameter}\n")).collect();
-    format!("$!$!0 (+-*/)\n{longest}$\n$\n!Y$\n$\n{calls}L!$\nZ!10\n!14!F1\n$$\n{input}")
+    let section = templates.map(|template| template + "$\n$\n").concat();
+    format!("$!$!0 (+-*/)\n{section}{calls}L!$\nZ!10\n!14!F1\n$$\n{input}")
+}
+
+/// Lines that search as deep as can be: by bytes, by atoms, and by both with a
+/// placeholder nine times, which is a place for each byte and nine more; each
+/// with an end and without.
+fn deepest() -> [String; 6] {
+    let both = longest("x");
+    let failing = both[..199].to_string() + "x";
+    ["Z".repeat(200), "Z".repeat(199) + "x", "x".repeat(199) + "Y", "x".repeat(200), both, failing]
 }
 
 /// A text with as many macros and nodes as there may be.
@@ -81,13 +97,17 @@ fn broad() -> String {
 #[test]
 fn a_run_takes_no_more_than_the_header_says() {
     let brackets = format!("{}1{}", "(".repeat(99), ")".repeat(99));
+    // The innermost call puts a Z before its parameter.
+    let mut parameters = deepest().map(|line| line[1..].to_string()).to_vec();
+    parameters.extend([brackets, "5".to_string()]);
     let mut most = 0;
-    for parameter in [brackets.as_str(), &"Z".repeat(199), &"x".repeat(199), "5"] {
-        let text = nested(&[parameter]);
-        let (mut nodes, mut output, mut store) = (row(NODE_ROW), vec![0; 65_536], vec![0; STORE_ROOM]);
+    for parameter in parameters {
+        let text = nested(&[&parameter]);
+        let (mut rows, mut output, mut store) = (Rows::least(), vec![0; 65_536], vec![0; STORE_ROOM]);
+        let (nodes, dead) = rows.lend(NODE_ROW, DEAD_ROW);
         let mut ran = None;
         let taken = stack_of(&mut || {
-            ran = Some(run(text.as_bytes(), FUEL_LIMIT, &mut nodes, &mut output, &mut store));
+            ran = Some(run(text.as_bytes(), FUEL_LIMIT, nodes, dead, &mut output, &mut store));
         });
         println!("{taken} bytes of stack: {ran:?}");
         assert!(ran.unwrap().events > 20, "the calls are not nested: {ran:?}");
@@ -100,18 +120,31 @@ fn a_run_takes_no_more_than_the_header_says() {
 fn a_check_and_a_fit_take_no_more_than_the_header_says() {
     let mut most = 0;
     for text in [nested(&[]), broad()] {
-        let mut nodes = row(NODE_ROW);
+        let mut rows = Rows::least();
+        let (nodes, dead) = rows.lend(NODE_ROW, DEAD_ROW);
         let mut checked = None;
-        let taken = stack_of(&mut || checked = Some(check(text.as_bytes(), &mut nodes)));
+        let taken = stack_of(&mut || checked = Some(check(text.as_bytes(), nodes)));
         println!("{taken} bytes of stack: {checked:?}");
         most = most.max(taken);
-        for line in ["Z".repeat(200), "x".repeat(200), "x".repeat(199) + "Y", String::new()] {
+        for line in deepest().into_iter().chain([String::new()]) {
             let mut fitted = None;
-            let taken = stack_of(&mut || fitted = Some(fit(text.as_bytes(), &mut nodes, line.as_bytes())));
+            let taken = stack_of(&mut || fitted = Some(fit(text.as_bytes(), nodes, dead, line.as_bytes())));
             println!("{taken} bytes of stack: {fitted:?}");
             assert_eq!(fitted.unwrap().number, 0);
             most = most.max(taken);
         }
     }
     assert!(most <= FIT_STACK, "{most} bytes of stack");
+}
+
+/// The lines are as deep as they are meant to be: those with an end fit, one of
+/// them by a reading with nine pieces of a byte each.
+#[test]
+fn the_deepest_lines_fit() {
+    let text = nested(&[]);
+    let fitted = deepest().map(|line| reference::fit(text.as_bytes(), NODE_ROW, DEAD_ROW, line.as_bytes()));
+    assert_eq!(fitted.map(|fitted| fitted.line), [2, 0, 8, 0, 4, 0]);
+    assert_eq!(fitted[4].length, [1; 9]);
+    // The root, a place for each byte, each placeholder's first place and the end.
+    assert_eq!(fitted[4].places, 1 + 200 + 9 + 1);
 }

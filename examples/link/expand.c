@@ -9,6 +9,7 @@
 #include "stage2.h"
 
 static stage2_node nodes[STAGE2_NODES];
+static uint8_t dead[STAGE2_DEAD];
 static uint8_t output[65536];
 static uint8_t store[STAGE2_STORE];
 
@@ -26,7 +27,7 @@ int main(void) {
         "$$\n"
         "NAME Kern &amp; Co$\n";
     stage2_ran ran = stage2_run((const uint8_t *)text, strlen(text), 1000000, nodes, STAGE2_NODES,
-                                output, sizeof output, store, sizeof store);
+                                dead, sizeof dead, output, sizeof output, store, sizeof store);
     fwrite(output, 1, ran.output, stdout);
     printf("number %d, line %d, events %d\n", (int)ran.number, (int)ran.line, (int)ran.events);
     fwrite(store, 1, ran.store, stdout);

@@ -33,6 +33,8 @@ extern "C" {
         fuel: u64,
         nodes: *mut Node,
         nodes_count: usize,
+        dead: *mut u8,
+        dead_count: usize,
         output: *mut u8,
         output_count: usize,
         store: *mut u8,
@@ -43,6 +45,7 @@ extern "C" {
 /// Runs a text; gives the answer, the output and the store's listing.
 fn run(text: &[u8], fuel: u64) -> (Ran, Vec<u8>, Vec<u8>) {
     let mut nodes = vec![Node::default(); 2048];
+    let mut dead = vec![0; 51456];
     let (mut output, mut store) = (vec![0; 65536], vec![0; 8704]);
     // Every slice is passed with its own length, and the mutable ones don't overlap.
     let ran = unsafe {
@@ -52,6 +55,8 @@ fn run(text: &[u8], fuel: u64) -> (Ran, Vec<u8>, Vec<u8>) {
             fuel,
             nodes.as_mut_ptr(),
             nodes.len(),
+            dead.as_mut_ptr(),
+            dead.len(),
             output.as_mut_ptr(),
             output.len(),
             store.as_mut_ptr(),

@@ -1,6 +1,7 @@
 //! An independent implementation of document 01, STAGE2 for name tables and
-//! export, with requests 1, UTF-8, and 2, values of 64 bits, of document 02. It
-//! is written from the documents alone so that others can be compared with it.
+//! export, with requests 1 (UTF-8), 2 (values of 64 bits) and 3 (places) of
+//! document 02. It is written from the documents alone so that others can be
+//! compared with it.
 //!
 //! The public calls are [`check`], [`fit`] and [`run`]. Each takes the text
 //! itself.
@@ -12,6 +13,7 @@ mod load;
 mod machine;
 mod number;
 pub mod programs;
+mod search;
 mod store;
 mod text;
 mod tree;
@@ -26,6 +28,10 @@ pub const FUEL_LIMIT: u64 = 1_000_000;
 /// The least legal length of the node row.
 pub const NODE_ROW: usize = load::NODE_LIMIT;
 
+/// The least legal length of the row of dead places: a bit for each node at each
+/// position of a line.
+pub const DEAD_ROW: usize = 51_456;
+
 /// The least legal length of the store's room.
 pub const STORE_ROOM: usize = store::LISTING_ROOM;
 
@@ -36,14 +42,15 @@ pub struct Checked {
     pub line: u64,
 }
 
-/// What fitting a line gives: the template's line, 0 for no call, and where
-/// the nine pieces lie in the line.
+/// What fitting a line gives: the template's line, 0 for no call, where the nine
+/// pieces lie in the line, and how many places were taken up.
 #[derive(Clone, Copy, Debug, Default, PartialEq, Eq)]
 pub struct Fitted {
     pub number: u64,
     pub line: u64,
     pub start: [u64; 9],
     pub length: [u64; 9],
+    pub places: u64,
 }
 
 /// What a run gives; `output` and `store` are lengths.
@@ -64,8 +71,12 @@ pub fn check(text: &[u8], nodes: usize) -> Checked {
     }
 }
 
-/// Fits a line, taken whole, against the templates of a text.
-pub fn fit(text: &[u8], nodes: usize, line: &[u8]) -> Fitted {
+/// Fits a line, taken whole, against the templates of a text. `nodes` and `dead`
+/// are the lengths of the lent rows of nodes and of dead places.
+pub fn fit(text: &[u8], nodes: usize, dead: usize, line: &[u8]) -> Fitted {
+    if dead < DEAD_ROW {
+        return Fitted { number: Number::Rooms.into(), ..Fitted::default() };
+    }
     let program = match load::load(text, nodes) {
         Ok(program) => program,
         Err(refusal) => {
@@ -75,21 +86,27 @@ pub fn fit(text: &[u8], nodes: usize, line: &[u8]) -> Fitted {
     if line.len() > text::LINE_LIMIT {
         return Fitted { number: Number::LongInput.into(), ..Fitted::default() };
     }
-    match program.tree.first_reading(line, &program.marks) {
-        None => Fitted::default(),
-        Some(reading) => Fitted {
-            number: 0,
-            line: program.macros[reading.template].line,
-            start: reading.pieces.map(|piece| piece.start as u64),
-            length: reading.pieces.map(|piece| piece.length as u64),
-        },
+    let fitting = search::fit(&program.tree, line, &program.marks);
+    let mut fitted = Fitted { places: fitting.places, ..Fitted::default() };
+    if let Some(reading) = fitting.reading {
+        fitted.line = program.macros[reading.template].line;
+        fitted.start = reading.pieces.map(|piece| piece.start as u64);
+        fitted.length = reading.pieces.map(|piece| piece.length as u64);
     }
+    fitted
+}
+
+/// The most places that fitting a line may take up: the nodes of the text's tree
+/// times the positions in the line. `None` if the text does not load.
+pub fn most_places(text: &[u8], line: &[u8]) -> Option<u64> {
+    let program = load::load(text, NODE_ROW).ok()?;
+    Some((program.tree.size() * (line.len() + 1)) as u64)
 }
 
 /// Expands a text's input lines with at most `fuel` events. Bytes of `output`
 /// and `store` beyond the lengths in the result stay as they were.
-pub fn run(text: &[u8], fuel: u64, nodes: usize, output: &mut [u8], store: &mut [u8]) -> Ran {
-    if !(1..=FUEL_LIMIT).contains(&fuel) || store.len() < STORE_ROOM {
+pub fn run(text: &[u8], fuel: u64, nodes: usize, dead: usize, output: &mut [u8], store: &mut [u8]) -> Ran {
+    if !(1..=FUEL_LIMIT).contains(&fuel) || dead < DEAD_ROW || store.len() < STORE_ROOM {
         return Ran { number: Number::Rooms.into(), ..Ran::default() };
     }
     match load::load(text, nodes) {

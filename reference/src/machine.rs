@@ -4,9 +4,10 @@ use crate::atoms::Atoms;
 use crate::code::{CodeLine, Comparison, Conversion, Ending, Part};
 use crate::load::{Macro, Program};
 use crate::number::Number;
+use crate::search::{self, Reading};
 use crate::store::Store;
 use crate::text::{self, LINE_LIMIT};
-use crate::tree::{Reading, PLACEHOLDER_LIMIT};
+use crate::tree::PLACEHOLDER_LIMIT;
 use crate::utf8;
 use crate::value::{value, written, Value};
 
@@ -220,7 +221,7 @@ impl<'p, 'o> Machine<'p, 'o> {
     /// Opens a call for the line's first reading, or writes the line.
     fn offer(&mut self, line: &[u8]) -> Step {
         self.spend()?;
-        match self.program.tree.first_reading(line, &self.program.marks) {
+        match search::fit(&self.program.tree, line, &self.program.marks).reading {
             Some(reading) => self.open_call(line, &reading),
             None => self.write(line),
         }

@@ -1,7 +1,7 @@
 //! What the programs write, apart from reading files and arguments.
 
 use crate::text::lines;
-use crate::{check, fit, run, Fitted, FUEL_LIMIT, NODE_ROW, STORE_ROOM};
+use crate::{check, fit, run, Fitted, DEAD_ROW, FUEL_LIMIT, NODE_ROW, STORE_ROOM};
 
 /// Bytes of output that `expand` has room for.
 pub const OUTPUT_ROOM: usize = 65_536;
@@ -10,7 +10,7 @@ pub const OUTPUT_ROOM: usize = 65_536;
 pub fn expand(text: &[u8]) -> Vec<u8> {
     let mut output = vec![0; OUTPUT_ROOM];
     let mut store = vec![0; STORE_ROOM];
-    let ran = run(text, FUEL_LIMIT, NODE_ROW, &mut output, &mut store);
+    let ran = run(text, FUEL_LIMIT, NODE_ROW, DEAD_ROW, &mut output, &mut store);
     output.truncate(ran.output as usize);
     let end = format!("END {} {} {}\n", ran.number, ran.line, ran.events);
     output.extend_from_slice(end.as_bytes());
@@ -25,15 +25,15 @@ pub fn check_row(name: &str, text: &[u8]) -> String {
 
 /// The lines of `fit_line` for each line of `lines_text`.
 pub fn fit_rows(text: &[u8], lines_text: &[u8]) -> String {
-    lines(lines_text).map(|line| fit_row(&fit(text, NODE_ROW, line))).collect()
+    lines(lines_text).map(|line| fit_row(&fit(text, NODE_ROW, DEAD_ROW, line))).collect()
 }
 
-/// Number, template's line, then start and length of each piece.
+/// Number, template's line, start and length of each piece, then places.
 fn fit_row(fitted: &Fitted) -> String {
     let mut row = format!("{} {}", fitted.number, fitted.line);
     for (start, length) in fitted.start.iter().zip(&fitted.length) {
         row.push_str(&format!(" {start} {length}"));
     }
-    row.push('\n');
+    row.push_str(&format!(" {}\n", fitted.places));
     row
 }

@@ -1,11 +1,13 @@
-//! Fitting against a function that lists all readings.
+//! Fitting against a function that lists all readings, and places against the
+//! words of request 3, carried out over beginnings of templates.
 
 mod common;
 
 use std::cmp::Ordering;
+use std::collections::HashSet;
 
 use common::Dice;
-use stage2_reference::{fit, Fitted, NODE_ROW};
+use stage2_reference::{fit, most_places, Fitted, DEAD_ROW, NODE_ROW};
 
 /// One element of a reading.
 #[derive(Clone, Copy, Debug, PartialEq, Eq)]
@@ -60,12 +62,17 @@ fn readings(template: &[u8], line: &[u8], at: usize) -> Vec<Vec<Element>> {
     }
 }
 
-/// Lists all readings by all templates and takes the first.
+/// The line of a template's text by the template's place.
+fn line_of(place: usize) -> u64 {
+    2 + 2 * place as u64
+}
+
+/// Lists all readings by all templates and takes the first; says nothing of
+/// places.
 fn naive(templates: &[Vec<u8>], line: &[u8]) -> Fitted {
     let mut all: Vec<(Vec<Element>, u64)> = Vec::new();
     for (place, template) in templates.iter().enumerate() {
-        let template_line = 2 + 2 * place as u64;
-        all.extend(readings(template, line, 0).into_iter().map(|reading| (reading, template_line)));
+        all.extend(readings(template, line, 0).into_iter().map(|reading| (reading, line_of(place))));
     }
     let by_first_difference = |a: &Vec<Element>, b: &Vec<Element>| {
         a.iter().zip(b).map(|(&a, &b)| order(a, b)).find(|order| order.is_ne()).unwrap_or(Ordering::Equal)
@@ -83,6 +90,135 @@ fn naive(templates: &[Vec<u8>], line: &[u8]) -> Fitted {
         fitted.length[place] = length as u64;
     }
     fitted
+}
+
+/// Where the atom at a position ends, if there is one: found by the depth of
+/// brackets, because the rules as they stand take too long on long lines.
+fn atom_end(line: &[u8], at: usize) -> Option<usize> {
+    let mut depth = 0;
+    for (place, byte) in line.iter().enumerate().skip(at) {
+        match byte {
+            b'(' => depth += 1,
+            b')' if depth == 0 => return None,
+            b')' => depth -= 1,
+            _ => {}
+        }
+        if depth == 0 {
+            return Some(place + 1);
+        }
+    }
+    None
+}
+
+/// What stands at the end of a template. No line here has this byte or `!`.
+const END: u8 = b'$';
+
+/// A tree node together with a position in the line. The node is the beginning
+/// of a template that it stands for.
+type Place = (Vec<u8>, usize);
+
+/// Request 3's fitting, word by word.
+struct Placing<'a> {
+    /// With their ends.
+    templates: Vec<Vec<u8>>,
+    line: &'a [u8],
+    /// The places found to lead nowhere.
+    dead: HashSet<Place>,
+    /// The places taken up, in this order.
+    taken: Vec<Place>,
+    /// How often a marked place was met again.
+    met_again: u64,
+}
+
+impl Placing<'_> {
+    /// Takes up the root; gives the template's line, 0 for none, and the places.
+    fn of<'a>(templates: &[Vec<u8>], line: &'a [u8]) -> (u64, Placing<'a>) {
+        let templates = templates.iter().map(|template| [&template[..], &[END]].concat()).collect();
+        let mut placing = Placing { templates, line, dead: HashSet::new(), taken: Vec::new(), met_again: 0 };
+        let found = placing.take_up(Vec::new(), 0);
+        (found.map_or(0, line_of), placing)
+    }
+
+    /// The node for one element more, where a template begins with it.
+    fn child(&self, node: &[u8], element: u8) -> Option<Vec<u8>> {
+        let child = [node, &[element]].concat();
+        self.templates.iter().any(|template| template.starts_with(&child)).then_some(child)
+    }
+
+    /// Takes up a place, unless it is marked; gives the template that it leads to.
+    fn take_up(&mut self, node: Vec<u8>, at: usize) -> Option<usize> {
+        let place = (node, at);
+        if self.dead.contains(&place) {
+            self.met_again += 1;
+            return None;
+        }
+        self.taken.push(place.clone());
+        let found = self.onward(&place.0, at);
+        if found.is_none() {
+            self.dead.insert(place);
+        }
+        found
+    }
+
+    fn onward(&mut self, node: &[u8], at: usize) -> Option<usize> {
+        // until a template ends
+        if node.last() == Some(&END) {
+            return self.templates.iter().position(|template| template == node);
+        }
+        // the child for the next byte or the line's end
+        let direct = match self.line.get(at) {
+            Some(&byte) => self.child(node, byte).and_then(|child| self.take_up(child, at + 1)),
+            None => self.child(node, END).and_then(|child| self.take_up(child, at)),
+        };
+        if direct.is_some() {
+            return direct;
+        }
+        // if that leads nowhere the placeholder child there
+        let piece = self.child(node, b'!').and_then(|child| self.take_up(child, at));
+        if piece.is_some() || node.last() != Some(&b'!') {
+            return piece;
+        }
+        // and last, on a placeholder, that node past the next atom
+        self.take_up(node.to_vec(), atom_end(self.line, at)?)
+    }
+
+    /// Whether each place was taken up once, and none beyond the tree and the line.
+    fn is_bounded(&self) -> bool {
+        let mut nodes: HashSet<&[u8]> = HashSet::from([&[][..]]);
+        for template in &self.templates {
+            nodes.extend((1..=template.len()).map(|length| &template[..length]));
+        }
+        let distinct: HashSet<&Place> = self.taken.iter().collect();
+        let legal = |(node, at): &Place| nodes.contains(&node[..]) && *at <= self.line.len();
+        distinct.len() == self.taken.len()
+            && self.taken.iter().all(legal)
+            && self.taken.len() <= nodes.len() * (self.line.len() + 1)
+    }
+}
+
+/// Compares the places of fitting a line with request 3's words; gives the answer
+/// and how often a marked place was met again.
+fn compare_places(text: &[u8], templates: &[Vec<u8>], line: &[u8]) -> (Fitted, u64) {
+    let got = fit(text, NODE_ROW, DEAD_ROW, line);
+    let (template_line, placing) = Placing::of(templates, line);
+    let shown = (String::from_utf8_lossy(text), String::from_utf8_lossy(line));
+    assert_eq!((got.line, got.places), (template_line, placing.taken.len() as u64), "{shown:?}");
+    assert!(placing.is_bounded(), "{shown:?}");
+    assert!(got.places <= most_places(text, line).unwrap(), "{shown:?}");
+    (got, placing.met_again)
+}
+
+/// Compares fitting a line with the list of all its readings, and its places.
+fn compare(text: &[u8], templates: &[Vec<u8>], line: &[u8]) -> Fitted {
+    let (got, _) = compare_places(text, templates, line);
+    let expected = Fitted { places: got.places, ..naive(templates, line) };
+    let shown = (String::from_utf8_lossy(text), String::from_utf8_lossy(line));
+    assert_eq!(got, expected, "{shown:?}");
+    for at in 0..line.len() {
+        let end = (at + 1..=line.len()).find(|&end| is_atom(&line[at..end]));
+        assert_eq!(atom_end(line, at), end, "{shown:?}");
+    }
+    got
 }
 
 fn text_of(templates: &[Vec<u8>]) -> Vec<u8> {
@@ -109,13 +245,46 @@ impl Dice {
                 _ => Vec::new(),
             };
             template.extend(self.row(b"AAB!!!()", 5));
-            let placeholders = template.iter().filter(|&&byte| byte == b'!').count();
-            if placeholders <= 5 && !templates.contains(&template) {
+            if placeholders(&template) <= 5 && !templates.contains(&template) {
                 templates.push(template);
             }
         }
         templates
     }
+
+    /// Different templates of up to nine placeholders with the same few
+    /// separators, most of which share all but what stands at their ends.
+    fn busy_templates(&mut self) -> Vec<Vec<u8>> {
+        let separators: &[&[u8]] = &[b"A", b"A", b"AB", b"(", b")", b"", b"()"];
+        let separator = separators[self.below(separators.len() as u64) as usize];
+        let row = [&b"!"[..]; 9].join(separator);
+        let mut templates: Vec<Vec<u8>> = Vec::new();
+        for _ in 0..1 + self.below(6) {
+            let shared = if self.below(3) == 0 { self.below(row.len() as u64) as usize } else { row.len() };
+            let template = [&row[..shared], &self.row(b"AAB!()", 3)].concat();
+            if placeholders(&template) <= 9 && !templates.contains(&template) {
+                templates.push(template);
+            }
+        }
+        templates
+    }
+
+    /// A line of up to 200 bytes, most of them alike.
+    fn busy_line(&mut self) -> Vec<u8> {
+        let rows: &[&[u8]] = &[b"A", b"A", b"AAAAAAAAAB", b"AAAAA()", b"AAA(A)", b"()", b"(", b"(A(A)A)"];
+        let row = rows[self.below(rows.len() as u64) as usize];
+        let mut line: Vec<u8> = row.iter().copied().cycle().take(self.below(198) as usize).collect();
+        line.extend(self.row(b"AB()", 3));
+        line
+    }
+}
+
+fn placeholders(template: &[u8]) -> usize {
+    template.iter().filter(|&&byte| byte == b'!').count()
+}
+
+fn rows<const N: usize>(rows: [&str; N]) -> Vec<Vec<u8>> {
+    rows.iter().map(|row| row.as_bytes().to_vec()).collect()
 }
 
 #[test]
@@ -130,12 +299,9 @@ fn search_gives_the_first_of_all_readings() {
         let text = text_of(&templates);
         for _ in 0..10 {
             let line = dice.row(b"AAABBB()", 9);
-            let expected = naive(&templates, &line);
-            let got = fit(&text, NODE_ROW, &line);
-            let shown = (String::from_utf8_lossy(&text), String::from_utf8_lossy(&line));
-            assert_eq!(got, expected, "{shown:?}");
-            calls += u32::from(expected.line > 0);
-            several += u32::from(expected.line > 2);
+            let fitted = compare(&text, &templates, &line);
+            calls += u32::from(fitted.line > 0);
+            several += u32::from(fitted.line > 2);
         }
     }
     // The comparison says little unless many lines fit, and not one template alone.
@@ -145,13 +311,57 @@ fn search_gives_the_first_of_all_readings() {
 
 #[test]
 fn every_short_line() {
-    let templates: Vec<Vec<u8>> =
-        [&b"A!B"[..], b"!A!", b"!", b"(!", b"A!A!A", b"!!B"].iter().map(|row| row.to_vec()).collect();
+    let templates = rows(["A!B", "!A!", "!", "(!", "A!A!A", "!!B"]);
     let text = text_of(&templates);
     for length in 0..=6 {
         for code in 0..4usize.pow(length) {
             let line: Vec<u8> = (0..length).map(|at| b"AB()"[code >> (2 * at) & 3]).collect();
-            assert_eq!(fit(&text, NODE_ROW, &line), naive(&templates, &line), "{line:?}");
+            compare(&text, &templates, &line);
         }
     }
+}
+
+/// Long lines, whose readings are too many to be listed.
+#[test]
+fn long_lines_take_up_each_place_once() {
+    let mut dice = Dice(3);
+    let (mut calls, mut none, mut again, mut many) = (0, 0, 0, 0);
+    for _ in 0..1_000 {
+        let templates = dice.busy_templates();
+        if templates.is_empty() {
+            continue;
+        }
+        let text = text_of(&templates);
+        for _ in 0..4 {
+            let line = dice.busy_line();
+            let (fitted, met_again) = compare_places(&text, &templates, &line);
+            calls += u32::from(fitted.line > 0);
+            none += u32::from(fitted.line == 0);
+            again += u32::from(met_again > 0);
+            many += u32::from(fitted.places > 1_000);
+        }
+    }
+    // Lines fit and don't, the marks are needed, and the search is long.
+    assert!(calls > 400 && none > 2_000, "{calls} {none}");
+    assert!(again > 800 && many > 300, "{again} {many}");
+}
+
+/// The places taken up, each as its node and position.
+#[test]
+fn places_in_order() {
+    let taken = |templates: &[Vec<u8>], line: &str| -> Vec<String> {
+        compare(&text_of(templates), templates, line.as_bytes());
+        let (_, placing) = Placing::of(templates, line.as_bytes());
+        placing.taken.iter().map(|(node, at)| format!("{} {at}", String::from_utf8_lossy(node))).collect()
+    };
+    let three = rows(["AB!", "!B", "!=!"]);
+    assert_eq!(taken(&three, "AB"), [" 0", "A 1", "AB 2", "AB! 2", "AB!$ 2"]);
+    assert_eq!(taken(&three, "B"), [" 0", "! 0", "!B 1", "!B$ 1"]);
+    assert_eq!(taken(&three, ""), [" 0", "! 0"]);
+    // The bracket through its partner is one step; no place is inside it.
+    assert_eq!(taken(&three, "(=)B"), [" 0", "! 0", "! 3", "!B 4", "!B$ 4"]);
+    assert_eq!(taken(&three, "(="), [" 0", "! 0"]);
+    // The second placeholder's places are dead when the first is lengthened.
+    let two = rows(["!A!B"]);
+    assert_eq!(taken(&two, "AA"), [" 0", "! 0", "!A 1", "!A! 1", "!A! 2", "! 1", "!A 2", "! 2"]);
 }

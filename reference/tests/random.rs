@@ -6,7 +6,7 @@ use std::collections::{BTreeMap, BTreeSet};
 
 use common::{run_text, Left};
 use stage2_reference::generate::{Generator, Size, SMALL_TEXT};
-use stage2_reference::{check, fit, run, Fitted, NODE_ROW};
+use stage2_reference::{check, fit, most_places, run, Fitted, DEAD_ROW, NODE_ROW};
 
 /// Calls `test` with random texts of both sizes.
 fn for_texts(seed: u64, count: usize, mut test: impl FnMut(&mut Generator, &[u8])) {
@@ -90,8 +90,8 @@ fn a_run_begins_with_the_fitted_line() {
     let (mut calls, mut plain) = (0, 0);
     for_texts(14, 2_000, |generator, text| {
         let checked = check(text, NODE_ROW);
-        let line = generator.line(text);
-        let fitted = fit(text, NODE_ROW, &line);
+        let line = generator.line(text, Size::Large);
+        let fitted = fit(text, NODE_ROW, DEAD_ROW, &line);
         if checked.number != 0 {
             let refused = Fitted { number: checked.number, line: checked.line, ..Fitted::default() };
             assert_eq!(fitted, refused, "{}", shown(text));
@@ -125,7 +125,7 @@ fn the_generator_reaches_every_number() {
     for_texts(15, 8_000, |generator, text| {
         let (fuel, mut output) = (generator.fuel().min(20_000), vec![0; generator.room()]);
         let mut store = vec![0; stage2_reference::STORE_ROOM];
-        numbers.insert(run(text, fuel, NODE_ROW, &mut output, &mut store).number);
+        numbers.insert(run(text, fuel, NODE_ROW, DEAD_ROW, &mut output, &mut store).number);
     });
     let all: BTreeSet<u64> = (0..=21).filter(|&number| number != 10).collect();
     assert_eq!(numbers, all);
@@ -147,6 +147,32 @@ fn texts_about_values_reach_their_numbers() {
     }
 }
 
+/// Places are counted for number 0 alone, from the root on and within the bound.
+/// Texts about places have many of them, for calls and for others.
+#[test]
+fn texts_about_places_keep_the_search_busy() {
+    for (size, many) in [(Size::Small, 100), (Size::Large, 1_000)] {
+        let mut generator = Generator::new(17);
+        let (mut calls, mut others) = (0, 0);
+        for _ in 0..4_000 {
+            let text = generator.places_text(size);
+            for line in text.split(|&byte| byte == b'\n') {
+                let fitted = fit(&text, NODE_ROW, DEAD_ROW, line);
+                let bound = most_places(&text, line);
+                let legal = match fitted.number {
+                    0 => (1..=bound.unwrap()).contains(&fitted.places),
+                    _ => fitted.places == 0,
+                };
+                assert!(legal, "{fitted:?} of {bound:?}: {} {}", shown(&text), shown(line));
+                calls += u32::from(fitted.line > 0 && fitted.places >= many);
+                others += u32::from(fitted.line == 0 && fitted.places >= many);
+            }
+        }
+        println!("{size:?}: {calls} {others}");
+        assert!(calls > 100 && others > 500, "{size:?}: {calls} {others}");
+    }
+}
+
 #[test]
 fn small_texts_are_small_and_a_seed_decides() {
     let mut first = Generator::new(3);
@@ -157,8 +183,10 @@ fn small_texts_are_small_and_a_seed_decides() {
         assert_eq!(text, second.text(Size::Small));
         assert!(first.character_text().len() <= SMALL_TEXT);
         assert!(first.value_text().len() <= SMALL_TEXT);
+        assert!(first.places_text(Size::Small).len() <= SMALL_TEXT);
         second.character_text();
         second.value_text();
+        second.places_text(Size::Small);
     }
     assert_ne!(Generator::new(4).text(Size::Small), Generator::new(5).text(Size::Small));
 }

@@ -3,16 +3,27 @@
 mod common;
 
 use common::pattern;
-use stage2_reference::{check, fit, run, Checked, Fitted, Ran, FUEL_LIMIT, NODE_ROW, STORE_ROOM};
+use stage2_reference::{check, fit, run, Checked, Fitted, Ran, DEAD_ROW, FUEL_LIMIT, NODE_ROW, STORE_ROOM};
 
 const LOADS: &[u8] = b"$!$!0 (+-*/)\nA$\na!F1\n$$\nA\n";
 const FLAG_FAULT: &[u8] = b"$!$!0 (+-*/\nA$\n$$\n";
 
-fn run_with(text: &[u8], fuel: u64, nodes: usize, store: usize) -> Ran {
+/// The lengths of the rows and the store that a run is lent.
+#[derive(Clone, Copy)]
+struct Rooms {
+    nodes: usize,
+    dead: usize,
+    store: usize,
+}
+
+/// The least that are legal.
+const LEAST: Rooms = Rooms { nodes: NODE_ROW, dead: DEAD_ROW, store: STORE_ROOM };
+
+fn run_with(text: &[u8], fuel: u64, rooms: Rooms) -> Ran {
     let mut output = pattern(100);
-    let mut store = pattern(store);
+    let mut store = pattern(rooms.store);
     let untouched = (output.clone(), store.clone());
-    let ran = run(text, fuel, nodes, &mut output, &mut store);
+    let ran = run(text, fuel, rooms.nodes, rooms.dead, &mut output, &mut store);
     if (1..=9).contains(&ran.number) {
         assert_eq!((output, store), untouched);
         assert_eq!(ran, Ran { number: ran.number, line: ran.line, ..Ran::default() });
@@ -24,35 +35,58 @@ fn run_with(text: &[u8], fuel: u64, nodes: usize, store: usize) -> Ran {
 fn causes_of_number_1() {
     let one = Ran { number: 1, ..Ran::default() };
     for fuel in [0, FUEL_LIMIT + 1, u64::MAX] {
-        assert_eq!(run_with(LOADS, fuel, NODE_ROW, STORE_ROOM), one);
+        assert_eq!(run_with(LOADS, fuel, LEAST), one);
     }
     for nodes in [0, 2_047] {
-        assert_eq!(run_with(LOADS, 1, nodes, STORE_ROOM), one);
+        assert_eq!(run_with(LOADS, 1, Rooms { nodes, ..LEAST }), one);
+    }
+    for dead in [0, 51_455] {
+        assert_eq!(run_with(LOADS, 1, Rooms { dead, ..LEAST }), one);
     }
     for store in [0, 8_703] {
-        assert_eq!(run_with(LOADS, 1, NODE_ROW, store), one);
+        assert_eq!(run_with(LOADS, 1, Rooms { store, ..LEAST }), one);
     }
-    assert_eq!(run_with(LOADS, 2, 2_048, 8_704).number, 0);
-    assert_eq!(run_with(LOADS, FUEL_LIMIT, 2_049, 8_705).number, 0);
+    let least = Rooms { nodes: 2_048, dead: 51_456, store: 8_704 };
+    assert_eq!(run_with(LOADS, 2, least).number, 0);
+    let longer = Rooms { nodes: 2_049, dead: 51_457, store: 8_705 };
+    assert_eq!(run_with(LOADS, FUEL_LIMIT, longer).number, 0);
 }
 
 #[test]
 fn checking_and_fitting_take_the_node_row() {
     assert_eq!(check(LOADS, 2_047), Checked { number: 1, line: 0 });
     assert_eq!(check(LOADS, 2_048), Checked { number: 0, line: 4 });
-    assert_eq!(fit(LOADS, 2_047, b"A"), Fitted { number: 1, ..Fitted::default() });
-    assert_eq!(fit(LOADS, 2_048, b"A"), Fitted { line: 2, ..Fitted::default() });
+    let one = Fitted { number: 1, ..Fitted::default() };
+    assert_eq!(fit(LOADS, 2_047, DEAD_ROW, b"A"), one);
+    // The root, the byte and the end.
+    assert_eq!(fit(LOADS, 2_048, DEAD_ROW, b"A"), Fitted { line: 2, places: 3, ..Fitted::default() });
+}
+
+#[test]
+fn fitting_takes_the_row_of_dead_places() {
+    // A bit for each of 2,048 nodes at each of 201 positions.
+    assert_eq!(DEAD_ROW * 8, 2_048 * 201);
+    let one = Fitted { number: 1, ..Fitted::default() };
+    for dead in [0, 51_455] {
+        assert_eq!(fit(LOADS, NODE_ROW, dead, b"A"), one);
+        assert_eq!(fit(FLAG_FAULT, NODE_ROW, dead, b"A"), one);
+        assert_eq!(fit(LOADS, NODE_ROW, dead, &[b'A'; 201]), one);
+    }
+    for dead in [51_456, 51_457, 1_000_000] {
+        assert_eq!(fit(LOADS, NODE_ROW, dead, b"A"), Fitted { line: 2, places: 3, ..Fitted::default() });
+    }
 }
 
 #[test]
 fn one_before_two_before_three() {
     let with_zero = [FLAG_FAULT, &[0]].concat();
-    assert_eq!(run_with(&with_zero, 0, NODE_ROW, STORE_ROOM).number, 1);
-    assert_eq!(run_with(&with_zero, 1, 0, STORE_ROOM).number, 1);
-    assert_eq!(run_with(&with_zero, 1, NODE_ROW, 0).number, 1);
-    assert_eq!(run_with(&with_zero, 1, NODE_ROW, STORE_ROOM), Ran { number: 2, ..Ran::default() });
+    assert_eq!(run_with(&with_zero, 0, LEAST).number, 1);
+    assert_eq!(run_with(&with_zero, 1, Rooms { nodes: 0, ..LEAST }).number, 1);
+    assert_eq!(run_with(&with_zero, 1, Rooms { dead: 0, ..LEAST }).number, 1);
+    assert_eq!(run_with(&with_zero, 1, Rooms { store: 0, ..LEAST }).number, 1);
+    assert_eq!(run_with(&with_zero, 1, LEAST), Ran { number: 2, ..Ran::default() });
     let refused = Ran { number: 3, line: 1, ..Ran::default() };
-    assert_eq!(run_with(FLAG_FAULT, 1, NODE_ROW, STORE_ROOM), refused);
+    assert_eq!(run_with(FLAG_FAULT, 1, LEAST), refused);
     assert_eq!(check(&with_zero, 0).number, 1);
     assert_eq!(check(&with_zero, NODE_ROW), Checked { number: 2, line: 0 });
     assert_eq!(check(FLAG_FAULT, NODE_ROW), Checked { number: 3, line: 1 });
@@ -79,7 +113,7 @@ fn lines_downward_then_the_lowest_number() {
     ] {
         let text = flag.to_string() + &body;
         assert_eq!(check(text.as_bytes(), NODE_ROW), Checked { number, line }, "{body}");
-        let ran = run_with(text.as_bytes(), 1, NODE_ROW, STORE_ROOM);
+        let ran = run_with(text.as_bytes(), 1, LEAST);
         assert_eq!((ran.number, ran.line), (number, line), "{body}");
     }
 }
@@ -94,16 +128,18 @@ fn the_node_limit_holds_with_a_longer_row() {
 #[test]
 fn a_long_line_is_fitted_after_loading() {
     let long = [b'A'; 201];
-    assert_eq!(fit(LOADS, NODE_ROW, &long), Fitted { number: 11, ..Fitted::default() });
-    assert_eq!(fit(FLAG_FAULT, NODE_ROW, &long), Fitted { number: 3, line: 1, ..Fitted::default() });
-    assert_eq!(fit(LOADS, NODE_ROW, &long[..200]), Fitted::default());
+    let fitted = |text, line| fit(text, NODE_ROW, DEAD_ROW, line);
+    assert_eq!(fitted(LOADS, &long), Fitted { number: 11, ..Fitted::default() });
+    assert_eq!(fitted(FLAG_FAULT, &long), Fitted { number: 3, line: 1, ..Fitted::default() });
+    assert_eq!(fitted(LOADS, &long[..200]), Fitted { places: 2, ..Fitted::default() });
 }
 
 #[test]
 fn a_fitted_line_is_taken_whole() {
     let text = b"$!$!0 (+-*/)\nA!$\n$$\n";
-    let mut expected = Fitted { line: 2, ..Fitted::default() };
+    // The root, the byte, the placeholder at five positions and the end.
+    let mut expected = Fitted { line: 2, places: 8, ..Fitted::default() };
     expected.start[0] = 1;
     expected.length[0] = 4;
-    assert_eq!(fit(text, NODE_ROW, b"A\0\n$!"), expected);
+    assert_eq!(fit(text, NODE_ROW, DEAD_ROW, b"A\0\n$!"), expected);
 }

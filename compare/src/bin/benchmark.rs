@@ -7,7 +7,7 @@
 use std::time::{Duration, Instant};
 
 use stage2_compare::{run, Node};
-use stage2_reference::{self as reference, Ran, FUEL_LIMIT, NODE_ROW, STORE_ROOM};
+use stage2_reference::{self as reference, Ran, DEAD_ROW, FUEL_LIMIT, NODE_ROW, STORE_ROOM};
 
 /// How long both libraries are timed on a case.
 const LEAST: Duration = Duration::from_millis(1_500);
@@ -19,10 +19,18 @@ fn main() {
         "{:50} {:>8} {:>12} {:>12} {:>6} {:>6}",
         "case", "events", "proved", "reference", "ratio", "input"
     );
+    let mut lent = Lent::new();
+    let mut print = |case: &str, text: &str, loading: Option<Times>| print(&mut lent, case, text, loading);
     print("1,000,000 events: passes of an iteration", &passes(), None);
     print("1,000,000 events: calls in an iteration", &calls(), None);
     print("900 order lines through name templates", &orders(), None);
     print("100,000 expressions with names and brackets", &expressions(), None);
+    let loading = print("three templates, no line", &short(0), None);
+    print("three templates, 10,000 short lines", &short(10_000), Some(loading));
+    for (end, fits) in [("", "nowhere"), ("b", "at the last place")] {
+        let loading = print(&format!("nine placeholders, fits {fits}, no line"), &slow(end, 0), None);
+        print(&format!("nine placeholders, fits {fits}, 300 x 200"), &slow(end, 300), Some(loading));
+    }
     // Table 2.4.6 of the source: 0, 3 and 6 code lines, 1 to 100 macros.
     for codes in [0, 3, 6] {
         for macros in [1, 10, 50, 100] {
@@ -74,6 +82,20 @@ fn expressions() -> String {
     format!("{FLAG}{section}{names}{line}")
 }
 
+/// So many lines of two and three bytes in turn, for the templates of document 01's
+/// examples; the longest text has room for 20,000 of them.
+fn short(lines: usize) -> String {
+    let input: String = ["AB\n", "XB\n", "A=B\n", "x\n"].into_iter().cycle().take(lines).collect();
+    format!("{FLAG}AB!$\n$\n!B$\n$\n!=!$\n$$\n{input}")
+}
+
+/// So many lines of 200 bytes, all alike but for the end. Without an end they fit
+/// nowhere, and are written; with b at the last place of all.
+fn slow(end: &str, lines: usize) -> String {
+    let line = format!("{}{end}\n", "a".repeat(200 - end.len()));
+    format!("{FLAG}!a!a!a!a!a!a!a!a!c$\n$\n!ab!!!!!!!!$\n$$\n{}", line.repeat(lines))
+}
+
 /// As in the source's table: so many macros with short heads and so many code
 /// lines each, and so many calls of one of them, counted from 1.
 fn table(macros: usize, codes: usize, calls: usize, called: usize) -> String {
@@ -101,22 +123,43 @@ impl Times {
     }
 }
 
+/// What every run is lent.
+struct Lent {
+    nodes: Vec<Node>,
+    dead: Vec<u8>,
+    output: Vec<u8>,
+    store: Vec<u8>,
+}
+
+impl Lent {
+    fn new() -> Lent {
+        let nodes = vec![Node::default(); NODE_ROW];
+        Lent { nodes, dead: vec![0; DEAD_ROW], output: vec![0; 65_536], store: vec![0; STORE_ROOM] }
+    }
+
+    fn run_proved(&mut self, text: &[u8]) -> Ran {
+        run(text, FUEL_LIMIT, &mut self.nodes, &mut self.dead, &mut self.output, &mut self.store)
+    }
+
+    fn run_reference(&mut self, text: &[u8]) -> Ran {
+        reference::run(text, FUEL_LIMIT, NODE_ROW, DEAD_ROW, &mut self.output, &mut self.store)
+    }
+}
+
 /// One row: both libraries run the text and agree.
-fn print(case: &str, text: &str, loading: Option<Times>) -> Times {
-    let mut nodes = vec![Node::default(); NODE_ROW];
-    let (mut output, mut store) = (vec![0; 65_536], vec![0; STORE_ROOM]);
+fn print(lent: &mut Lent, case: &str, text: &str, loading: Option<Times>) -> Times {
     let text = text.as_bytes();
     let start = Instant::now();
     let mut shortest = Times { proved: Duration::MAX, reference: Duration::MAX };
     while start.elapsed() < LEAST {
-        let (proved_ran, time) = timed(|| run(text, FUEL_LIMIT, &mut nodes, &mut output, &mut store));
+        let (proved_ran, time) = timed(|| lent.run_proved(text));
         shortest.proved = shortest.proved.min(time);
-        let (ran, time) = timed(|| reference::run(text, FUEL_LIMIT, NODE_ROW, &mut output, &mut store));
+        let (ran, time) = timed(|| lent.run_reference(text));
         shortest.reference = shortest.reference.min(time);
         assert_eq!(proved_ran, ran, "{case}");
         assert!(ran.number == 0 || ran.events == FUEL_LIMIT, "{case}: {ran:?}");
     }
-    let ran = reference::run(text, FUEL_LIMIT, NODE_ROW, &mut output, &mut store);
+    let ran = lent.run_reference(text);
     let input = loading.map_or(String::new(), |times| format!("{:6.2}", shortest.beyond(times).ratio()));
     let (proved, reference) = (shown(shortest.proved), shown(shortest.reference));
     println!("{case:50} {:8} {proved:>12} {reference:>12} {:6.2} {input}", ran.events, shortest.ratio());

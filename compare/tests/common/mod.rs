@@ -8,9 +8,13 @@
 
 use std::collections::BTreeMap;
 use std::env;
+use std::sync::mpsc;
+use std::thread;
+use std::time::Duration;
 
 use stage2_compare::Node;
 use stage2_reference::generate::{Generator, Size};
+use stage2_reference::{DEAD_ROW, NODE_ROW};
 
 /// How many texts are tried unless `STAGE2_COUNT` says otherwise: enough to
 /// meet every number.
@@ -37,6 +41,11 @@ pub fn for_value_texts(test: impl FnMut(&mut Generator, &[u8])) {
     for_made("values", Generator::value_text, test);
 }
 
+/// Calls `test` with random texts about places, of a size.
+pub fn for_places_texts(size: Size, test: impl FnMut(&mut Generator, &[u8])) {
+    for_made(&format!("{size:?}, places"), |generator| generator.places_text(size), test);
+}
+
 /// Calls `test` with the texts that `make` makes, and prints the seed.
 fn for_made(
     kind: &str,
@@ -46,35 +55,10 @@ fn for_made(
     let (seed, count) = (setting("STAGE2_SEED", 20_261_115), count());
     println!("STAGE2_SEED={seed} STAGE2_COUNT={count} {kind}");
     let mut generator = Generator::new(seed);
-    let mut passed_over = 0;
     for _ in 0..count {
         let text = make(&mut generator);
-        if search_takes_long(&text) {
-            passed_over += 1;
-        } else {
-            test(&mut generator, &text);
-        }
+        test(&mut generator, &text);
     }
-    println!("{passed_over} texts passed over");
-}
-
-/// Whether fitting a line may take minutes: the search tries every split of a
-/// line into the pieces of a template.
-fn search_takes_long(text: &[u8]) -> bool {
-    let marks = [text.get(1), text.get(2)];
-    let [Some(placeholder), Some(code)] = marks else { return false };
-    let mut lines = text.split(|&byte| byte == b'\n').skip(1);
-    let mut most = 0;
-    while let Some(template) = lines.next() {
-        most = most.max(template.iter().filter(|&byte| byte == placeholder).count());
-        let end = lines.find(|line| line.first() == Some(code));
-        if end.is_none_or(|line| line.get(1) == Some(code)) {
-            break;
-        }
-    }
-    let longest = text.split(|&byte| byte == b'\n').map(<[u8]>::len).max().unwrap_or(0);
-    let splits: f64 = (1..=most).map(|place| (longest + place) as f64 / place as f64).product();
-    splits > 1e10
 }
 
 /// How often each number was answered.
@@ -95,11 +79,79 @@ impl Numbers {
 }
 
 /// A node row whose contents mean nothing.
-pub fn row(length: usize) -> Vec<Node> {
+fn node_row(length: usize) -> Vec<Node> {
     (0..length)
         .map(|at| at as u16)
         .map(|x| Node { element: x, first: x, count: x, template: x, height: x, holes: x })
         .collect()
+}
+
+/// The rows that calls are lent. They are used again and again, so that a call
+/// meets what others left.
+pub struct Rows {
+    nodes: Vec<Node>,
+    dead: Vec<u8>,
+    turn: u64,
+}
+
+impl Rows {
+    /// Rows of which at most so many nodes and bytes are lent.
+    pub fn up_to(nodes: usize, dead: usize) -> Rows {
+        Rows { nodes: node_row(nodes), dead: vec![0; dead], turn: 0 }
+    }
+
+    /// Rows of the least legal lengths.
+    pub fn least() -> Rows {
+        Rows::up_to(NODE_ROW, DEAD_ROW)
+    }
+
+    /// So many nodes, for a call that takes no other row.
+    pub fn nodes(&mut self, nodes: usize) -> &mut [Node] {
+        &mut self.nodes[..nodes]
+    }
+
+    /// So many nodes, and so many bytes for dead places: random ones in one turn,
+    /// marks for every place in the next, and then what the last call left.
+    pub fn lend(&mut self, nodes: usize, dead: usize) -> (&mut [Node], &mut [u8]) {
+        let row = &mut self.dead[..dead];
+        match self.turn % 3 {
+            0 => fill(row, self.turn),
+            1 => row.fill(0xFF),
+            _ => {}
+        }
+        self.turn += 1;
+        (&mut self.nodes[..nodes], row)
+    }
+}
+
+/// Fills a row with random bytes, the high ones of a multiplicative generator.
+fn fill(row: &mut [u8], seed: u64) {
+    let mut word = seed;
+    for bytes in row.chunks_mut(4) {
+        word = word.wrapping_mul(6_364_136_223_846_793_005).wrapping_add(1_442_695_040_888_963_407);
+        bytes.copy_from_slice(&word.to_be_bytes()[..bytes.len()]);
+    }
+}
+
+/// Lengths of a row of dead places: the least that is legal, longer ones, and now
+/// and then one that is too short.
+pub fn any_dead(turn: u64) -> usize {
+    match turn % 61 {
+        7 => DEAD_ROW - 1,
+        27 => 0,
+        odd if odd % 2 == 1 => DEAD_ROW,
+        even => DEAD_ROW + even as usize,
+    }
+}
+
+/// The longest of them.
+pub const LONGEST_DEAD: usize = DEAD_ROW + 60;
+
+/// What a call gives, which must answer within a minute.
+pub fn answered<T: Send + 'static>(call: impl FnOnce() -> T + Send + 'static) -> T {
+    let (answer, answered) = mpsc::channel();
+    thread::spawn(move || answer.send(call()));
+    answered.recv_timeout(Duration::from_secs(60)).expect("an answer within a minute")
 }
 
 pub fn shown(bytes: &[u8]) -> String {

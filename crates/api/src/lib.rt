@@ -21,12 +21,17 @@ pub extern "C" fn stage2_check(text: &[u8], nodes: &mut [Node]) -> Checked
 }
 
 #[no_mangle]
-pub extern "C" fn stage2_fit(text: &[u8], nodes: &mut [Node], line: &[u8]) -> Fitted
-    ensures { λ r. ⌜ r ≡ fitLine (length (now (nodes .entry))) (now (text .entry)) (now (line .entry)) ⌝ }
-    ensures { λ r. ⌜ ((t : Loaded) → load (now (text .entry)) ≡ loaded t → 2048 ≤ length (now (nodes .entry)) → length (now (line .entry)) ≤ 200
-        → FitsFirst t (now (line .entry)) r) ⌝ }
+pub extern "C" fn stage2_fit(
+    text: &[u8],
+    nodes: &mut [Node],
+    dead: &mut [u8],
+    line: &[u8],
+) -> Fitted
+    ensures { λ r. ⌜ r ≡ fitLine (length (now (nodes .entry))) (length (now (dead .entry))) (now (text .entry)) (now (line .entry)) ⌝ }
+    ensures { λ r. ⌜ ((t : Loaded) → load (now (text .entry)) ≡ loaded t → 2048 ≤ length (now (nodes .entry)) → 51456 ≤ length (now (dead .entry))
+        → length (now (line .entry)) ≤ 200 → FitsFirst t (now (line .entry)) r) ⌝ }
 {
-    stage2::fit(text, nodes, line)
+    stage2::fit(text, nodes, dead, line)
 }
 
 #[no_mangle]
@@ -34,13 +39,15 @@ pub extern "C" fn stage2_run(
     text: &[u8],
     fuel: u64,
     nodes: &mut [Node],
+    dead: &mut [u8],
     output: &mut [u8],
     store: &mut [u8],
 ) -> Ran
-    ensures { λ r. ⌜ Runs (runText fuel (length (now (nodes .entry))) (length (now (output .entry))) (length (now (store .entry))) (now (text .entry)))
+    ensures { λ r. ⌜ Runs (runText fuel (length (now (nodes .entry))) (length (now (dead .entry))) (length (now (output .entry))) (length (now (store .entry))) (now (text .entry)))
         (now (output .entry)) (now (store .entry)) r (now (output .exit)) (now (store .exit)) ⌝ }
-    ensures { λ r. ⌜ ((t : Loaded) → load (now (text .entry)) ≡ loaded t → illegal fuel (length (now (nodes .entry))) (length (now (store .entry))) ≡ false
+    ensures { λ r. ⌜ ((t : Loaded) → load (now (text .entry)) ≡ loaded t
+        → illegal fuel (length (now (nodes .entry))) (length (now (dead .entry))) (length (now (store .entry))) ≡ false
         → FollowsExpansion t fuel (now (output .entry)) (now (store .entry)) r (now (output .exit)) (now (store .exit))) ⌝ }
 {
-    stage2::run(text, fuel, nodes, output, store)
+    stage2::run(text, fuel, nodes, dead, output, store)
 }

@@ -1,12 +1,12 @@
 -- The laws of depth_past, and of the loop of next_atom; and that atoms go by the brackets alone.
-use mathlib.Core.Path.{_≡_, refl, sym, _∙_, ap, ap₂}
+use mathlib.Core.Path.{_≡_, refl, sym, _∙_, ap}
 use mathlib.Core.Bool.{Bool, true, false, _&&_}
-use mathlib.Core.List.{[], _∷_, _++_, append-assoc}
+use mathlib.Core.List.{[], _∷_, _++_}
 use mathlib.Core.Option.{Option, none, some}
 use Prim.Native.Nat.{ℕ, zero, suc, _+_, _-_, _≤_, _<_}
 use native.Mathlib.Numerals.{add-one}
 use native.Mathlib.Omega.{arith}
-use lib.Dec.{eqb, eqb·suc-zero}
+use lib.Dec.{eqb}
 use lib.ListN.{length, getD, drop, drop-of-length-le}
 use lib.Seq.{drop-cons}
 use borrow.Author.Tests.{eq-eqb, ne-eqb}
@@ -15,16 +15,8 @@ use Rattle.model.specs.Text.{Bytes, part}
 use Rattle.model.specs.Reading.{group, atom}
 use Rattle.model.proofs.Text.{part-more}
 use Rattle.model.proofs.Chosen.{Tested, alike, apart, tested}
+use Rattle.model.proofs.Atoms.{after, after-after, group-left, group-right, group-other, group-last, atom-right, atom-left, atom-other}
 use Rattle.atom.specs.Atoms.{brackets, depthPast, AtomAt}
-
--- the bytes p in front of what is found
-abbrev pub after : Bytes → Option (Bytes × Bytes) → Option (Bytes × Bytes)
-after p o = elim o [ none ↦ none | some r ↦ some (p ++ r .0, r .1) ]
-
--- what was passed goes in front at once or in two steps
-pub after-after : (p q : Bytes) (o : Option (Bytes × Bytes)) → after p (after q o) ≡ after (p ++ q) o
-after-after p q none = refl
-after-after p q (some r) = ap (λ (l : Bytes). some (l, r .1)) (sym (append-assoc p q (r .0)))
 
 module _ (m : Marks) where
   -- ---- depth_past
@@ -42,54 +34,6 @@ module _ (m : Marks) where
   unfolding depthPast
   past-other b d l r = rw (ne-eqb b (m .left) l, ne-eqb b (m .right) r, depthPast) refl
 
-  -- ---- a group, by its first byte
-
-  -- with what the tests say: is b a left bracket, is it a right one, is no bracket open inside
-  abbrev tests : ℕ → ℕ → Bytes → Bool → Bool → Bool → Option (Bytes × Bytes)
-  tests d b s l r z =
-      let d′ : ℕ = elim l as (λ b. ℕ) [ true ↦ suc d | false ↦ elim r as (λ b. ℕ) [ true ↦ d - 1 | false ↦ d ] ] in
-      elim (r && z) [ true ↦ some (b ∷ [], s) | false ↦ after (b ∷ []) (group m d′ s) ]
-
-  -- a group goes by these tests
-  by-tests : (d b : ℕ) (s : Bytes) (l r z : Bool) → eqb b (m .left) ≡ l → eqb b (m .right) ≡ r → eqb d 0 ≡ z → group m d (b ∷ s) ≡ tests d b s l r z
-  unfolding group
-  by-tests d b s l r z e f g = ap₂ (λ (x y : Bool). tests d b s x y (eqb d 0)) e f ∙ ap (tests d b s l r) g
-
-  -- a left bracket opens one more
-  pub group-left : (d b : ℕ) (s : Bytes) → b ≡ m .left → ¬ (b ≡ m .right) → group m d (b ∷ s) ≡ after (b ∷ []) (group m (suc d) s)
-  group-left d b s l r = by-tests d b s true false (eqb d 0) (eq-eqb b (m .left) l) (ne-eqb b (m .right) r) refl
-
-  -- a byte that is no bracket leaves the count
-  pub group-other : (d b : ℕ) (s : Bytes) → ¬ (b ≡ m .left) → ¬ (b ≡ m .right) → group m d (b ∷ s) ≡ after (b ∷ []) (group m d s)
-  group-other d b s l r = by-tests d b s false false (eqb d 0) (ne-eqb b (m .left) l) (ne-eqb b (m .right) r) refl
-
-  -- a right bracket closes one
-  pub group-right : (d b : ℕ) (s : Bytes) → ¬ (b ≡ m .left) → b ≡ m .right → group m (suc d) (b ∷ s) ≡ after (b ∷ []) (group m d s)
-  group-right d b s l r =
-      let z : suc d - 1 ≡ d = omega arith in
-      by-tests (suc d) b s false true false (ne-eqb b (m .left) l) (eq-eqb b (m .right) r) (eqb·suc-zero d) ∙ ap (λ (k : ℕ). after (b ∷ []) (group m k s)) z
-
-  -- or the group itself
-  pub group-last : (b : ℕ) (s : Bytes) → b ≡ m .right → group m 0 (b ∷ s) ≡ some (b ∷ [], s)
-  group-last b s r = by-tests 0 b s (eqb b (m .left)) true true refl (eq-eqb b (m .right) r) refl
-
-  -- ---- an atom, by its first byte
-
-  -- a right bracket is no atom
-  pub atom-right : (b : ℕ) (s : Bytes) → b ≡ m .right → atom m (b ∷ s) ≡ none
-  unfolding atom
-  atom-right b s r = rw (eq-eqb b (m .right) r, atom) refl
-
-  -- a byte that is no bracket is one
-  pub atom-other : (b : ℕ) (s : Bytes) → ¬ (b ≡ m .left) → ¬ (b ≡ m .right) → atom m (b ∷ s) ≡ some (b ∷ [], s)
-  unfolding atom
-  atom-other b s l r = rw (ne-eqb b (m .right) r, ne-eqb b (m .left) l, atom) refl
-
-  -- a left bracket starts one
-  pub atom-left : (b : ℕ) (s : Bytes) → b ≡ m .left → ¬ (b ≡ m .right) → atom m (b ∷ s) ≡ after (b ∷ []) (group m 0 s)
-  unfolding atom
-  atom-left b s l r = rw (ne-eqb b (m .right) r, eq-eqb b (m .left) l, atom) refl
-
   -- ---- the loop of next_atom
 
   -- what is found where d brackets are open and p was passed since the first of them
@@ -104,15 +48,15 @@ module _ (m : Marks) where
       by : (l r : Bool) → Tested b (m .left) l → Tested b (m .right) r → (d : ℕ) → closing (suc d) p (b ∷ s) ≡ closing (depthPast m b (suc d)) (p ++ b ∷ []) s
       by true r (alike l) t d =
           let z : depthPast m b (suc d) ≡ suc (suc d) = omega (arith, past-left b (suc d) l) in
-          rw z (ap (after p) (group-left d b s l (λ e. n (sym l ∙ e))) ∙ after-after p (b ∷ []) (group m (suc d) s))
+          rw z (ap (after p) (group-left m d b s l (λ e. n (sym l ∙ e))) ∙ after-after p (b ∷ []) (group m (suc d) s))
       by false true (apart l) (alike r) zero =
           let z : depthPast m b 1 ≡ 0 = omega (arith, past-right b 1 l r) in
-          rw z (ap (after p) (group-last b s r))
+          rw z (ap (after p) (group-last m b s r))
       by false true (apart l) (alike r) (suc d) =
           let z : depthPast m b (suc (suc d)) ≡ suc d = omega (arith, past-right b (suc (suc d)) l r) in
-          rw z (ap (after p) (group-right d b s l r) ∙ after-after p (b ∷ []) (group m d s))
+          rw z (ap (after p) (group-right m d b s l r) ∙ after-after p (b ∷ []) (group m d s))
       by false false (apart l) (apart r) d =
-          rw (past-other b (suc d) l r) (ap (after p) (group-other d b s l r) ∙ after-after p (b ∷ []) (group m d s))
+          rw (past-other b (suc d) l r) (ap (after p) (group-other m d b s l r) ∙ after-after p (b ∷ []) (group m d s))
 
   -- a byte opens one bracket at most
   past-most : (b d : ℕ) → depthPast m b d ≤ d + 1

@@ -1,3 +1,2 @@
 -- The laws of atoms.
 pub mod Atoms
-pub mod Rows

@@ -1,5 +1,6 @@
 // Offering a line and running a body call each other under fuel (document 01, "Events, store and result"). The fuel falls with
-// each line that is offered and each code line that is begun.
+// each line that is offered and each code line that is begun. Of the lent rows, `dead` is the search's alone: it has bits for the places of the
+// tree's `count` nodes.
 ghost use mathlib.Core.Option.{none, some};
 ghost use mathlib.Core.List.{[], _∷_};
 ghost use Prim.Native.Nat.{_≤_, _<_};
@@ -9,7 +10,7 @@ ghost use Rattle.call.specs.Call.{openedOf, laid, Sized};
 ghost use Rattle.matching.specs.Book.{Prepared};
 ghost use Rattle.answer.specs.Kept.{Begun, Open};
 ghost use Rattle.cycle_laws.specs.Meets.{Meets, Advances};
-ghost use Rattle.model.specs.Limits.{lineMost, callsMost};
+ghost use Rattle.model.specs.Limits.{lineMost, callsMost, deadLeast};
 use answer::Answer;
 use answer::go_on;
 use answer::is_left;
@@ -32,6 +33,8 @@ pub fn offer(
     m: Marks,
     text: &[u8],
     nodes: &[Node],
+    count: usize,
+    dead: &mut [u8],
     bodies: &[usize],
     output: &mut [u8],
     memory: &mut [u8],
@@ -40,12 +43,12 @@ pub fn offer(
     depth: usize,
     s: State,
 ) -> Answer
-    requires { ⌜ Prepared m (now text) (now nodes) (now bodies) × Sound s (now output) (now memory)
-        × (n ≤ lineMost) × (n ≤ length (now line)) × (depth ≤ callsMost) ⌝ }
-    ensures { λ r. ⌜ Meets m (now (text .entry)) (now (nodes .entry)) (now (bodies .entry)) (some (take n (now (line .entry)))) []
+    requires { ⌜ Prepared m (now text) (now nodes) count (now bodies) × Sound s (now output) (now memory)
+        × (n ≤ lineMost) × (n ≤ length (now line)) × (depth ≤ callsMost) × (deadLeast ≤ length (now dead)) ⌝ }
+    ensures { λ r. ⌜ Meets m (now (text .entry)) (now (nodes .entry)) count (now (bodies .entry)) (some (take n (now (line .entry)))) []
         depth s (now (output .entry)) (now (memory .entry)) r (now (output .exit)) (now (memory .exit)) ⌝ }
 {
-    let found = fit::first_reading(m, nodes, line, n);
+    let found = fit::first_reading(m, nodes, count, dead, line, n);
     let a = decide(found, line, n, output, depth, s);
     if is_left(a) {
         return a;
@@ -58,6 +61,8 @@ pub fn offer(
         m,
         text,
         nodes,
+        count,
+        dead,
         bodies,
         output,
         memory,
@@ -74,6 +79,8 @@ fn body(
     m: Marks,
     text: &[u8],
     nodes: &[Node],
+    count: usize,
+    dead: &mut [u8],
     bodies: &[usize],
     output: &mut [u8],
     memory: &mut [u8],
@@ -83,9 +90,9 @@ fn body(
     depth: usize,
     s: State,
 ) -> Answer
-    requires { ⌜ Prepared m (now text) (now nodes) (now bodies) × Sound s (now output) (now memory)
-        × Begun m (now text) call × (depth < callsMost) × Sized (now nums) (now params) ⌝ }
-    ensures { λ r. ⌜ Meets m (now (text .entry)) (now (nodes .entry)) (now (bodies .entry)) none (openedOf m (now (text .entry)) call ∷ [])
+    requires { ⌜ Prepared m (now text) (now nodes) count (now bodies) × Sound s (now output) (now memory)
+        × Begun m (now text) call × (depth < callsMost) × Sized (now nums) (now params) × (deadLeast ≤ length (now dead)) ⌝ }
+    ensures { λ r. ⌜ Meets m (now (text .entry)) (now (nodes .entry)) count (now (bodies .entry)) none (openedOf m (now (text .entry)) call ∷ [])
         depth s (now (output .entry)) (now (memory .entry)) r (now (output .exit)) (now (memory .exit)) ⌝ }
 {
     let c = call::lay_out(call, nums, params);
@@ -95,6 +102,8 @@ fn body(
             m,
             text,
             nodes,
+            count,
+            dead,
             bodies,
             output,
             memory,
@@ -115,6 +124,8 @@ fn advance(
     m: Marks,
     text: &[u8],
     nodes: &[Node],
+    count: usize,
+    dead: &mut [u8],
     bodies: &[usize],
     output: &mut [u8],
     memory: &mut [u8],
@@ -123,9 +134,9 @@ fn advance(
     a: Answer,
     depth: usize,
 ) -> Answer
-    requires { ⌜ Prepared m (now text) (now nodes) (now bodies) × Sound (a .state) (now output) (now memory)
-        × Open m (now text) (laid (a .call) (now nums) (now params)) × (depth < callsMost) ⌝ }
-    ensures { λ r. ⌜ Advances m (now (text .entry)) (now (nodes .entry)) (now (bodies .entry)) (laid (a .call) (now (nums .entry)) (now (params .entry)))
+    requires { ⌜ Prepared m (now text) (now nodes) count (now bodies) × Sound (a .state) (now output) (now memory)
+        × Open m (now text) (laid (a .call) (now nums) (now params)) × (depth < callsMost) × (deadLeast ≤ length (now dead)) ⌝ }
+    ensures { λ r. ⌜ Advances m (now (text .entry)) (now (nodes .entry)) count (now (bodies .entry)) (laid (a .call) (now (nums .entry)) (now (params .entry)))
         depth (a .state) (now (output .entry)) (now (memory .entry)) r
         (now (nums .exit)) (now (params .exit)) (now (output .exit)) (now (memory .exit)) ⌝ }
 {
@@ -140,6 +151,8 @@ fn advance(
         m,
         text,
         nodes,
+        count,
+        dead,
         bodies,
         output,
         memory,

@@ -75,19 +75,19 @@ pub record EntersCall (q : Choice) (depth : ℕ) (s : State) (o : Bytes) (a : An
   pub kept : o₁ ≡ o
 
 -- no fuel is left
-offer-stops : {m : Marks} {text : Bytes} {row : List Node} {bodies : List ℕ} {l : Bytes} {depth : ℕ} {s : State} {o w : Bytes}
-    → Sound s o w → s .fuel ≡ 0 → Meets m text row bodies (some l) [] depth s o w (endsWith 20 s) o w
+offer-stops : {m : Marks} {text : Bytes} {row : List Node} {count : ℕ} {bodies : List ℕ} {l : Bytes} {depth : ℕ} {s : State} {o w : Bytes}
+    → Sound s o w → s .fuel ≡ 0 → Meets m text row count bodies (some l) [] depth s o w (endsWith 20 s) o w
 unfolding nextAt nextOf
-offer-stops {m} {text} {row} {bodies} {l} {depth} {s} {o} {w} sound spent = record {
+offer-stops {m} {text} {row} {count} {bodies} {l} {depth} {s} {o} {w} sound spent = record {
   follows = follows-itself sound;
   left = refl;
   same = λ t b fs k _ _ _. offer-spent (length o) m text t s o w spent l fs ∙ sym (halts-with (s .fuel) (length o) t text 20 [] s o w);
 }
 
-module _ {m : Marks} {text : Bytes} {row : List Node} {bodies : List ℕ} (line : Bytes) (n : ℕ) {depth : ℕ} {s : State} {o w : Bytes} {q : Choice} (sound : Sound s o w) (g : Chooses m row (take n line) q) where
+module _ {m : Marks} {text : Bytes} {row : List Node} {count : ℕ} {bodies : List ℕ} (line : Bytes) (n : ℕ) {depth : ℕ} {s : State} {o w : Bytes} {q : Choice} (sound : Sound s o w) (g : Chooses m row count (take n line) q) where
   module _ (some-fuel : 0 < s .fuel) where
     -- the line has no reading
-    offer-writes : {r : Answer} {o′ : Bytes} → q .found ≡ false → WritesLine line n (goesBack 0 (countedEvent s)) o r o′ → Meets m text row bodies (some (take n line)) [] depth s o w r o′ w
+    offer-writes : {r : Answer} {o′ : Bytes} → q .found ≡ false → WritesLine line n (goesBack 0 (countedEvent s)) o r o′ → Meets m text row count bodies (some (take n line)) [] depth s o w r o′ w
     offer-writes e p = record {
       follows = follows-trans (event-follows (s .calls) (omega arith) sound some-fuel) (wrote-follows refl (p .writes) (event-follows (s .calls) (omega arith) sound some-fuel .sound));
       left = wrote-left refl (p .writes);
@@ -97,7 +97,7 @@ module _ {m : Marks} {text : Bytes} {row : List Node} {bodies : List ℕ} (line 
     }
 
     -- it opens a thirteenth call
-    offer-deep : q .found ≡ true → depth ≡ 12 → Meets m text row bodies (some (take n line)) [] depth s o w (endsWith 14 (countedEvent s)) o w
+    offer-deep : q .found ≡ true → depth ≡ 12 → Meets m text row count bodies (some (take n line)) [] depth s o w (endsWith 14 (countedEvent s)) o w
     unfolding nextAt nextOf
     offer-deep e deep = record {
       follows = event-follows (s .calls) (omega arith) sound some-fuel;
@@ -108,13 +108,13 @@ module _ {m : Marks} {text : Bytes} {row : List Node} {bodies : List ℕ} (line 
 
   module _ {a : Answer} {o₁ : Bytes} (d : Decides q line n depth s o a o₁) where
     -- no call is opened
-    pub offer-left : isLeft (turn a) ≡ true → Meets m text row bodies (some (take n line)) [] depth s o w a o₁ w
+    pub offer-left : isLeft (turn a) ≡ true → Meets m text row count bodies (some (take n line)) [] depth s o w a o₁ w
     offer-left e = by (eqb (s .fuel) 0) refl (q .found) refl (eqb depth 12) refl
       where
-        is : {x : Answer} {y : Bytes} → (a ≡ x) × (y ≡ o₁) → Meets m text row bodies (some (take n line)) [] depth s o w x y w → Meets m text row bodies (some (take n line)) [] depth s o w a o₁ w
-        is {x} {y} f h = subst (λ (z : Answer). Meets m text row bodies (some (take n line)) [] depth s o w z o₁ w) (sym (f .0)) (subst (λ (z : Bytes). Meets m text row bodies (some (take n line)) [] depth s o w x z w) (f .1) h)
+        is : {x : Answer} {y : Bytes} → (a ≡ x) × (y ≡ o₁) → Meets m text row count bodies (some (take n line)) [] depth s o w x y w → Meets m text row count bodies (some (take n line)) [] depth s o w a o₁ w
+        is {x} {y} f h = subst (λ (z : Answer). Meets m text row count bodies (some (take n line)) [] depth s o w z o₁ w) (sym (f .0)) (subst (λ (z : Bytes). Meets m text row count bodies (some (take n line)) [] depth s o w x z w) (f .1) h)
 
-        by : (spent : Bool) → eqb (s .fuel) 0 ≡ spent → (found : Bool) → q .found ≡ found → (deep : Bool) → eqb depth 12 ≡ deep → Meets m text row bodies (some (take n line)) [] depth s o w a o₁ w
+        by : (spent : Bool) → eqb (s .fuel) 0 ≡ spent → (found : Bool) → q .found ≡ found → (deep : Bool) → eqb depth 12 ≡ deep → Meets m text row count bodies (some (take n line)) [] depth s o w a o₁ w
         by true f b _ _ _ = let r = d .spent (eqb-true _ _ f) in is (r .0, sym (r .1)) (offer-stops sound (eqb-true _ _ f))
         by false f false b _ _ = let k = pos-of-ne-zero (eqb-false _ _ f) in offer-writes k b (d .writes k b)
         by false f true b true c = let k = pos-of-ne-zero (eqb-false _ _ f) in let r = d .deep k b (eqb-true _ _ c) in is (r .0, sym (r .1)) (offer-deep k b (eqb-true _ _ c))
@@ -154,19 +154,19 @@ module _ {depth : ℕ} {s : State} {o w : Bytes} {q : Choice} {a : Answer} {o₁
     pub called-less : u .fuel < s .fuel
     called-less = omega (arith, k .some-fuel, ap (λ (y : State). y .fuel) called)
 
-    module _ {m : Marks} {text : Bytes} {row : List Node} {bodies : List ℕ} (line : Bytes) (n : ℕ) {c : Call} (g : Chooses m row (take n line) q) (h : Opened bodies line n q (u .calls) c) where
+    module _ {m : Marks} {text : Bytes} {row : List Node} {count : ℕ} {bodies : List ℕ} (line : Bytes) (n : ℕ) {c : Call} (g : Chooses m row count (take n line) q) (h : Opened bodies line n q (u .calls) c) where
       -- the call that is opened
-      pub called-begun : Prepared m text row bodies → Begun m text c
+      pub called-begun : Prepared m text row count bodies → Begun m text c
       called-begun p =
           let r = reading-calls line n g (k .found) h text (p .table) (p .book) in
           record { number = omega (arith, r .same, k .some-fuel, ap (λ (y : State). y .calls) called, sound .calls, sound .total); next = r .within; nested = r .nested }
 
       -- what comes of it
-      pub offer-enters : {r : Answer} {o′ w′ : Bytes} → depth ≤ 12 → Meets m text row bodies none (openedOf m text c ∷ []) depth u o₁ w r o′ w′ → Meets m text row bodies (some (take n line)) [] depth s o w r o′ w′
+      pub offer-enters : {r : Answer} {o′ w′ : Bytes} → depth ≤ 12 → Meets m text row count bodies none (openedOf m text c ∷ []) depth u o₁ w r o′ w′ → Meets m text row count bodies (some (take n line)) [] depth s o w r o′ w′
       offer-enters {r} {o′} {w′} few p =
-          let x : Meets m text row bodies none (openedOf m text c ∷ []) depth (withCall (countedEvent s)) o w r o′ w′ =
-          subst (λ (y : State). Meets m text row bodies none (openedOf m text c ∷ []) depth y o w r o′ w′) called
-          (subst (λ (y : Bytes). Meets m text row bodies none (openedOf m text c ∷ []) depth u y w r o′ w′) (k .kept) p) in
+          let x : Meets m text row count bodies none (openedOf m text c ∷ []) depth (withCall (countedEvent s)) o w r o′ w′ =
+          subst (λ (y : State). Meets m text row count bodies none (openedOf m text c ∷ []) depth y o w r o′ w′) called
+          (subst (λ (y : Bytes). Meets m text row count bodies none (openedOf m text c ∷ []) depth u y w r o′ w′) (k .kept) p) in
           record {
             follows = follows-trans (event-follows (s .calls + 1) (omega arith) sound (k .some-fuel)) (x .follows);
             left = x .left;
@@ -182,7 +182,7 @@ module _ {depth : ℕ} {s : State} {o w : Bytes} {q : Choice} {a : Answer} {o₁
 
 module _ {m : Marks} {text : Bytes} {c : Laid} {s : State} {o w b : Bytes} {q : Answer} {nums : List ℕ} {bytes o₁ w₁ : Bytes} (steps : Steps m text c s o w b q nums bytes o₁ w₁) where
   -- it offers nothing
-  pub advance-takes : {row : List Node} {bodies : List ℕ} {depth : ℕ} → isOffer (turn q) ≡ false → Advances m text row bodies c depth s o w q nums bytes o₁ w₁
+  pub advance-takes : {row : List Node} {count : ℕ} {bodies : List ℕ} {depth : ℕ} → isOffer (turn q) ≡ false → Advances m text row count bodies c depth s o w q nums bytes o₁ w₁
   advance-takes e = record {
     follows = steps .follows;
     settled = e;
@@ -202,8 +202,8 @@ module _ {m : Marks} {text : Bytes} {c : Laid} {s : State} {o w b : Bytes} {q : 
     offer-placed = stays .placed .next
 
     -- the line that it builds is offered
-    pub advance-offers : {row : List Node} {bodies : List ℕ} {depth n : ℕ} {r a : Answer} {o₂ w₂ : Bytes} → n ≡ offeredLength (turn q)
-        → Meets m text row bodies (some (take n b)) [] (depth + 1) (q .state) o₁ w₁ r o₂ w₂ → LandsAnswer m text (q .call) r a → Advances m text row bodies c depth s o w a nums bytes o₂ w₂
+    pub advance-offers : {row : List Node} {count : ℕ} {bodies : List ℕ} {depth n : ℕ} {r a : Answer} {o₂ w₂ : Bytes} → n ≡ offeredLength (turn q)
+        → Meets m text row count bodies (some (take n b)) [] (depth + 1) (q .state) o₁ w₁ r o₂ w₂ → LandsAnswer m text (q .call) r a → Advances m text row count bodies c depth s o w a nums bytes o₂ w₂
     advance-offers {depth = depth} {n} {r} {a} {o₂} {w₂} en p k =
         let f = frameOf m text (laid (q .call) nums bytes) in
         let ok : NextOk m (nextOf m text [] a nums bytes [] o₂ w₂) =
@@ -224,33 +224,33 @@ module _ {m : Marks} {text : Bytes} {c : Laid} {s : State} {o w b : Bytes} {q : 
 -- ---- a body
 
 -- what the expansion comes to from the call f₀ on, it comes to from the call c on
-pub record Running (m : Marks) (text : Bytes) (row : List Node) (bodies : List ℕ) (depth : ℕ) (f₀ : Frame) (s₀ : State) (o₀ w₀ : Bytes) (c : Laid) (s : State) (o w : Bytes) : Type 0 where
+pub record Running (m : Marks) (text : Bytes) (row : List Node) (count : ℕ) (bodies : List ℕ) (depth : ℕ) (f₀ : Frame) (s₀ : State) (o₀ w₀ : Bytes) (c : Laid) (s : State) (o w : Bytes) : Type 0 where
   pub follows : Follows s₀ o₀ s o w
   pub is-open : Open m text c
-  pub same : (t : Loaded) → Book m text row bodies t → (fs : List Frame) → length fs ≡ depth
+  pub same : (t : Loaded) → Book m text row count bodies t → (fs : List Frame) → length fs ≡ depth
       → comesTo (s₀ .fuel) (length o₀) t (running (stateOf text none (f₀ ∷ fs) s₀ o₀ w₀)) ≡ comesTo (s .fuel) (length o₀) t (running (stateOf text none (frameOf m text c ∷ fs) s o w))
 
 -- the call is laid out
-pub running-starts : {m : Marks} {text : Bytes} {row : List Node} {bodies : List ℕ} {depth : ℕ} {f : Call} {c : Head} {a : Answer} {nums : List ℕ} {bytes : Bytes} {s : State} {o w : Bytes}
-    → Sound s o w → Begun m text f → Lays f c nums bytes → a ≡ goesOn c s → Running m text row bodies depth (openedOf m text f) s o w (laid (a .call) nums bytes) (a .state) o w
-running-starts {m} {text} {row} {bodies} {depth} {f} {nums = nums} {bytes} {s} {o} {w} sound b h e =
-    subst (λ (x : Answer). Running m text row bodies depth (openedOf m text f) s o w (laid (x .call) nums bytes) (x .state) o w) (sym e) record {
+pub running-starts : {m : Marks} {text : Bytes} {row : List Node} {count : ℕ} {bodies : List ℕ} {depth : ℕ} {f : Call} {c : Head} {a : Answer} {nums : List ℕ} {bytes : Bytes} {s : State} {o w : Bytes}
+    → Sound s o w → Begun m text f → Lays f c nums bytes → a ≡ goesOn c s → Running m text row count bodies depth (openedOf m text f) s o w (laid (a .call) nums bytes) (a .state) o w
+running-starts {m} {text} {row} {count} {bodies} {depth} {f} {nums = nums} {bytes} {s} {o} {w} sound b h e =
+    subst (λ (x : Answer). Running m text row count bodies depth (openedOf m text f) s o w (laid (x .call) nums bytes) (x .state) o w) (sym e) record {
       follows = follows-itself sound;
       is-open = record { placed = h .placed text (b .number) (b .next); nested = subst (Nested m) (sym (h .frame m text)) (b .nested) };
       same = λ t _ fs n. ap (λ (g : Frame). comesTo (s .fuel) (length o) t (running (stateOf text none (g ∷ fs) s o w))) (sym (h .frame m text));
     }
 
-module _ {m : Marks} {text : Bytes} {row : List Node} {bodies : List ℕ} {depth : ℕ} {f₀ : Frame} {s₀ : State} {o₀ w₀ : Bytes} {c : Laid} {s : State} {o w : Bytes}
-    (i : Running m text row bodies depth f₀ s₀ o₀ w₀ c s o w) where
-  module _ {a : Answer} {nums : List ℕ} {bytes o′ w′ : Bytes} (h : Advances m text row bodies c depth s o w a nums bytes o′ w′) where
-    advanced-same : (t : Loaded) → Book m text row bodies t → (fs : List Frame) → length fs ≡ depth → (line : Bytes)
+module _ {m : Marks} {text : Bytes} {row : List Node} {count : ℕ} {bodies : List ℕ} {depth : ℕ} {f₀ : Frame} {s₀ : State} {o₀ w₀ : Bytes} {c : Laid} {s : State} {o w : Bytes}
+    (i : Running m text row count bodies depth f₀ s₀ o₀ w₀ c s o w) where
+  module _ {a : Answer} {nums : List ℕ} {bytes o′ w′ : Bytes} (h : Advances m text row count bodies c depth s o w a nums bytes o′ w′) where
+    advanced-same : (t : Loaded) → Book m text row count bodies t → (fs : List Frame) → length fs ≡ depth → (line : Bytes)
         → comesTo (s₀ .fuel) (length o₀) t (running (stateOf text none (f₀ ∷ fs) s₀ o₀ w₀)) ≡ comesTo (a .state .fuel) (length o₀) t (nextOf m text fs a nums bytes line o′ w′)
     advanced-same t b fs n line = i .same t b fs n
         ∙ subst (λ (room : ℕ). comesTo (s .fuel) room t (running (stateOf text none (frameOf m text c ∷ fs) s o w)) ≡ comesTo (a .state .fuel) room t (nextOf m text fs a nums bytes line o′ w′))
         (i .follows .extends .long) (h .same t b fs n line)
 
     -- the call is left, or the run has ended
-    pub body-left : isLeft (turn a) ≡ true → Meets m text row bodies none (f₀ ∷ []) depth s₀ o₀ w₀ a o′ w′
+    pub body-left : isLeft (turn a) ≡ true → Meets m text row count bodies none (f₀ ∷ []) depth s₀ o₀ w₀ a o′ w′
     body-left e = record {
       follows = follows-trans (i .follows) (h .follows);
       left = e;
@@ -258,7 +258,7 @@ module _ {m : Marks} {text : Bytes} {row : List Node} {bodies : List ℕ} {depth
     }
 
     -- the call goes on
-    pub running-on : isLeft (turn a) ≡ false → Running m text row bodies depth f₀ s₀ o₀ w₀ (laid (a .call) nums bytes) (a .state) o′ w′
+    pub running-on : isLeft (turn a) ≡ false → Running m text row count bodies depth f₀ s₀ o₀ w₀ (laid (a .call) nums bytes) (a .state) o′ w′
     running-on e = record {
       follows = follows-trans (i .follows) (h .follows);
       is-open = h .stays e;

@@ -1,5 +1,5 @@
 -- What the functions of the cycle ensure. It holds for every loaded text that the nodes and bodies are of, and for all callers.
--- In both records `row` and `bodies` are the nodes and where the bodies start, `depth` is the number of callers, s output memory are the
+-- In both records `row`, `count` and `bodies` are the nodes, how many the tree has and where the bodies start, `depth` is the number of callers, s output memory are the
 -- state, output and memory before, and output′ memory′ those after.
 use mathlib.Core.Path.{_≡_}
 use mathlib.Core.Bool.{true, false}
@@ -22,22 +22,22 @@ use Rattle.matching.specs.Book.{Book}
 
 -- r is what the expansion comes to, with a line `pending` that is perhaps to be offered, and the calls `own` above the callers: they are
 -- all left, so that no numbers, bytes or built line matter
-pub record Meets (m : Marks) (text : Bytes) (row : List Node) (bodies : List ℕ) (pending : Option Bytes) (own : List Frame) (depth : ℕ)
+pub record Meets (m : Marks) (text : Bytes) (row : List Node) (count : ℕ) (bodies : List ℕ) (pending : Option Bytes) (own : List Frame) (depth : ℕ)
     (s : State) (output memory : Bytes) (r : Answer) (output′ memory′ : Bytes) : Type 0 where
   pub follows : Follows s output (r .state) output′ memory′
   pub left : isLeft (turn r) ≡ true
-  pub same : (t : Loaded) → Book m text row bodies t → (fs : List Frame) → length fs ≡ depth → (nums : List ℕ) (bytes line : Bytes)
+  pub same : (t : Loaded) → Book m text row count bodies t → (fs : List Frame) → length fs ≡ depth → (nums : List ℕ) (bytes line : Bytes)
       → comesTo (s .fuel) (length output) t (running (stateOf text pending (own ++ fs) s output memory))
       ≡ comesTo (r .state .fuel) (length output) t (nextOf m text fs r nums bytes line output′ memory′)
 
 -- a is what the expansion comes to from the next code line of the call c on, up to the code line after it: what it offers is done with,
 -- so that no built line matters. nums and bytes are the call's numbers and bytes after it
-pub record Advances (m : Marks) (text : Bytes) (row : List Node) (bodies : List ℕ) (c : Laid) (depth : ℕ)
+pub record Advances (m : Marks) (text : Bytes) (row : List Node) (count : ℕ) (bodies : List ℕ) (c : Laid) (depth : ℕ)
     (s : State) (output memory : Bytes) (a : Answer) (nums : List ℕ) (bytes output′ memory′ : Bytes) : Type 0 where
   pub follows : Follows s output (a .state) output′ memory′
   pub settled : isOffer (turn a) ≡ false
   pub less : isLeft (turn a) ≡ false → a .state .fuel < s .fuel
   pub stays : isLeft (turn a) ≡ false → Open m text (laid (a .call) nums bytes)
-  pub same : (t : Loaded) → Book m text row bodies t → (fs : List Frame) → length fs ≡ depth → (line : Bytes)
+  pub same : (t : Loaded) → Book m text row count bodies t → (fs : List Frame) → length fs ≡ depth → (line : Bytes)
       → comesTo (s .fuel) (length output) t (running (stateOf text none (frameOf m text c ∷ fs) s output memory))
       ≡ comesTo (a .state .fuel) (length output) t (nextOf m text fs a nums bytes line output′ memory′)

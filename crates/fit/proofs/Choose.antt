@@ -1,43 +1,37 @@
--- From the search at the root to the chosen reading.
-use mathlib.Core.Path.{_≡_, refl, sym, _∙_, ap, subst}
-use mathlib.Core.Bool.{false}
+-- From the search at the root to the chosen reading: the row's tree is searched as the templates' tree is (Trees), which finds the chosen reading.
+use mathlib.Core.Path.{_≡_, refl, sym, _∙_, ap, ap₂, subst, fun-ext}
+use mathlib.Core.Bool.{Bool, true, false}
 use mathlib.Core.List.{List, [], _∷_, _++_, map}
 use mathlib.Core.Option.{Option, none, some}
 use Prim.Native.Nat.{ℕ, zero, suc, _+_, _≤_, _<_}
 use native.Mathlib.Omega.{arith}
-use lib.ListN.{length, getD, take, drop, length-map}
+use lib.ListN.{length, getD, take, drop, replicate, length-map}
 use borrow.Author.Tests.{ne-eqb}
 use Rattle.model.specs.declared.Marks.{Marks}
 use Rattle.model.specs.Text.{Bytes}
 use Rattle.model.specs.Reading.{chosen}
-use Rattle.model.specs.Fitting.{Distinct}
-use Rattle.model.specs.Parts.{Elem, lit, hole, stop, ReadingPart, byte, piece, elems, text, Good, elements, pieces, PartsRead}
+use Rattle.model.specs.Parts.{Elem, lit, hole, stop, ReadingPart, byte, piece, elems, text, elements, pieces}
+use Rattle.model.specs.Places.{Found, Place, isIn, Tried, idle, orTry, takeUp, tryPast, tryAtom, tryByte, tryPiece, tryPlace, fitting, placesTaken}
 use Rattle.model.specs.Results.{nine}
 use Rattle.model.proofs.Choices.{false-not-true}
-use Rattle.model.proofs.Parts.{no-parts, parts-chosen}
+use Rattle.model.proofs.Parts.{elems-same}
+use Rattle.model.proofs.Search.{walk, onward-inv, Is, sound}
+use Rattle.model.proofs.Unmarked.{unmarked}
+use Rattle.model.proofs.Renumbered.{Same, nothing, something}
+use Rattle.model.proofs.Places.{finds-none, finds-chosen}
 use Rattle.atom.specs.Atoms.{brackets}
+use Rattle.atom.proofs.Atoms.{atom-brackets}
 use Rattle.nodes.specs.declared.Node.{Node}
 use Rattle.nodes.specs.Rows.{noNode, elem, templateOf, kid, holey, height, holes, Tree, Stands}
-use Rattle.nodes.specs.Templates.{walk, Represents}
-use Rattle.nodes.proofs.Rows.{kid-child, kid-falls, kid-lit, kid-hole, front-node, front-long}
-use Rattle.nodes.proofs.Templates.{onward-inv}
-use Rattle.fit.specs.Search.{Found, search}
-use Rattle.fit.specs.Outcome.{Told, Searched, SearchedIn, Asks}
-use Rattle.fit.specs.Chosen.{TreeOf, Chosen, Chooses, noChoice, choiceOf}
+use Rattle.nodes.proofs.Rows.{kid-child, kid-falls, kid-lit, front-node, front-long}
+use Rattle.nodes.proofs.Templates.{walk-pre, walk-there}
+use Rattle.fit.specs.Outcome.{Told, Says, HoldsDead, Outcomes, sizeIn, placeTried, SearchedIn}
+use Rattle.fit.specs.Chosen.{TreeOf, Fits, Chosen, Chooses, noChoice, choiceOf}
 use Rattle.fit.specs.declared.Choice.{Choice}
 use Rattle.fit.specs.declared.Outcome.{Outcome}
-use Rattle.fit.proofs.Laws.{Is, sound, found-first, found-none, search-brackets}
 use Rattle.fit.proofs.Steps.{told-none, told-some}
 use Rattle.fit.proofs.Pieces.{zero-at, lie-within, few-pieces, Stand, stand}
-
--- the tree of templates that are listed as their elements
-pub tree-of : (m : Marks) (rows : List Node) (ts : List Bytes) → Represents rows (map (elems m) ts) → Distinct ts → ¬ (m .left ≡ m .right) → TreeOf m rows ts
-tree-of m rows ts r d n = record { spelt = map (elems m) ts; represents = r; as-many = length-map ts (elems m); each = λ k lt. getD-map-in (elems m) ts k lt; distinct = d; differ = n }
-  where
-    getD-map-in : (f : Bytes → List Elem) (ts : List Bytes) (k : ℕ) → k < length ts → getD (map f ts) k [] ≡ f (getD ts k [])
-    getD-map-in f [] k lt = absurd (omega arith)
-    getD-map-in f (t ∷ ts) zero lt = refl
-    getD-map-in f (t ∷ ts) (suc k) lt = getD-map-in f ts k (omega arith)
+use Rattle.fit.proofs.Trees.{spelt-at, tree-fitting}
 
 -- a reading's elements lead to an end node
 at-end : (rows : List Node) (i : ℕ) (r : List ReadingPart) (j : ℕ) → walk (kid rows) i (elements r) ≡ suc j → elem rows (suc j) ≡ 0
@@ -51,119 +45,162 @@ at-end rows i (piece p ∷ r) j e =
     let (c, x, y) = onward-inv (λ k. walk (kid rows) k (elements r)) (kid rows i hole) j e in
     at-end rows (suc c) r j y
 
-module _ (m : Marks) (rows : List Node) (line : Bytes) (ts : List Bytes) (of : TreeOf m rows ts) where
-  -- the root is no placeholder's
-  root : holey rows 0 ≡ false
-  root = ne-eqb (elem rows 0) 1 (of .represents .plain-root)
+-- what is found in one tree is found in the other, but for the node
+same-none : {o : Option Found} → Same none o → o ≡ none
+same-none nothing = refl
 
-  -- a reading leads to a node
-  leads : (i : ℕ) (r : List ReadingPart) → PartsRead m ts line i r → (j : ℕ) × (walk (kid rows) 0 (elements r) ≡ suc j)
-  leads i r h =
-      let (j, w) = of .represents .has i (omega (arith, of .as-many, h .place)) in
-      (j, ap (walk (kid rows) 0) (h .template ∙ sym (of .each i (h .place))) ∙ w)
+same-some : {f : Found} {o : Option Found} → Same (some f) o → (g : Found) × (o ≡ some g) × (g .parts ≡ f .parts)
+same-some (something q r i j) = (record { rest = q; parts = r; node = j }, refl, refl)
 
-  -- what leads to a node is a reading by the node's template
-  reads : (r : List ReadingPart) (j k : ℕ) → k ≡ templateOf rows (suc j) → walk (kid rows) 0 (elements r) ≡ suc j → text r ≡ line → Good m r → PartsRead m ts line k r
-  reads r j k e w x g =
-      let h = of .represents .only (elements r) j w (at-end rows 0 r j w) in
-      let lt : k < length ts = omega (arith, h .0, of .as-many) in
-      record { place = lt; template = sym (h .1) ∙ ap (λ (i : ℕ). getD (of .spelt) i []) (sym e) ∙ of .each k lt; joined = x; good = g }
-
-module _ (m : Marks) (rows : List Node) (tree : Tree rows) (line : Bytes) (o : Outcome) (done : Searched m rows line 0 0 o) where
+module _ (m : Marks) (rows : List Node) (tree : Tree rows) (some-row : 0 < length rows) (line : Bytes) (o : Outcome) (dead dead′ ps′ : Bytes)
+    (done : Outcomes rows line 0 0 (suc (sizeIn rows line 0 0)) (λ n. placeTried m rows line 0 0 n) (record { dead = dead; dead′ = dead′; pieces = replicate 18 0; pieces′ = ps′ }) o)
+    (clear : HoldsDead (length rows) (suc (length line)) dead []) where
   -- fuel that is enough
   abbrev fuel : ℕ
   fuel = suc (height rows 0 + length line)
 
-  -- the search from the root
-  abbrev result : Option Found
-  result = search m (kid rows) (holey rows) fuel 0 line
+  -- the search from the root, at first with no dead place
+  abbrev result : Tried
+  result = tryPlace m (kid rows) (holey rows) fuel 0 0 line []
 
   -- the outcome says what it finds
-  told : Told (holes rows 0) 0 result o
-  told = done .told fuel (omega arith)
+  told : Told (holes rows 0) 0 (result .found) o (replicate 18 0) ps′
+  told = done .says fuel (omega arith) [] clear .0 .told
 
-  -- where nothing is found, the line is no call
-  none-chosen : o .node ≡ 0 → (ts : List Bytes) → TreeOf m rows ts → chosen m ts line ≡ none
-  none-chosen z ts of = no-parts m (of .differ) ts line (λ i r h.
-      let (j, w) = leads m rows line ts of i r h in
-      found-none m (of .differ) (kid rows) (holey rows) (height rows) (kid-falls rows tree) (kid-hole rows tree) fuel 0 line (omega arith)
-      (told-none (holes rows 0) 0 result o told z) r j (h .joined) (h .good) w)
+  module _ (ts : List Bytes) (of : TreeOf m rows ts) where
+    -- and how many places it takes up
+    counted : o .places ≡ placesTaken m ts line
+    counted = done .says fuel (omega arith) [] clear .0 .places ∙ tree-fitting m rows tree ts of some-row line fuel (omega arith) .0
+
+    -- the templates' tree has it too
+    same : Same (result .found) (fitting m ts line .found)
+    same = tree-fitting m rows tree ts of some-row line fuel (omega arith) .1
+
+    -- where nothing is found, the line is no call
+    none-chosen : o .node ≡ 0 → chosen m ts line ≡ none
+    none-chosen z =
+        finds-none m ts (of .distinct) (of .differ) line
+        (same-none (subst (λ (x : Option Found). Same x (fitting m ts line .found)) (told-none (holes rows 0) 0 (result .found) o (replicate 18 0) ps′ told z) same))
 
   module _ (z : ¬ (o .node ≡ 0)) where
     -- what is found, and that it is a reading
-    reading : (f : Found) × (result ≡ some f) × Told (holes rows 0) 0 (some f) o × Is m (kid rows) (holey rows) (kid-lit rows tree) 0 line f
+    reading : (f : Found) × (result .found ≡ some f) × Told (holes rows 0) 0 (some f) o (replicate 18 0) ps′ × Is m (kid rows) (holey rows) (kid-lit rows tree) 0 line f
+    unfolding isIn
     reading =
-        let (f, e, t) = told-some (holes rows 0) 0 result o told z in
-        (f, e, t, sound m (kid rows) (holey rows) (kid-lit rows tree) fuel 0 line f e)
+        let (f, e, t) = told-some (holes rows 0) 0 (result .found) o (replicate 18 0) ps′ told z in
+        let u = unmarked m (kid rows) (holey rows) (height rows) (kid-falls rows tree) line fuel fuel 0 0 [] (omega arith) (omega arith) (λ i p w. false-not-true w) in
+        (f, e, t, sound m (kid rows) (holey rows) (kid-lit rows tree) fuel 0 line f (sym u ∙ e))
 
     -- it is the chosen one
-    some-chosen : (k : ℕ) → k ≡ templateOf rows (o .node) → (ts : List Bytes) → TreeOf m rows ts → Chosen m ts line (choiceOf o k)
-    some-chosen k u ts of =
-        let (f, e, (p, n, r, s, l), (j, w, h, x)) = reading in
-        let t = root m rows line ts of in
-        let z = h .only-hole t in
+    some-chosen : (k places : ℕ) → k ≡ templateOf rows (o .node) → (ts : List Bytes) → TreeOf m rows ts → Chosen m ts line (choiceOf ps′ k places)
+    some-chosen k places u ts of =
+        let (f, e, (p, n, r, s), (j, w, h, x)) = reading in
+        let (g, found, parts) = same-some (subst (λ (x : Option Found). Same x (fitting m ts line .found)) e (same ts of)) in
+        let c = finds-chosen m ts (of .distinct) (of .differ) line g found in
+        let z = h .only-hole (ne-eqb (elem rows 0) 1 (of .plain-root)) in
         let y : text (f .parts) ≡ line = ap (λ (q : Bytes). q ++ text (f .parts)) (sym z) ∙ x in
         let few : length (pieces (f .parts)) ≤ 9 = omega (arith, few-pieces rows tree (f .parts) 0 j (h .leads)) in
+        let there = walk-there rows tree (map (elems m) ts) (of .pre) (of .begins) (elements (f .parts)) 0 j some-row (h .leads) in
+        let b : of .pre (suc j) ≡ elements (f .parts) = walk-pre rows tree (map (elems m) ts) (of .pre) (of .begins) (elements (f .parts)) 0 j (h .leads)
+        ∙ ap (λ (l : List _). l ++ elements (f .parts)) (of .begins .root-empty) in
+        let v = of .begins .number (suc j) (omega arith) there (at-end rows 0 (f .parts) j (h .leads)) in
+        let is : k ≡ templateOf rows (suc j) = u ∙ ap (templateOf rows) (n ∙ w) in
+        let lt : k < length ts = omega (arith, v .0, is, length-map ts (elems m)) in
+        let t : elems m (getD ts k []) ≡ elements (f .parts) = sym (spelt-at m ts k lt) ∙ ap (λ (i : ℕ). getD (map (elems m) ts) i []) is ∙ v .1 ∙ b in
+        let which : c .reading .which ≡ k = of .distinct (c .reading .which) k (c .place) lt
+        (elems-same m (getD ts (c .reading .which) []) (getD ts k []) (c .template ∙ ap elements parts ∙ sym t)) in
         let at : 0 + length (f .rest) ≡ 0 = omega (arith, ap length z) in
-        let read = reads m rows line ts of (f .parts) j k (u ∙ ap (templateOf rows) (n ∙ w)) (h .leads) y (h .good) in
-        let (c, is, which, same) = parts-chosen m (of .differ) ts line (of .distinct) k (f .parts) read (λ i q v.
-        let (b, a) = leads m rows line ts of i q v in
-        found-first m (of .differ) (kid rows) (holey rows) (height rows) (kid-falls rows tree) (kid-hole rows tree) fuel 0 line f (omega arith) t e q b (v .joined) (v .good) a) in
-        let (ss, ls, most, each) = subst (Stand m (getD ts k []) line (o .starts) (o .lens)) same
-        (stand m (getD ts k []) line (f .parts) (o .starts) (o .lens) (read .template) y few
-        (s ∙ rw (at, of .represents .no-holes) refl) (l ∙ rw (of .represents .no-holes) refl)) in
-        record { reading = c; is = is; which = sym which; place = read .place; starts = ss; lens = ls; few = most; piece = each }
+        let (ss, ls, most, each) = subst (Stand m (getD ts k []) line (take 9 ps′) (drop 9 ps′)) (sym (ap pieces parts) ∙ c .pieces-are)
+        (stand m (getD ts k []) line (f .parts) ps′ (sym t) y few (s ∙ rw (at, of .no-holes) refl)) in
+        record { reading = c .reading; is = c .is; which = which; place = lt; starts = ss; lens = ls; few = most; piece = each }
 
     -- its pieces lie in the line
-    some-within : (i : ℕ) → getD (o .starts) i 0 + getD (o .lens) i 0 ≤ length line
+    some-within : (i : ℕ) → getD (take 9 ps′) i 0 + getD (drop 9 ps′) i 0 ≤ length line
     some-within =
         let (f, e, t, (j, w, h, x)) = reading in
-        lie-within line (f .rest) (f .parts) (holes rows 0) (o .starts) (o .lens) (t .3) (t .4) (few-pieces rows tree (f .parts) 0 j (h .leads)) x
+        lie-within line (f .rest) (f .parts) (holes rows 0) ps′ (t .3) (few-pieces rows tree (f .parts) 0 j (h .leads)) x
+
+-- ---- the search goes by the brackets alone
+
+module _ (m : Marks) (kid : ℕ → Elem → ℕ) (holey : ℕ → Bool) where
+  -- an atom is found by them
+  atom-by : (F : ℕ → Bytes → List Place → Tried) (b : Bool) (p : ℕ) (s : Bytes) (ds : List Place) → tryAtom (brackets (m .left) (m .right)) F b p s ds ≡ tryAtom m F b p s ds
+  atom-by F true p s ds = ap (λ (o : Option (Bytes × Bytes)). tryPast F p o ds) (atom-brackets m s)
+  atom-by F false p s ds = refl
+
+  -- and so the search
+  try-brackets : (n : ℕ) → tryPlace (brackets (m .left) (m .right)) kid holey n ≡ tryPlace m kid holey n
+  unfolding tryPlace
+  try-brackets zero = refl
+  try-brackets (suc n) = fun-ext (λ i. fun-ext (λ p. fun-ext (λ s. fun-ext (λ ds.
+      ap₂ (λ (F : ℕ → ℕ → Bytes → List Place → Tried) (G : List Place → Tried). elim (isIn i p ds) as (λ _. Tried) [
+        | true ↦ idle ds
+        | false ↦ takeUp (record { node = i; at = p }) (orTry (tryByte kid F i p s ds) (λ ds. orTry (tryPiece kid F i p s ds) G))
+      ]) (try-brackets n)
+      (fun-ext (λ ds. ap (λ (F : ℕ → ℕ → Bytes → List Place → Tried). tryAtom (brackets (m .left) (m .right)) (F i) (holey i) p s ds) (try-brackets n)
+      ∙ atom-by (tryPlace m kid holey n i) (holey i) p s ds))))))
+
+-- what is searched by the brackets is searched by the marks
+pub searched-by-brackets : (m : Marks) {row : List Node} {line : Bytes} {node at : ℕ} {dead dead′ pieces pieces′ : Bytes} {o : Outcome}
+    → SearchedIn (brackets (m .left) (m .right)) row line node at dead dead′ pieces pieces′ o → SearchedIn m row line node at dead dead′ pieces pieces′ o
+searched-by-brackets m {row} {line} {node} {at} {dead} {dead′} {pieces} {pieces′} {o} done = record {
+  comes = record {
+    each = λ made s lt.
+        let rows = take made row in
+        let d = done .comes .each made s lt in
+        record {
+          says = λ n l ds k.
+              subst (λ (F : ℕ → ℕ → Bytes → List Place → Tried). Says (holes rows node) at (F node at (drop at line) ds) o pieces pieces′
+              × HoldsDead (length rows) (suc (length line)) dead′ (F node at (drop at line) ds .dead)) (try-brackets m (kid rows) (holey rows) n) (d .says n l ds k);
+          short = d .short;
+          there = d .there;
+        };
+    few = done .comes .few;
+  };
+}
 
 -- ---- in a row at whose front the tree stands
 
--- what is searched by the brackets alone is searched by the marks
-pub searched-by-brackets : (m : Marks) {row : List Node} {line : Bytes} {node at : ℕ} {o : Outcome} → SearchedIn (brackets (m .left) (m .right)) row line node at o → SearchedIn m row line node at o
-searched-by-brackets m {row} {line} {node} {at} {o} done = record {
-  each = λ made s lt.
-      let rows = take made row in
-      let d = done .each made s lt in
-      record {
-        told = λ n l. subst (λ (F : ℕ → Bytes → Option Found). Told (holes rows node) at (F node (drop at line)) o) (search-brackets m (kid rows) (holey rows) n) (d .told n l);
-        short = d .short;
-        there = d .there;
-      };
-}
-
-module _ {m : Marks} {row : List Node} {line : Bytes} {o : Outcome} (done : SearchedIn m row line 0 0 o) where
-  -- where nothing is found, the line is no call
-  pub no-call : {c : Choice} → o .node ≡ 0 → c ≡ noChoice → Chooses m row line c
-  unfolding nine
-  no-call z q = rw q record {
-    no-call = λ _ ts t. none-chosen m (take (t .made) row) (t .stands .tree) line o (done .each (t .made) (t .stands) (t .root)) z ts (t .of);
-    blank = λ _. (refl, refl, refl);
-    call = λ e. false-not-true e;
-    within = λ i. omega (arith, zero-at 9 i);
-  }
-
+module _ {m : Marks} {row : List Node} {line : Bytes} {o : Outcome} {dead dead′ pieces pieces′ : Bytes} (done : SearchedIn m row line 0 0 dead dead′ pieces pieces′ o) where
   -- what is found is a node of the tree
-  found-below : {made : ℕ} → Stands row made → 0 < made → o .node < made
-  found-below {made} s root = omega (arith, done .each made s root .there, front-long s)
+  found-below : {count : ℕ} → Stands row count → 0 < count → o .node < count
+  found-below {count} s root = omega (arith, done .comes .each count s root .there, front-long s)
 
-  -- the tree's template there is the row's
-  template-is : {made k : ℕ} {n : Node} → Stands row made → 0 < made → n ≡ getD row (o .node) noNode → k ≡ n .template → k ≡ templateOf (take made row) (o .node)
-  template-is {made} s root x y = y ∙ ap (λ (n : Node). n .template) (x ∙ sym (front-node row made (o .node) (found-below s root)))
-
-  module _ {whole : Bytes} {end : ℕ} (a : Asks row whole end 0 0) where
+  module _ {count : ℕ} {whole : Bytes} {dead0 : Bytes} {end : ℕ} (f : Fits row count dead0 whole end) where
     -- and so one of the row's
-    pub asks-found : o .node < length row
-    asks-found = omega (arith, found-below (a .stands) (a .there), a .stands .within)
+    pub found-there : o .node < length row
+    found-there = omega (arith, found-below (f .stands) (f .root), f .stands .within)
 
-    -- where something is found, the line is a call
-    pub call : {n : Node} {k : ℕ} {c : Choice} → ¬ (o .node ≡ 0) → n ≡ getD row (o .node) noNode → k ≡ n .template → c ≡ choiceOf o k → Chooses m row line c
-    call {n} {k} z x y q = rw q record {
-      no-call = λ e. false-not-true (sym e);
-      blank = λ e. false-not-true (sym e);
-      call = λ _ ts t. some-chosen m (take (t .made) row) (t .stands .tree) line o (done .each (t .made) (t .stands) (t .root)) z k (template-is (t .stands) (t .root) x y) ts (t .of);
-      within = some-within m (take (a .made) row) (a .stands .tree) line o (done .each (a .made) (a .stands) (a .there)) z;
-    }
+    module _ (z : pieces ≡ replicate 18 0) (clear : HoldsDead (length (take count row)) (suc (length line)) dead []) where
+      -- the search of the tree, from no pieces on
+      from-none : Outcomes (take count row) line 0 0 (suc (sizeIn (take count row) line 0 0)) (λ n. placeTried m (take count row) line 0 0 n)
+          (record { dead = dead; dead′ = dead′; pieces = replicate 18 0; pieces′ = pieces′ }) o
+      from-none = subst (λ (ps : Bytes). Outcomes (take count row) line 0 0 (suc (sizeIn (take count row) line 0 0)) (λ n. placeTried m (take count row) line 0 0 n)
+          (record { dead = dead; dead′ = dead′; pieces = ps; pieces′ = pieces′ }) o) z (done .comes .each count (f .stands) (f .root))
+
+      -- the tree has a node
+      some-node : 0 < length (take count row)
+      some-node = omega (arith, front-long (f .stands), f .root)
+
+      -- where nothing is found, the line is no call
+      pub no-call : {c : Choice} → o .node ≡ 0 → c ≡ noChoice (o .places) → Chooses m row count line c
+      unfolding nine
+      no-call n q = rw q record {
+        no-call = λ _ ts t. none-chosen m (take count row) (f .stands .tree) some-node line o dead dead′ pieces′ from-none clear ts (t .of) n;
+        blank = λ _. (refl, refl, refl);
+        call = λ e. false-not-true e;
+        within = λ i. omega (arith, zero-at 9 i);
+        places = λ ts t. counted m (take count row) (f .stands .tree) some-node line o dead dead′ pieces′ from-none clear ts (t .of);
+      }
+
+      -- where something is found, the line is a call
+      pub is-call : {n : Node} {k : ℕ} {c : Choice} → ¬ (o .node ≡ 0) → n ≡ getD row (o .node) noNode → k ≡ n .template → c ≡ choiceOf pieces′ k (o .places) → Chooses m row count line c
+      is-call {n} {k} w x y q =
+          let is : k ≡ templateOf (take count row) (o .node) = y ∙ ap (λ (n : Node). n .template) (x ∙ sym (front-node row count (o .node) (found-below (f .stands) (f .root)))) in
+          rw q record {
+            no-call = λ e. false-not-true (sym e);
+            blank = λ e. false-not-true (sym e);
+            call = λ _ ts t. some-chosen m (take count row) (f .stands .tree) some-node line o dead dead′ pieces′ from-none clear w k (o .places) is ts (t .of);
+            within = some-within m (take count row) (f .stands .tree) some-node line o dead dead′ pieces′ from-none clear w;
+            places = λ ts t. counted m (take count row) (f .stands .tree) some-node line o dead dead′ pieces′ from-none clear ts (t .of);
+          }

@@ -1,6 +1,7 @@
--- The laws of the search; callers use tree-of of Choose.
+-- The laws of the search's steps, of a place taken up by them, and of the chosen reading; callers use tree-of of Choose.
 pub mod Nine
-mod Laws
 mod Steps
+mod Taken
 mod Pieces
+mod Trees
 pub mod Choose

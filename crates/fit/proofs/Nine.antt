@@ -1,13 +1,12 @@
 -- Nine numbers, one by one.
 use mathlib.Core.Path.{_≡_, refl, sym, _∙_, ap}
 use mathlib.Core.List.{List, [], _∷_}
-use Prim.Native.Nat.{ℕ, suc, _<_}
+use Prim.Native.Nat.{ℕ, suc, _+_, _-_, _<_}
 use native.Mathlib.Omega.{arith}
-use lib.ListN.{length, getD, drop, drop-of-length-le}
-use lib.Seq.{drop-cons}
+use lib.ListN.{length, getD, take, drop, length-drop, drop-of-length-le}
+use lib.Seq.{drop-cons, take-all}
 use mathlib.Core.Bool.{true}
 use Rattle.fit.specs.declared.Choice.{Choice}
-use Rattle.fit.specs.declared.Outcome.{Outcome}
 use Rattle.fit.specs.Chosen.{choiceOf}
 
 next : (a : List ℕ) (i : ℕ) (l : List ℕ) → i < length a → drop (suc i) a ≡ l → drop i a ≡ getD a i 0 ∷ l
@@ -25,6 +24,14 @@ pub nine-kept : {a : List ℕ} {x₀ x₁ x₂ x₃ x₄ x₅ x₆ x₇ x₈ : �
     → x₀ ∷ x₁ ∷ x₂ ∷ x₃ ∷ x₄ ∷ x₅ ∷ x₆ ∷ x₇ ∷ x₈ ∷ [] ≡ a
 nine-kept {a} l e₀ e₁ e₂ e₃ e₄ e₅ e₆ e₇ e₈ = rw (e₀, e₁, e₂, e₃, e₄, e₅, e₆, e₇, e₈) (all-nine a l)
 
--- the choice of an outcome whose pieces are widened
-pub choice-widened : (o : Outcome) (t : ℕ) (a b : List ℕ) → a ≡ o .starts → b ≡ o .lens → _≡_ {A = Choice} record { found = true; template = t; starts = a; lens = b } (choiceOf o t)
-choice-widened o t a b e f = rw (e, f) refl
+-- the choice whose pieces are widened, part by part
+pub choice-widened : (ps : List ℕ) (t k : ℕ) (a b : List ℕ) → length ps ≡ 18 → a ≡ take (9 - 0) ps → b ≡ take (18 - 9) (drop 9 ps)
+    → _≡_ {A = Choice} record { found = true; template = t; starts = a; lens = b; places = k } (choiceOf ps t k)
+choice-widened ps t k a b l e f =
+    let x : a ≡ take 9 ps = e in
+    let y : b ≡ drop 9 ps = f ∙ take-all 9 (drop 9 ps) (omega (arith, length-drop 9 ps)) in
+    rw (x, y) refl
+
+-- the length's place lies in the lent bytes
+pub piece-room : (k n : ℕ) → k < 9 → n ≡ 18 → k + 9 < n
+piece-room k n h e = omega arith

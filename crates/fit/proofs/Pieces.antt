@@ -1,5 +1,5 @@
--- The nine starts and lengths of an outcome are those of the reading's pieces.
--- The laws: lie-within, few-pieces, stand.
+-- The nine starts and lengths that a search stores are those of the reading's pieces.
+-- The laws: starts-stored, lens-stored, lie-within, few-pieces, stand.
 use mathlib.Core.Path.{_≡_, refl, sym, _∙_, ap}
 use mathlib.Core.Bool.{Bool, true, false}
 use mathlib.Core.List.{List, [], _∷_, _++_, map, append-assoc}
@@ -8,7 +8,7 @@ use native.Mathlib.Numerals.{add-one}
 use native.Mathlib.Omega.{arith}
 use lib.Dec.{eqb}
 use lib.ListN.{length, getD, take, drop, set, replicate, length-append, length-set, length-replicate, replicate-append-replicate, List·getD-append, length-map}
-use lib.Seq.{set-at, getD-set-same, getD-set-other, take-append-seam, drop-append-seam, drop-drop}
+use lib.Seq.{set-at, getD-set-same, getD-set-other, take-set-le, take-set-lt, drop-set-lt, drop-set-add, take-append-seam, drop-append-seam, drop-drop}
 use borrow.Author.Tests.{eq-eqb, ne-eqb}
 use Rattle.model.specs.declared.Marks.{Marks}
 use Rattle.model.specs.Text.{Bytes}
@@ -16,14 +16,18 @@ use Rattle.model.specs.Reading.{Pieces}
 use Rattle.model.specs.Parts.{Elem, lit, hole, stop, ReadingPart, byte, piece, elems, text, elements, pieces}
 use Rattle.model.specs.Results.{startsOf, nine}
 use Rattle.model.proofs.Chosen.{Tested, alike, apart, tested}
+use Rattle.model.proofs.Search.{walk, onward-inv}
 use Rattle.nodes.specs.declared.Node.{Node}
 use Rattle.nodes.specs.Rows.{kid, holes, Tree}
-use Rattle.nodes.specs.Templates.{walk}
 use Rattle.nodes.proofs.Rows.{kid-child, holes-lit, holes-hole}
-use Rattle.nodes.proofs.Templates.{onward-inv}
-use Rattle.fit.specs.Outcome.{stored, startsIn, lensIn}
+use Rattle.fit.specs.Outcome.{withPieces, startsIn, lensIn}
 
 -- ---- nine numbers
+
+-- the numbers stored from place k of nine on, the first of them last
+unfoldable pub stored : ℕ → List ℕ → List ℕ
+stored k [] = replicate 9 0
+stored k (v ∷ vs) = set (stored (k + 1) vs) k v
 
 -- there are nine of them
 length-stored : (k : ℕ) (vs : List ℕ) → length (stored k vs) ≡ 9
@@ -66,7 +70,36 @@ zero-at zero i = refl
 zero-at (suc n) zero = refl
 zero-at (suc n) (suc i) = zero-at n i
 
+-- ---- in the lent bytes
+
+-- the front nine hold the starts, if there are as many lengths
+starts-stored : (ss ls : List ℕ) (k : ℕ) → length ss ≡ length ls → k + length ss ≤ 9 → take 9 (withPieces k ss ls (zeros 18)) ≡ stored k ss
+unfolding withPieces stored
+starts-stored [] ls k e h = refl
+starts-stored (s ∷ ss) [] k e h = absurd (omega arith)
+starts-stored (s ∷ ss) (l ∷ ls) k e h =
+    let w = withPieces (k + 1) ss ls (zeros 18) in
+    take-set-le 9 (set w k s) (k + 9) l (omega arith) ∙ take-set-lt 9 w k s (omega arith) ∙ ap (λ (x : List ℕ). set x k s) (starts-stored ss ls (k + 1) (omega arith) (omega arith))
+
+-- the others the lengths
+lens-stored : (ss ls : List ℕ) (k : ℕ) → length ss ≡ length ls → k + length ss ≤ 9 → drop 9 (withPieces k ss ls (zeros 18)) ≡ stored k ls
+unfolding withPieces stored
+lens-stored [] [] k e h = refl
+lens-stored [] (l ∷ ls) k e h = absurd (omega arith)
+lens-stored (s ∷ ss) [] k e h = absurd (omega arith)
+lens-stored (s ∷ ss) (l ∷ ls) k e h =
+    let w = withPieces (k + 1) ss ls (zeros 18) in
+    let z : k + 9 ≡ 9 + k = omega arith in
+    ap (λ (i : ℕ). drop 9 (set (set w k s) i l)) z ∙ drop-set-add 9 (set w k s) k l ∙ ap (λ (x : List ℕ). set x k l) (drop-set-lt 9 w k s (omega arith) ∙ lens-stored ss ls (k + 1) (omega arith) (omega arith))
+
 -- ---- where pieces start and end
+
+-- there is a start for each piece
+length-starts : (r : List ReadingPart) (at : ℕ) → length (startsIn at r) ≡ length (pieces r)
+unfolding startsIn
+length-starts [] at = refl
+length-starts (byte b ∷ r) at = length-starts r (at + 1)
+length-starts (piece p ∷ r) at = ap suc (length-starts r (at + length p))
 
 -- a piece ends where the reading ends, or before
 lie-below : (r : List ReadingPart) (k at i : ℕ) → k + length (pieces r) ≤ 9 → getD (stored k (startsIn at r)) i 0 + getD (stored k (lensIn r)) i 0 ≤ at + length (text r)
@@ -91,9 +124,13 @@ lie-below (piece p ∷ r) k at i h = by (eqb i k) (tested i k) (lie-below r (k +
     by false (apart e) ih = omega (arith, getD-set-other ss k i at 0 e, getD-set-other ls k i (length p) 0 e, length-append p (text r))
 
 -- and so within the line, of which the rest q of an open piece and the reading are all
-pub lie-within : (line q : Bytes) (r : List ReadingPart) (k : ℕ) (ss ls : List ℕ) → ss ≡ stored k (startsIn (0 + length q) r) → ls ≡ stored k (lensIn r) → k + length (pieces r) ≤ 9
-    → q ++ text r ≡ line → (i : ℕ) → getD ss i 0 + getD ls i 0 ≤ length line
-lie-within line q r k ss ls s l few x i = rw (s, l) (omega (arith, lie-below r k (0 + length q) i few, ap length x, length-append q (text r)))
+pub lie-within : (line q : Bytes) (r : List ReadingPart) (k : ℕ) (ps : List ℕ) → ps ≡ withPieces k (startsIn (0 + length q) r) (lensIn r) (zeros 18) → k + length (pieces r) ≤ 9
+    → q ++ text r ≡ line → (i : ℕ) → getD (take 9 ps) i 0 + getD (drop 9 ps) i 0 ≤ length line
+lie-within line q r k ps e few x i =
+    let n : length (startsIn (0 + length q) r) ≡ length (lensIn r) = length-starts r (0 + length q) ∙ sym (length-map (pieces r) (λ p. length p)) in
+    let m : k + length (startsIn (0 + length q) r) ≤ 9 = omega (arith, few, length-starts r (0 + length q)) in
+    rw (e, starts-stored (startsIn (0 + length q) r) (lensIn r) k n m, lens-stored (startsIn (0 + length q) r) (lensIn r) k n m)
+    (omega (arith, lie-below r k (0 + length q) i few, ap length x, length-append q (text r)))
 
 -- the pieces stand in the line at their starts, at their lengths
 piece-at : (line : Bytes) (r : List ReadingPart) (at i : ℕ) → text r ≡ drop at line → i < length (pieces r)
@@ -104,13 +141,6 @@ piece-at line (byte b ∷ r) at i e lt = piece-at line r (at + 1) i (ap (drop 1)
 piece-at line (piece p ∷ r) at zero e lt = rw (← e) (sym (take-append-seam p (text r)))
 piece-at line (piece p ∷ r) at (suc i) e lt =
     piece-at line r (at + length p) i (sym (drop-append-seam p (text r)) ∙ ap (drop (length p)) e ∙ drop-drop (length p) at line) (omega arith)
-
--- there is a start for each piece
-length-starts : (r : List ReadingPart) (at : ℕ) → length (startsIn at r) ≡ length (pieces r)
-unfolding startsIn
-length-starts [] at = refl
-length-starts (byte b ∷ r) at = length-starts r (at + 1)
-length-starts (piece p ∷ r) at = ap suc (length-starts r (at + length p))
 
 module _ (m : Marks) where
   -- past a literal and past a placeholder
@@ -169,12 +199,14 @@ abbrev pub Stand : Marks → Bytes → Bytes → List ℕ → List ℕ → Piece
 Stand m t line ss ls ps = (ss ≡ nine (startsOf m 0 t ps)) × (ls ≡ nine (map (λ p. length p) ps)) × (length ps ≤ 9)
     × ((i : ℕ) → i < length ps → getD ps i [] ≡ take (getD ls i 0) (drop (getD ss i 0) line))
 
--- an outcome's starts and lengths are those of the reading
-pub stand : (m : Marks) (t line : Bytes) (r : List ReadingPart) (ss ls : List ℕ) → elements r ≡ elems m t → text r ≡ line → length (pieces r) ≤ 9
-    → ss ≡ stored 0 (startsIn 0 r) → ls ≡ stored 0 (lensIn r) → Stand m t line ss ls (pieces r)
-stand m t line r ss ls e x few s l =
-    let a : ss ≡ nine (startsIn 0 r) = s ∙ stored-nine (startsIn 0 r) (omega (arith, length-starts r 0)) in
-    let b : ls ≡ nine (lensIn r) = l ∙ stored-nine (lensIn r) (omega (arith, length-map (pieces r) (λ p. length p))) in (
+-- the stored starts and lengths are those of the reading
+pub stand : (m : Marks) (t line : Bytes) (r : List ReadingPart) (ps : List ℕ) → elements r ≡ elems m t → text r ≡ line → length (pieces r) ≤ 9
+    → ps ≡ withPieces 0 (startsIn 0 r) (lensIn r) (zeros 18) → Stand m t line (take 9 ps) (drop 9 ps) (pieces r)
+stand m t line r ps e x few s =
+    let n : length (startsIn 0 r) ≡ length (lensIn r) = length-starts r 0 ∙ sym (length-map (pieces r) (λ p. length p)) in
+    let k : 0 + length (startsIn 0 r) ≤ 9 = omega (arith, few, length-starts r 0) in
+    let a : take 9 ps ≡ nine (startsIn 0 r) = ap (take 9) s ∙ starts-stored (startsIn 0 r) (lensIn r) 0 n k ∙ stored-nine (startsIn 0 r) (omega (arith, length-starts r 0)) in
+    let b : drop 9 ps ≡ nine (lensIn r) = ap (drop 9) s ∙ lens-stored (startsIn 0 r) (lensIn r) 0 n k ∙ stored-nine (lensIn r) (omega (arith, length-map (pieces r) (λ p. length p))) in (
       a ∙ ap nine (starts-of m r t 0 e),
       b,
       few,

@@ -1,26 +1,32 @@
--- The steps of the code's search, over plain values: what each of them finds, and what the searches that follow it ask.
+-- The three steps of the code's search, over plain values: what each of them finds, and what the searches that follow it ask.
 use mathlib.Core.Path.{_≡_, refl, sym, _∙_, ap, ap₂, subst}
 use mathlib.Core.Bool.{Bool, true, false}
+use mathlib.Core.Logic.{_⊎_, inl, inr, ⊎-elim}
 use mathlib.Core.List.{List, [], _∷_, _++_}
 use mathlib.Core.Option.{Option, none, some}
-use Prim.Native.Nat.{ℕ, zero, suc, _+_, _-_, _*_, _≤_, _<_, _^_}
+use Prim.Native.Nat.{ℕ, zero, suc, _+_, _-_, _*_, _/_, _≤_, _<_, _^_}
+use native.Mathlib.Nat.{mul-le-mul-right, suc-mul}
 use native.Mathlib.Omega.{arith}
 use native.Mathlib.Numerals.{add-one}
+use borrow.Author.Tests.{eq-eqb, ne-eqb}
 use lib.Dec.{eqb}
-use lib.ListN.{length, getD, take, drop, set, length-append, length-take, length-drop, drop-of-length-le}
+use lib.ListN.{length, getD, take, drop, length-append, length-take, length-drop, drop-of-length-le}
 use lib.Seq.{drop-cons, length-take-le}
+use Rattle.model.specs.Limits.{lineMost, nodesMost}
 use Rattle.model.specs.declared.Marks.{Marks}
 use Rattle.model.specs.Text.{Bytes, part}
 use Rattle.model.specs.Parts.{Elem, lit, hole, stop}
+use Rattle.model.specs.Places.{Found, withByte, pieceFound, withAtom, Place, isIn, Tried, idle, within, orTry, takeUp, tryChild, tryEnd, tryAtom, tryByte, tryPiece, tryPlace}
+use Rattle.model.proofs.Choices.{false-not-true}
+use Rattle.model.proofs.Atoms.{none-some}
+use Rattle.model.proofs.Search.{rest-end, rest-byte, rest-piece}
 use Rattle.atom.specs.Atoms.{AtomAt}
 use Rattle.nodes.specs.declared.Node.{Node}
-use Rattle.nodes.specs.Rows.{noNode, firstOf, countOf, code, kid, holey, height, holes, Tree, ChildFor, Stands}
-use Rattle.nodes.proofs.Rows.{kid-falls, kid-lit, holes-lit, holes-hole, front-node, front-long, front-within, front-child}
-use Rattle.fit.specs.Search.{Found, endAt, withByte, pieceFound, withAtom, orElse, atChild, byByte, search}
-use Rattle.fit.specs.Outcome.{blank, storePiece, passAtom, elementOf, elementAt, stored, startsIn, lensIn, Told}
-use Rattle.fit.specs.Outcome.{Searched, Stepped, byteStep, pieceStep, atomStep, Asks, SearchedIn, ByteSearched, PieceSearched, AtomSearched}
+use Rattle.nodes.specs.Rows.{noNode, elem, firstOf, countOf, code, kid, holey, height, holes, Tree, ChildFor, Stands}
+use Rattle.nodes.proofs.Rows.{kid-child, kid-falls, kid-lit, holes-lit, holes-hole, front-node, front-long, front-within, front-child}
+use Rattle.fit.specs.Outcome.{blank, passAtom, elementOf, elementAt, withPieceAt, withPieces, StoresPiece, startsIn, lensIn, Told, Says, HoldsDead, endsAt}
+use Rattle.fit.specs.Outcome.{Lent, Outcomes, sizeIn, placeTried, byteStep, pieceStep, atomStep, Asks, Comes, SearchedIn, ByteSearched, PieceSearched, AtomSearched}
 use Rattle.fit.specs.declared.Outcome.{Outcome}
-use Rattle.fit.proofs.Laws.{rest-none}
 
 -- ---- the element that leads on
 
@@ -46,110 +52,102 @@ atom-front m line end at e h = let z : end - 0 ≡ end = omega arith in subst (�
 -- ---- what an outcome says
 
 -- with node 0, that nothing is found
-pub told-none : (k at : ℕ) (x : Option Found) (o : Outcome) → Told k at x o → o .node ≡ 0 → x ≡ none
-told-none k at none o h e = refl
-told-none k at (some f) o h e = absurd (omega (arith, h .0, e))
+pub told-none : (k at : ℕ) (x : Option Found) (o : Outcome) (ps ps′ : Bytes) → Told k at x o ps ps′ → o .node ≡ 0 → x ≡ none
+told-none k at none o ps ps′ h e = refl
+told-none k at (some f) o ps ps′ h e = absurd (omega (arith, h .0, e))
 
 -- with any other, what is found
-pub told-some : (k at : ℕ) (x : Option Found) (o : Outcome) → Told k at x o → ¬ (o .node ≡ 0) → (f : Found) × (x ≡ some f) × Told k at (some f) o
-told-some k at none o h e = absurd (e h)
-told-some k at (some f) o h e = (f, refl, h)
+pub told-some : (k at : ℕ) (x : Option Found) (o : Outcome) (ps ps′ : Bytes) → Told k at x o ps ps′ → ¬ (o .node ≡ 0) → (f : Found) × (x ≡ some f) × Told k at (some f) o ps ps′
+told-some k at none o ps ps′ h e = absurd (e (h .0))
+told-some k at (some f) o ps ps′ h e = (f, refl, h)
 
 -- a byte in front leaves the outcome as it is
-told-byte : (k k′ at b : ℕ) (x : Option Found) (o : Outcome) → k′ ≡ k → ((f : Found) → x ≡ some f → f .rest ≡ []) → Told k′ (at + 1) x o → Told k at (withByte b x) o
+told-byte : (k k′ at b : ℕ) (x : Option Found) (o : Outcome) (ps ps′ : Bytes) → k′ ≡ k → ((f : Found) → x ≡ some f → f .rest ≡ []) → Told k′ (at + 1) x o ps ps′ → Told k at (withByte b x) o ps ps′
 unfolding startsIn
-told-byte k k′ at b none o y z h = h
-told-byte k k′ at b (some f) o y z (p, e, r, s, l) =
+told-byte k k′ at b none o ps ps′ y z h = h
+told-byte k k′ at b (some f) o ps ps′ y z (p, e, r, s) =
     let q : length (f .rest) ≡ 0 = ap length (z f refl) in
     let x : at + 1 + length (f .rest) ≡ at + 0 + 1 = omega (arith, q) in
-    (p, e, r ∙ q, s ∙ ap₂ (λ (i j : ℕ). stored i (startsIn j (f .parts))) y x, l ∙ ap (λ (i : ℕ). stored i (lensIn (f .parts))) y)
+    (p, e, r ∙ q, s ∙ ap₂ (λ (i j : ℕ). withPieces i (startsIn j (f .parts)) (lensIn (f .parts)) ps) y x)
 
 -- where a piece starts, it is stored
-told-piece : (k k′ at : ℕ) (x : Option Found) (o : Outcome) → k′ ≡ k + 1 → Told k′ at x o → Told k at (pieceFound x) (storePiece k at o)
-unfolding startsIn stored
-told-piece k k′ at none o x h = h
-told-piece k k′ at (some f) o x (p, e, r, s, l) =
+told-piece : (k k′ at : ℕ) (x : Option Found) (o r : Outcome) (ps ps1 ps2 : Bytes) → k′ ≡ k + 1 → ¬ (o .node ≡ 0) → StoresPiece k at o ps1 ps2 r → Told k′ at x o ps ps1 → Told k at (pieceFound x) r ps ps2
+unfolding startsIn withPieces
+told-piece k k′ at none o r ps ps1 ps2 x z q h = absurd (z (h .0))
+told-piece k k′ at (some f) o r ps ps1 ps2 x z q (p, e, u, s) =
     let y : at + 0 ≡ at = omega arith in
-    (p, e, refl, rw (y, ← x) (ap (λ (w : List ℕ). set w k at) s), rw (r, l, x) refl)
+    rw (q .is) (
+      p,
+      e,
+      refl,
+      rw y (q .stored ∙ ap₂ (λ (l : ℕ) (w : Bytes). withPieceAt k at l w) u
+          (s ∙ ap (λ (i : ℕ). withPieces i (startsIn (at + length (f .rest)) (f .parts)) (lensIn (f .parts)) ps) x)),
+    )
+
+-- where none is found, none is stored
+told-no-piece : (k k′ at : ℕ) (x : Option Found) (o : Outcome) (ps ps1 : Bytes) → o .node ≡ 0 → Told k′ at x o ps ps1 → Told k at (pieceFound x) o ps ps1
+told-no-piece k k′ at none o ps ps1 z h = h
+told-no-piece k k′ at (some f) o ps ps1 z h = absurd (omega (arith, h .0, z))
 
 -- an atom makes the open piece longer
-told-atom : (k at e : ℕ) (a : Bytes) (x : Option Found) (o : Outcome) → at + length a ≡ e → Told k e x o → Told k at (withAtom a x) (passAtom (e - at) o)
-told-atom k at e a none o h t = t
-told-atom k at e a (some f) o h (p, n, r, s, l) =
+told-atom : (k at e : ℕ) (a : Bytes) (x : Option Found) (o : Outcome) (ps ps′ : Bytes) → at + length a ≡ e → Told k e x o ps ps′ → Told k at (withAtom a x) (passAtom (e - at) o) ps ps′
+told-atom k at e a none o ps ps′ h t = t
+told-atom k at e a (some f) o ps ps′ h (p, n, r, s) =
     let y : e + length (f .rest) ≡ at + length (a ++ f .rest) = omega (arith, length-append a (f .rest)) in
-    (p, n, omega (arith, r, length-append a (f .rest)), s ∙ ap (λ (x : ℕ). stored k (startsIn x (f .parts))) y, l)
-
--- what the first way finds is found
-told-first : (k at : ℕ) (x y : Option Found) (o : Outcome) → ¬ (o .node ≡ 0) → Told k at x o → Told k at (orElse x y) o
-told-first k at none y o z h = absurd (z h)
-told-first k at (some f) y o z h = h
-
--- where it finds nothing, what the second finds is
-told-second : (k at : ℕ) (x y : Option Found) (o u : Outcome) → o .node ≡ 0 → Told k at x o → Told k at y u → Told k at (orElse x y) u
-told-second k at none y o u z h t = t
-told-second k at (some f) y o u z h t = absurd (omega (arith, h .0, z))
+    (p, n, omega (arith, r, length-append a (f .rest)), s ∙ ap (λ (x : ℕ). withPieces k (startsIn x (f .parts)) (lensIn (f .parts)) ps) y)
 
 -- a node that is not 0 is one more than some
-suc-of : (c : ℕ) → ¬ (c ≡ 0) → (j : ℕ) × (c ≡ suc j)
+pub suc-of : (c : ℕ) → ¬ (c ≡ 0) → (j : ℕ) × (c ≡ suc j)
 suc-of zero h = absurd (h refl)
 suc-of (suc j) h = (j, refl)
 
--- ---- the search by its three steps
+-- ---- what is found where no piece is open
 
-module _ (m : Marks) (rows : List Node) (line : Bytes) (node at : ℕ) where
-  -- the placeholders up to the node, and what the three steps find
-  abbrev k : ℕ
-  k = holes rows node
+-- what two ways find, one of them finds
+try-inv : (a : Tried) (next : List Place → Tried) (f : Found) → orTry a next .found ≡ some f → (a .found ≡ some f) ⊎ (next (a .dead) .found ≡ some f)
+try-inv a next f e = by (a .found) (a .dead) (a .taken) e
+  where
+    by : (o : Option Found) (ns ts : List Place) → orTry (record { found = o; dead = ns; taken = ts }) next .found ≡ some f → (o ≡ some f) ⊎ (next ns .found ≡ some f)
+    by none ns ts h = inr h
+    by (some g) ns ts h = inl h
 
-  abbrev first : ℕ → Option Found
-  first = byteStep m rows line node at
-
-  abbrev second : ℕ → Option Found
-  second = pieceStep m rows line node at
-
-  abbrev third : ℕ → Option Found
-  third = atomStep m rows line node at
-
-  -- what the three tell in turn, the search tells
-  searched : (o : Outcome) → ((n : ℕ) → height rows node + (length line - at) ≤ n → Told k at (orElse (first n) (orElse (second n) (third n))) o)
-      → o .rest ≤ length line - at → o .node < length rows → Searched m rows line node at o
-  unfolding search
-  searched o h s th = record { told = told; short = s; there = th }
+module _ (m : Marks) (kid : ℕ → Elem → ℕ) (holey : ℕ → Bool) where
+  -- by the end or a byte none is found open
+  byte-rest : (F : ℕ → ℕ → Bytes → List Place → Tried) (i p : ℕ) (s : Bytes) (ds : List Place) (f : Found) → tryByte kid F i p s ds .found ≡ some f → f .rest ≡ []
+  byte-rest F i p [] ds f e = at-end (kid i stop) e
     where
-      told : (n : ℕ) → height rows node + (length line - at) < n → Told k at (search m (kid rows) (holey rows) n node (drop at line)) o
-      told zero lt = absurd (omega arith)
-      told (suc n) lt = h n (omega arith)
+      at-end : (k : ℕ) → tryEnd k p ds .found ≡ some f → f .rest ≡ []
+      at-end zero e = none-some e
+      at-end (suc j) e = rest-end (suc j) f e
+  byte-rest F i p (b ∷ s) ds f e = rest-byte b (tryChild (λ j. F j (p + 1) s ds) (kid i (lit b)) ds .found) f e
 
-  module _ (b : Outcome) (x : Stepped rows line node at first b) where
-    -- the first step finds something
-    by-first : ¬ (b .node ≡ 0) → Searched m rows line node at b
-    by-first z = searched b (λ n l. told-first k at (first n) (orElse (second n) (third n)) b z (x .told n l)) (x .short) (x .there)
+  -- nor by an atom, at a node that is no placeholder's
+  atom-rest : (F : ℕ → Bytes → List Place → Tried) (b : Bool) (p : ℕ) (s : Bytes) (ds : List Place) (f : Found) → b ≡ false → tryAtom m F b p s ds .found ≡ some f → f .rest ≡ []
+  atom-rest F true p s ds f z e = false-not-true (sym z)
+  atom-rest F false p s ds f z e = none-some e
 
-    module _ (z : b .node ≡ 0) (p : Outcome) (y : Stepped rows line node at second p) where
-      -- the second does
-      by-second : ¬ (p .node ≡ 0) → Searched m rows line node at p
-      by-second w =
-          searched p (λ n l. told-second k at (first n) (orElse (second n) (third n)) b p z (x .told n l) (told-first k at (second n) (third n) p w (y .told n l))) (y .short) (y .there)
+  -- so at a node that is no placeholder's none is found open
+  place-rest : (n i p : ℕ) (s : Bytes) (ds : List Place) (f : Found) → holey i ≡ false → tryPlace m kid holey n i p s ds .found ≡ some f → f .rest ≡ []
+  unfolding tryPlace
+  place-rest zero i p s ds f z e = none-some e
+  place-rest (suc n) i p s ds f z e = by (isIn i p ds) e
+    where
+      first : Tried
+      first = tryByte kid (tryPlace m kid holey n) i p s ds
 
-      -- only the third may
-      by-third : p .node ≡ 0 → (a : Outcome) → Stepped rows line node at third a → Searched m rows line node at a
-      by-third w a v =
-          searched a (λ n l. told-second k at (first n) (orElse (second n) (third n)) b a z (x .told n l) (told-second k at (second n) (third n) p a w (y .told n l) (v .told n l)))
-          (v .short) (v .there)
+      second : List Place → Tried
+      second ds = tryPiece kid (tryPlace m kid holey n) i p s ds
 
-module _ {m : Marks} {row : List Node} {line : Bytes} {node at : ℕ} {b : Outcome} (h : ByteSearched m row line node at b) where
-  -- the byte leads on
-  pub first-found : ¬ (b .node ≡ 0) → SearchedIn m row line node at b
-  first-found z = record { each = λ made s lt. by-first m (take made row) line node at b (h .each made s lt) z }
+      third : List Place → Tried
+      third ds = tryAtom m (tryPlace m kid holey n i) (holey i) p s ds
 
-  module _ (z : b .node ≡ 0) {p : Outcome} (i : PieceSearched m row line node at p) where
-    -- it doesn't, and the placeholder does
-    pub second-found : ¬ (p .node ≡ 0) → SearchedIn m row line node at p
-    second-found w = record { each = λ made s lt. by-second m (take made row) line node at b (h .each made s lt) z p (i .each made s lt) w }
-
-    -- neither does, and the atom may
-    pub third-found : {a : Outcome} → p .node ≡ 0 → AtomSearched m row line node at a → SearchedIn m row line node at a
-    third-found {a} w j = record { each = λ made s lt. by-third m (take made row) line node at b (h .each made s lt) z p (i .each made s lt) w a (j .each made s lt) }
+      by : (t : Bool) → (elim t as (λ _. Tried) [ true ↦ idle ds | false ↦ takeUp (record { node = i; at = p }) (orTry first (λ ds. orTry (second ds) third)) ]) .found ≡ some f → f .rest ≡ []
+      by true h = none-some h
+      by false h =
+          ⊎-elim (λ w. byte-rest (tryPlace m kid holey n) i p s ds f w)
+          (λ w. ⊎-elim (λ x. rest-piece (tryChild (λ j. tryPlace m kid holey n j p s (first .dead)) (kid i hole) (first .dead) .found) f x)
+          (λ x. atom-rest (tryPlace m kid holey n i) (holey i) p s (second (first .dead) .dead) f z x) (try-inv (second (first .dead)) third f w))
+          (try-inv first (λ ds. orTry (second ds) third) f h)
 
 -- ---- what the searches that follow ask
 
@@ -170,7 +168,37 @@ module _ {row : List Node} {made node : ℕ} (s : Stands row made) (lt : node < 
       let y : height (take made row) (suc j) ≡ height row c = ap (height (take made row)) (sym v) ∙ ap (λ (n : Node). n .height) (front-node row made c child-there) in
       omega (arith, l, y, ap (λ (n : Node). n .height) (front-node row made node lt))
 
-module _ {row : List Node} {line : Bytes} {end node at : ℕ} (a : Asks row line end node at) where
+-- which children are a template's end
+module _ (rows : List Node) where
+  pub ends-stop : (i c : ℕ) → kid rows i stop ≡ suc c → endsAt rows (suc c) ≡ true
+  ends-stop i c w = eq-eqb (elem rows (suc c)) 0 (kid-child rows i stop c w .1)
+
+  pub ends-lit : (i b c : ℕ) → kid rows i (lit b) ≡ suc c → endsAt rows (suc c) ≡ false
+  ends-lit i b c w = let h = kid-child rows i (lit b) c w .1 in ne-eqb (elem rows (suc c)) 0 (λ z. omega (arith, h, z))
+
+  pub ends-hole : (i c : ℕ) → kid rows i hole ≡ suc c → endsAt rows (suc c) ≡ false
+  ends-hole i c w = let h = kid-child rows i hole c w .1 in ne-eqb (elem rows (suc c)) 0 (λ z. omega (arith, h, z))
+
+-- the search can ask of another node and place of the same rows
+elsewhere : {row : List Node} {dead pieces line : Bytes} {end node at : ℕ} (a : Asks row dead pieces line end node at) (node′ at′ : ℕ) → node′ < a .made → at′ ≤ end
+    → endsAt (take (a .made) row) node′ ≡ false → Asks row dead pieces line end node′ at′
+elsewhere a node′ at′ th lo pl = record {
+  made = a .made;
+  stands = a .stands;
+  there = th;
+  low = lo;
+  high = a .high;
+  few = a .few;
+  short = a .short;
+  room = a .room;
+  plain = pl;
+  marked = a .marked;
+  holds = a .holds;
+  no-ends = a .no-ends;
+  nine = a .nine;
+}
+
+module _ {row : List Node} {dead pieces line : Bytes} {end node at : ℕ} (a : Asks row dead pieces line end node at) where
   -- the node is one of the row's
   pub asks-node : node < length row
   asks-node = omega (arith, a .there, a .stands .within)
@@ -179,28 +207,53 @@ module _ {row : List Node} {line : Bytes} {end node at : ℕ} (a : Asks row line
   pub asks-children : (node < length row) × (firstOf row node + countOf row node ≤ length row)
   asks-children = (asks-node, front-within (a .stands) node (a .there))
 
+  -- its place has a number
+  pub asks-number : (node < nodesMost) × (end ≤ lineMost) × (at ≤ end)
+  asks-number = (omega (arith, a .there, a .few), a .short, a .low)
+
+  -- and a bit
+  pub asks-bit : {x : ℕ} → x ≡ node * (end + 1) + at → x / 8 < length dead
+  asks-bit {x} e =
+      let u = mul-le-mul-right {m = suc node} {n = a .made} (suc end) (a .there) in
+      let w : node * (end + 1) ≡ node * suc end = ap (λ (n : ℕ). node * n) (omega arith) in
+      omega (arith, u, suc-mul node (suc end), w, e, a .low, a .room)
+
   -- the line that is searched ends there
-  line-long : length (take end line) ≡ end
+  pub line-long : length (take end line) ≡ end
   line-long = length-take-le end line (a .high)
 
+  -- the row's dead places, for the line and the tree that are searched
+  pub line-holds : HoldsDead (length (take (a .made) row)) (suc (length (take end line))) dead (a .marked)
+  line-holds = rw (line-long, front-long (a .stands)) (a .holds)
+
   module _ {e c : ℕ} (h : ChildFor row node e c) where
-    -- the search can go on at a child
-    pub asks-piece : Asks row line end c at
-    asks-piece = record { made = a .made; stands = a .stands; there = child-there (a .stands) (a .there) h; low = a .low; high = a .high; short = a .short }
+    -- the search can go on at a child, where there is one
+    go-on : (x : Elem) (at′ : ℕ) → e ≡ code x → ((j : ℕ) → kid (take (a .made) row) node x ≡ suc j → endsAt (take (a .made) row) (suc j) ≡ false) → ¬ (c ≡ 0) → at′ ≤ end
+        → Asks row dead pieces line end c at′
+    go-on x at′ w p z l =
+        let (j, v) = suc-of c z in
+        elsewhere a c at′ (child-there (a .stands) (a .there) h) l (rw v (p j (sym (child-is (a .stands) (a .there) h x w) ∙ v)))
+
+    -- at the placeholder's child
+    pub asks-piece : e ≡ 1 → ¬ (c ≡ 0) → Asks row dead pieces line end c at
+    asks-piece w z = go-on hole at w (ends-hole (take (a .made) row) node) z (a .low)
 
     -- and there past a byte
-    pub asks-byte : ¬ (at ≡ end) → Asks row line end c (at + 1)
-    asks-byte n = record { made = a .made; stands = a .stands; there = child-there (a .stands) (a .there) h; low = omega (arith, a .low, n); high = a .high; short = a .short }
+    pub asks-byte : e ≡ code (elementAt (take end line) at) → ¬ (c ≡ 0) → ¬ (at ≡ end) → Asks row dead pieces line end c (at + 1)
+    asks-byte w z n =
+        let lt : at < length (take end line) = omega (arith, line-long, a .low, n) in
+        let d = drop-cons (take end line) at 0 lt in
+        go-on (lit (getD (take end line) at 0)) (at + 1) (w ∙ ap (λ (s : Bytes). code (elementOf s)) d) (ends-lit (take (a .made) row) node (getD (take end line) at 0)) z (omega (arith, a .low, n))
 
     -- the child is less high, so the measure falls
-    pub byte-less : e ≡ code (elementAt (take end line) at) → ¬ (c ≡ 0) → ¬ (at ≡ end) → 2 * (height row c + (end - (at + 1))) + 1 < 2 * (height row node + (end - at))
+    pub byte-less : e ≡ code (elementAt (take end line) at) → ¬ (c ≡ 0) → ¬ (at ≡ end) → 3 * (height row c + (end - (at + 1))) + 2 < 3 * (height row node + (end - at))
     byte-less w z n = omega (arith, child-lower (a .stands) (a .there) h (elementAt (take end line) at) w z)
 
-    pub piece-less : e ≡ 1 → ¬ (c ≡ 0) → 2 * (height row c + (end - at)) + 1 < 2 * (height row node + (end - at))
+    pub piece-less : e ≡ 1 → ¬ (c ≡ 0) → 3 * (height row c + (end - at)) + 2 < 3 * (height row node + (end - at))
     piece-less w z = omega (arith, child-lower (a .stands) (a .there) h hole w z)
 
     -- there is room for the piece of one more placeholder
-    pub below-nine : {n : Node} {k : ℕ} → e ≡ 1 → ¬ (c ≡ 0) → n ≡ getD row node noNode → k ≡ n .holes → k < 9
+    below-nine : {n : Node} {k : ℕ} → e ≡ 1 → ¬ (c ≡ 0) → n ≡ getD row node noNode → k ≡ n .holes → k < 9
     below-nine w z x y =
         let (j, v) = suc-of c z in
         let rows = take (a .made) row in
@@ -208,15 +261,19 @@ module _ {row : List Node} {line : Bytes} {end node at : ℕ} (a : Asks row line
         omega (arith, u, a .stands .tree .nine (suc j), y, ap (λ (n : Node). n .holes) (x ∙ sym (front-node row (a .made) node (a .there))))
 
     -- and its start and its length are bytes
-    pub piece-fits : {m : Marks} {n : Node} {k : ℕ} {o : Outcome} → e ≡ 1 → ¬ (c ≡ 0) → n ≡ getD row node noNode → k ≡ n .holes → SearchedIn m row (take end line) c at o
-        → (k < 9) × (at < 256) × (o .rest < 256)
-    piece-fits w z x y g =
-        (below-nine w z x y, omega (arith, a .low, a .short), omega (arith, g .each (a .made) (a .stands) (child-there (a .stands) (a .there) h) .short, line-long, a .short))
+    pub piece-fits : {m : Marks} {n : Node} {k : ℕ} {dead′ pieces′ : Bytes} {o : Outcome} → e ≡ 1 → ¬ (c ≡ 0) → SearchedIn m row (take end line) c at dead dead′ pieces pieces′ o → length pieces′ ≡ length pieces
+        → n ≡ getD row node noNode → k ≡ n .holes → (k < 9) × (at < 256) × (o .rest < 256) × (length pieces′ ≡ 18)
+    piece-fits w z g l x y = (
+      below-nine w z x y,
+      omega (arith, a .low, a .short),
+      omega (arith, g .comes .each (a .made) (a .stands) (child-there (a .stands) (a .there) h) .short, line-long, a .short),
+      l ∙ a .nine,
+    )
 
   module _ {m : Marks} {e : ℕ} (h : AtomAt m (take end line) at e) (z : ¬ (e ≡ 0)) where
     -- the search can go on past an atom
-    pub asks-atom : Asks row line end node e
-    asks-atom = record { made = a .made; stands = a .stands; there = a .there; low = omega (arith, h .within, line-long); high = a .high; short = a .short }
+    pub asks-atom : Asks row dead pieces line end node e
+    asks-atom = elsewhere a node e (a .there) (omega (arith, h .within, line-long)) (a .plain)
 
     -- the atom has a byte
     atom-ahead : at < e
@@ -227,63 +284,80 @@ module _ {row : List Node} {line : Bytes} {end node at : ℕ} (a : Asks row line
     atom-before = omega (arith, atom-ahead)
 
     -- less is left of the line, so the measure falls
-    pub atom-less : 2 * (height row node + (end - e)) + 1 < 2 * (height row node + (end - at))
+    pub atom-less : 3 * (height row node + (end - e)) + 2 < 3 * (height row node + (end - at))
     atom-less = omega (arith, atom-ahead, h .within, line-long)
 
     -- the piece stays within the line, so its length fits
-    pub atom-fits : {o : Outcome} → length line < 2 ^ 64 → SearchedIn m row (take end line) node e o → o .rest + (e - at) < 2 ^ 64
-    atom-fits f g = omega (arith, f, g .each (a .made) (a .stands) (a .there) .short, atom-ahead, h .within, line-long, a .high)
+    pub atom-fits : {o : Outcome} {dead′ pieces′ : Bytes} → SearchedIn m row (take end line) node e dead dead′ pieces pieces′ o → o .rest + (e - at) < 2 ^ 64
+    atom-fits g = omega (arith, g .comes .each (a .made) (a .stands) (a .there) .short, atom-ahead, h .within, line-long, a .short)
 
--- ---- what the steps find
+-- ---- steps that take up nothing
 
--- a step that finds nothing, in a tree
-none-stepped : {row : List Node} {made node at : ℕ} {line : Bytes} {step : ℕ → Option Found} {o : Outcome} → Stands row made → node < made → ((n : ℕ) → step n ≡ none) → o ≡ blank 0
-    → Stepped (take made row) line node at step o
-none-stepped {row} {made} {node} {at} s lt h e = rw e record { told = λ n l. rw (h n) refl; short = omega arith; there = omega (arith, lt, front-long s) }
+-- a step that takes up no place leaves the rows as they are
+pub idle-comes : {row : List Node} {line : Bytes} {node at F : ℕ} {fuel : List Node → ℕ} {step : List Node → ℕ → List Place → Tried} {dead pieces : Bytes} {o : Outcome}
+    → ((made : ℕ) → Stands row made → node < made → (n : ℕ) (ds : List Place) → HoldsDead (length (take made row)) (suc (length line)) dead ds → fuel (take made row) ≤ n → step (take made row) n ds ≡ idle ds)
+    → o ≡ blank 0 0 → Comes row line node at fuel F step (record { dead = dead; dead′ = dead; pieces = pieces; pieces′ = pieces }) o
+idle-comes {row} {line} {node} {at} h e = rw e record {
+  each = λ made s lt. record {
+    says = λ n l ds k. rw (h made s lt n ds k l) (record { told = (refl, refl); places = refl }, k);
+    short = omega arith;
+    there = omega (arith, lt, front-long s);
+  };
+  few = omega arith;
+}
 
 -- no child has the byte, nor the end
-no-child : (kid : ℕ → Elem → ℕ) (F : ℕ → Bytes → Option Found) (i : ℕ) (s : Bytes) → kid i (elementOf s) ≡ 0 → byByte kid F i s ≡ none
-no-child kid F i [] z = ap endAt z
-no-child kid F i (b ∷ s) z = ap (λ (c : ℕ). withByte b (atChild (λ j. F j s) c)) z
+no-child : (kid : ℕ → Elem → ℕ) (F : ℕ → ℕ → Bytes → List Place → Tried) (i p : ℕ) (s : Bytes) (ds : List Place) → kid i (elementOf s) ≡ 0 → tryByte kid F i p s ds ≡ idle ds
+no-child kid F i p [] ds z = ap (λ (c : ℕ). tryEnd c p ds) z
+no-child kid F i p (b ∷ s) ds z = ap (λ (c : ℕ). within (withByte b) (tryChild (λ j. F j (p + 1) s ds) c ds)) z
 
--- what is found at a child: c is the child for x, and o the outcome from `next` on
-child-told : (m : Marks) (rows : List Node) (line : Bytes) (node at next n : ℕ) (x : Elem) (c : ℕ) (o : Outcome) → Tree rows → c ≡ kid rows node x → ¬ (c ≡ 0) → at ≤ next
-    → height rows node + (length line - at) ≤ n → Searched m rows line c next o
-    → Told (holes rows c) next (atChild (λ j. search m (kid rows) (holey rows) n j (drop next line)) (kid rows node x)) o
-child-told m rows line node at next n x c o tree w z le l h =
-    let (j, v) = suc-of c z in
-    let y : kid rows node x ≡ suc j = sym w ∙ v in
-    let f = kid-falls rows tree node x j y in
-    rw (y, ← v) (h .told n (omega (arith, f, ap (height rows) v)))
-
-module _ {m : Marks} {row : List Node} {line : Bytes} {node at e c : ℕ} (h : ChildFor row node e c) where
+module _ {m : Marks} {row : List Node} {line : Bytes} {node at e c : ℕ} {dead pieces : Bytes} (h : ChildFor row node e c) where
   -- no child has the byte, nor the end
-  pub byte-none : {o : Outcome} → e ≡ code (elementAt line at) → c ≡ 0 → o ≡ blank 0 → ByteSearched m row line node at o
+  pub byte-none : {o : Outcome} → e ≡ code (elementAt line at) → c ≡ 0 → o ≡ blank 0 0 → ByteSearched m row line node at dead dead pieces pieces o
   byte-none w z q = record {
-    each = λ made s lt.
-        none-stepped s lt (λ n. no-child (kid (take made row)) (search m (kid (take made row)) (holey (take made row)) n) node (drop at line) (sym (child-is s lt h (elementAt line at) w) ∙ z)) q;
+    comes = idle-comes (λ made s lt n ds k l. no-child (kid (take made row)) (tryPlace m (kid (take made row)) (holey (take made row)) n) node at (drop at line) ds
+        (sym (child-is s lt h (elementAt line at) w) ∙ z)) q;
   }
 
   -- no child is a placeholder's
-  pub piece-none : {o : Outcome} → e ≡ 1 → c ≡ 0 → o ≡ blank 0 → PieceSearched m row line node at o
+  pub piece-none : {o : Outcome} → e ≡ 1 → c ≡ 0 → o ≡ blank 0 0 → PieceSearched m row line node at dead dead pieces pieces o
   piece-none w z q = record {
-    each = λ made s lt.
-        none-stepped s lt (λ n. ap (λ (i : ℕ). pieceFound (atChild (λ j. search m (kid (take made row)) (holey (take made row)) n j (drop at line)) i)) (sym (child-is s lt h hole w) ∙ z)) q;
+    comes = idle-comes (λ made s lt n ds k l. ap (λ (i : ℕ). within pieceFound (tryChild (λ j. tryPlace m (kid (take made row)) (holey (take made row)) n j at (drop at line) ds) i ds))
+        (sym (child-is s lt h hole w) ∙ z)) q;
   }
+
+-- ---- steps that lead to a child
+
+-- what is found at a child: c is the child for x, and o the outcome from `next` on
+child-said : (m : Marks) (rows : List Node) (line : Bytes) (node at next n : ℕ) (x : Elem) (c : ℕ) (l : Lent) (ds : List Place) (o : Outcome) → Tree rows → c ≡ kid rows node x → ¬ (c ≡ 0) → at ≤ next
+    → sizeIn rows line node at ≤ n → HoldsDead (length rows) (suc (length line)) (l .dead) ds → Outcomes rows line c next (suc (sizeIn rows line c next)) (λ n. placeTried m rows line c next n) l o
+    → Says (holes rows c) next (tryChild (λ j. tryPlace m (kid rows) (holey rows) n j next (drop next line) ds) (kid rows node x) ds) o (l .pieces) (l .pieces′)
+    × HoldsDead (length rows) (suc (length line)) (l .dead′) (tryChild (λ j. tryPlace m (kid rows) (holey rows) n j next (drop next line) ds) (kid rows node x) ds .dead)
+child-said m rows line node at next n x c l ds o tree w z le lt k h =
+    let (j, v) = suc-of c z in
+    let y : kid rows node x ≡ suc j = sym w ∙ v in
+    let f = kid-falls rows tree node x j y in
+    rw (y, ← v) (h .says n (omega (arith, f, ap (height rows) v)) ds k)
 
 module _ (m : Marks) (rows : List Node) (line : Bytes) (node at c : ℕ) (o : Outcome) (tree : Tree rows) (z : ¬ (c ≡ 0)) where
   -- the template ends here
-  end-stepped : length line ≤ at → c ≡ kid rows node (elementAt line at) → c < length rows → o ≡ blank c → Stepped rows line node at (byteStep m rows line node at) o
-  unfolding startsIn stored
-  end-stepped le w lt e =
+  end-outcomes : (dead pieces : Bytes) → length line ≤ at → c ≡ kid rows node (elementAt line at) → c < length rows → o ≡ blank c 1
+      → Outcomes rows line node at (sizeIn rows line node at) (λ n. byteStep m rows line node at n) (record { dead = dead; dead′ = dead; pieces = pieces; pieces′ = pieces }) o
+  unfolding startsIn withPieces
+  end-outcomes dead pieces le w lt e =
       let (j, x) = suc-of c z in
       let d : drop at line ≡ [] = drop-of-length-le line le in
       let y : kid rows node stop ≡ suc j = ap (λ (s : Bytes). kid rows node (elementOf s)) (sym d) ∙ sym w ∙ x in
-      rw e record { told = λ n l. rw (d, y) (omega (arith, x), x, refl, refl, refl); short = omega arith; there = lt }
+      rw e record {
+        says = λ n l ds k. rw (d, y) (record { told = (omega (arith, x), x, refl, refl); places = refl }, k);
+        short = omega arith;
+        there = lt;
+      }
 
   -- what is found at the byte's child is found here
-  byte-stepped : at < length line → c ≡ kid rows node (elementAt line at) → Searched m rows line c (at + 1) o → Stepped rows line node at (byteStep m rows line node at) o
-  byte-stepped lt w h = record { told = told; short = omega (arith, h .short); there = h .there }
+  byte-outcomes : (l : Lent) → at < length line → c ≡ kid rows node (elementAt line at) → Outcomes rows line c (at + 1) (suc (sizeIn rows line c (at + 1))) (λ n. placeTried m rows line c (at + 1) n) l o
+      → Outcomes rows line node at (sizeIn rows line node at) (λ n. byteStep m rows line node at n) l o
+  byte-outcomes l lt w h = record { says = says; short = omega (arith, h .short); there = h .there }
     where
       b : ℕ
       b = getD line at 0
@@ -294,67 +368,109 @@ module _ (m : Marks) (rows : List Node) (line : Bytes) (node at c : ℕ) (o : Ou
       is : c ≡ kid rows node (lit b)
       is = w ∙ ap (λ (s : Bytes). kid rows node (elementOf s)) d
 
-      told : (n : ℕ) → height rows node + (length line - at) ≤ n → Told (holes rows node) at (byteStep m rows line node at n) o
-      told n l =
+      says : (n : ℕ) → sizeIn rows line node at ≤ n → (ds : List Place) → HoldsDead (length rows) (suc (length line)) (l .dead) ds
+          → Says (holes rows node) at (byteStep m rows line node at n ds) o (l .pieces) (l .pieces′) × HoldsDead (length rows) (suc (length line)) (l .dead′) (byteStep m rows line node at n ds .dead)
+      says n le ds k =
           let (j, v) = suc-of c z in
           let y : kid rows node (lit b) ≡ suc j = sym is ∙ v in
-          let x : Option Found = atChild (λ j. search m (kid rows) (holey rows) n j (drop (at + 1) line)) (kid rows node (lit b)) in
-          rw d (told-byte (holes rows node) (holes rows c) at b x o (ap (holes rows) v ∙ holes-lit rows tree node b j y)
-          (λ f e. rest-none m (kid rows) (holey rows) n (suc j) (drop (at + 1) line) f (kid-lit rows tree node b j y)
-          (subst (λ (i : ℕ). atChild (λ j. search m (kid rows) (holey rows) n j (drop (at + 1) line)) i ≡ some f) y e))
-          (child-told m rows line node at (at + 1) n (lit b) c o tree is z (omega arith) l h))
+          let t : Tried = tryChild (λ j. tryPlace m (kid rows) (holey rows) n j (at + 1) (drop (at + 1) line) ds) (kid rows node (lit b)) ds in
+          let (s, g) = child-said m rows line node at (at + 1) n (lit b) c l ds o tree is z (omega arith) le k h in
+          rw d (
+            record {
+              told = told-byte (holes rows node) (holes rows c) at b (t .found) o (l .pieces) (l .pieces′) (ap (holes rows) v ∙ holes-lit rows tree node b j y)
+                  (λ f e. place-rest m (kid rows) (holey rows) n (suc j) (at + 1) (drop (at + 1) line) ds f (kid-lit rows tree node b j y)
+                  (subst (λ (i : ℕ). tryChild (λ j. tryPlace m (kid rows) (holey rows) n j (at + 1) (drop (at + 1) line) ds) i ds .found ≡ some f) y e)) (s .told);
+              places = s .places;
+            },
+            g,
+          )
 
-  -- what is found at the placeholder's child is a piece, and what follows it
-  piece-stepped : c ≡ kid rows node hole → Searched m rows line c at o → Stepped rows line node at (pieceStep m rows line node at) (storePiece (holes rows node) at o)
-  piece-stepped w h = record { told = told; short = omega arith; there = h .there }
-    where
-      told : (n : ℕ) → height rows node + (length line - at) ≤ n → Told (holes rows node) at (pieceStep m rows line node at n) (storePiece (holes rows node) at o)
-      told n l =
+  -- what is found at the placeholder's child is a piece, and what follows it; r is the outcome with the piece stored
+  module _ (dead dead1 pieces pieces1 : Bytes) (w : c ≡ kid rows node hole)
+      (h : Outcomes rows line c at (suc (sizeIn rows line c at)) (λ n. placeTried m rows line c at n) (record { dead = dead; dead′ = dead1; pieces = pieces; pieces′ = pieces1 }) o) where
+    -- what the search of the child says
+    said-child : (n : ℕ) → sizeIn rows line node at ≤ n → (ds : List Place) → HoldsDead (length rows) (suc (length line)) dead ds
+        → Says (holes rows c) at (tryChild (λ j. tryPlace m (kid rows) (holey rows) n j at (drop at line) ds) (kid rows node hole) ds) o pieces pieces1
+        × HoldsDead (length rows) (suc (length line)) dead1 (tryChild (λ j. tryPlace m (kid rows) (holey rows) n j at (drop at line) ds) (kid rows node hole) ds .dead)
+    said-child n le ds k = child-said m rows line node at at n hole c (record { dead = dead; dead′ = dead1; pieces = pieces; pieces′ = pieces1 }) ds o tree w z (omega arith) le k h
+
+    -- with the piece stored
+    piece-outcomes : (pieces2 : Bytes) (r : Outcome) → ¬ (o .node ≡ 0) → StoresPiece (holes rows node) at o pieces1 pieces2 r
+        → Outcomes rows line node at (sizeIn rows line node at) (λ n. pieceStep m rows line node at n) (record { dead = dead; dead′ = dead1; pieces = pieces; pieces′ = pieces2 }) r
+    piece-outcomes pieces2 r f q = record {
+      says = λ n le ds k.
           let (j, v) = suc-of c z in
-          told-piece (holes rows node) (holes rows c) at (atChild (λ j. search m (kid rows) (holey rows) n j (drop at line)) (kid rows node hole)) o
-          (ap (holes rows) v ∙ holes-hole rows tree node j (sym w ∙ v)) (child-told m rows line node at at n hole c o tree w z (omega arith) l h)
+          let t : Tried = tryChild (λ j. tryPlace m (kid rows) (holey rows) n j at (drop at line) ds) (kid rows node hole) ds in
+          let (s, g) = said-child n le ds k in (
+            record {
+              told = told-piece (holes rows node) (holes rows c) at (t .found) o r pieces pieces1 pieces2 (ap (holes rows) v ∙ holes-hole rows tree node j (sym w ∙ v)) f q (s .told);
+              places = ap (λ (o : Outcome). o .places) (q .is) ∙ s .places;
+            },
+            g,
+          );
+      short = rw (q .is) (omega arith);
+      there = rw (q .is) (h .there);
+    }
 
--- the atom makes the open piece longer
-atom-stepped : (m : Marks) (rows : List Node) (line : Bytes) (node at e : ℕ) (o : Outcome) → holey rows node ≡ true → AtomAt m line at e → ¬ (e ≡ 0) → Searched m rows line node e o
-    → Stepped rows line node at (atomStep m rows line node at) (passAtom (e - at) o)
-atom-stepped m rows line node at e o t a z h = record { told = told; short = omega (arith, h .short, up, a .within); there = h .there }
-  where
-    up : at < e
-    up = a .ahead (omega (arith, z))
+    -- nothing is found there, nor here
+    no-piece-outcomes : o .node ≡ 0 → Outcomes rows line node at (sizeIn rows line node at) (λ n. pieceStep m rows line node at n) (record { dead = dead; dead′ = dead1; pieces = pieces; pieces′ = pieces1 }) o
+    no-piece-outcomes f = record {
+      says = λ n le ds k.
+          let t : Tried = tryChild (λ j. tryPlace m (kid rows) (holey rows) n j at (drop at line) ds) (kid rows node hole) ds in
+          let (s, g) = said-child n le ds k in
+          (record { told = told-no-piece (holes rows node) (holes rows c) at (t .found) o pieces pieces1 f (s .told); places = s .places }, g);
+      short = omega (arith, h .short);
+      there = h .there;
+    }
 
-    long : at + length (part line at e) ≡ e
-    long = simp (length-take, length-drop) (omega (arith, up, a .within))
-
-    told : (n : ℕ) → height rows node + (length line - at) ≤ n → Told (holes rows node) at (atomStep m rows line node at n) (passAtom (e - at) o)
-    told n l = rw (t, a .found (omega (arith, z))) (told-atom (holes rows node) at e (part line at e) (search m (kid rows) (holey rows) n node (drop e line)) o long
-        (h .told n (omega (arith, up, a .within))))
-
-module _ {m : Marks} {row : List Node} {line : Bytes} {end node at : ℕ} (a : Asks row line end node at) where
+module _ {m : Marks} {row : List Node} {dead pieces line : Bytes} {end node at : ℕ} (a : Asks row dead pieces line end node at) where
   module _ {e c : ℕ} (h : ChildFor row node e c) {o : Outcome} (z : ¬ (c ≡ 0)) where
     -- the template ends here
-    pub byte-end : e ≡ code (elementAt (take end line) at) → at ≡ end → o ≡ blank c → ByteSearched m row (take end line) node at o
+    pub byte-end : e ≡ code (elementAt (take end line) at) → at ≡ end → o ≡ blank c 1 → ByteSearched m row (take end line) node at dead dead pieces pieces o
     byte-end w t q = record {
-      each = λ made s lt.
-          end-stepped m (take made row) (take end line) node at c o (s .tree) z (omega (arith, line-long a, t)) (child-is s lt h (elementAt (take end line) at) w)
-          (omega (arith, child-there s lt h, front-long s)) q;
+      comes = record {
+        each = λ made s lt.
+            end-outcomes m (take made row) (take end line) node at c o (s .tree) z dead pieces (omega (arith, line-long a, t)) (child-is s lt h (elementAt (take end line) at) w)
+            (omega (arith, child-there s lt h, front-long s)) q;
+        few = omega (arith, ap (λ (o : Outcome). o .places) q);
+      };
     }
 
     -- what is found at the byte's child is found here
-    pub byte-below : e ≡ code (elementAt (take end line) at) → ¬ (at ≡ end) → SearchedIn m row (take end line) c (at + 1) o → ByteSearched m row (take end line) node at o
-    byte-below w t g = record {
-      each = λ made s lt.
-          byte-stepped m (take made row) (take end line) node at c o (s .tree) z (omega (arith, line-long a, a .low, t)) (child-is s lt h (elementAt (take end line) at) w)
-          (g .each made s (child-there s lt h));
+    pub byte-below : {dead′ pieces′ : Bytes} → e ≡ code (elementAt (take end line) at) → ¬ (at ≡ end) → SearchedIn m row (take end line) c (at + 1) dead dead′ pieces pieces′ o
+        → ByteSearched m row (take end line) node at dead dead′ pieces pieces′ o
+    byte-below {dead′} {pieces′} w t g = record {
+      comes = record {
+        each = λ made s lt.
+            byte-outcomes m (take made row) (take end line) node at c o (s .tree) z (record { dead = dead; dead′ = dead′; pieces = pieces; pieces′ = pieces′ }) (omega (arith, line-long a, a .low, t))
+            (child-is s lt h (elementAt (take end line) at) w) (g .comes .each made s (child-there s lt h));
+        few = g .comes .few;
+      };
     }
 
-    -- what is found at the placeholder's child is a piece, and what follows it
-    pub piece-below : {n : Node} {k : ℕ} {u : Outcome} → e ≡ 1 → SearchedIn m row (take end line) c at o → n ≡ getD row node noNode → k ≡ n .holes → u ≡ storePiece k at o
-        → PieceSearched m row (take end line) node at u
-    piece-below {n} {k} w g x y q = record {
-      each = λ made s lt.
-          let v : k ≡ holes (take made row) node = y ∙ ap (λ (n : Node). n .holes) (x ∙ sym (front-node row made node lt)) in
-          rw (q, v) (piece-stepped m (take made row) (take end line) node at c o (s .tree) z (child-is s lt h hole w) (g .each made s (child-there s lt h)));
-    }
+    module _ {dead1 pieces1 : Bytes} (w : e ≡ 1) (g : SearchedIn m row (take end line) c at dead dead1 pieces pieces1 o) where
+      -- what is found at the placeholder's child is a piece, and what follows it
+      pub piece-below : {n : Node} {k : ℕ} {r : Outcome} {pieces2 : Bytes} → ¬ (o .node ≡ 0) → n ≡ getD row node noNode → k ≡ n .holes → StoresPiece k at o pieces1 pieces2 r
+          → PieceSearched m row (take end line) node at dead dead1 pieces pieces2 r
+      piece-below {n} {k} {r} {pieces2} f x y q = record {
+        comes = record {
+          each = λ made s lt.
+              let v : k ≡ holes (take made row) node = y ∙ ap (λ (n : Node). n .holes) (x ∙ sym (front-node row made node lt)) in
+              piece-outcomes m (take made row) (take end line) node at c o (s .tree) z dead dead1 pieces pieces1 (child-is s lt h hole w) (g .comes .each made s (child-there s lt h)) pieces2 r f
+              (subst (λ (k : ℕ). StoresPiece k at o pieces1 pieces2 r) v q);
+          few = omega (arith, g .comes .few, ap (λ (o : Outcome). o .places) (q .is));
+        };
+      }
+
+      -- nothing is found there
+      pub piece-nowhere : o .node ≡ 0 → PieceSearched m row (take end line) node at dead dead1 pieces pieces1 o
+      piece-nowhere f = record {
+        comes = record {
+          each = λ made s lt.
+              no-piece-outcomes m (take made row) (take end line) node at c o (s .tree) z dead dead1 pieces pieces1 (child-is s lt h hole w) (g .comes .each made s (child-there s lt h)) f;
+          few = g .comes .few;
+        };
+      }
 
 -- ---- the atom
 
@@ -362,15 +478,47 @@ module _ {m : Marks} {row : List Node} {line : Bytes} {end node at : ℕ} (a : A
 holey-is : (row : List Node) (node made : ℕ) {n : Node} {b : Bool} → node < made → n ≡ getD row node noNode → b ≡ eqb (n .element) 1 → holey (take made row) node ≡ b
 holey-is row node made lt x y = sym (y ∙ ap (λ (n : Node). eqb (n .element) 1) (x ∙ sym (front-node row made node lt)))
 
-module _ {m : Marks} {row : List Node} {line : Bytes} {node at : ℕ} {n : Node} {b : Bool} (x : n ≡ getD row node noNode) (y : b ≡ eqb (n .element) 1) where
+-- the atom makes the open piece longer
+atom-outcomes : (m : Marks) (rows : List Node) (line : Bytes) (node at e : ℕ) (l : Lent) (o : Outcome) → holey rows node ≡ true → AtomAt m line at e → ¬ (e ≡ 0)
+    → Outcomes rows line node e (suc (sizeIn rows line node e)) (λ n. placeTried m rows line node e n) l o
+    → Outcomes rows line node at (sizeIn rows line node at) (λ n. atomStep m rows line node at n) l (passAtom (e - at) o)
+atom-outcomes m rows line node at e l o t a z h = record { says = says; short = omega (arith, h .short, up, a .within); there = h .there }
+  where
+    up : at < e
+    up = a .ahead (omega (arith, z))
+
+    long : at + length (part line at e) ≡ e
+    long = simp (length-take, length-drop) (omega (arith, up, a .within))
+
+    says : (n : ℕ) → sizeIn rows line node at ≤ n → (ds : List Place) → HoldsDead (length rows) (suc (length line)) (l .dead) ds
+        → Says (holes rows node) at (atomStep m rows line node at n ds) (passAtom (e - at) o) (l .pieces) (l .pieces′)
+        × HoldsDead (length rows) (suc (length line)) (l .dead′) (atomStep m rows line node at n ds .dead)
+    says n le ds k =
+        let (s, g) = h .says n (omega (arith, up, a .within, le)) ds k in
+        rw (t, a .found (omega (arith, z)), long) (
+          record {
+            told = told-atom (holes rows node) at e (part line at e) (placeTried m rows line node e n ds .found) o (l .pieces) (l .pieces′) long (s .told);
+            places = s .places;
+          },
+          g,
+        )
+
+module _ {m : Marks} {row : List Node} {dead pieces line : Bytes} {node at : ℕ} {n : Node} {b : Bool} (x : n ≡ getD row node noNode) (y : b ≡ eqb (n .element) 1) where
   -- the node is no placeholder's
-  pub atom-not : {o : Outcome} → b ≡ false → o ≡ blank 0 → AtomSearched m row line node at o
-  atom-not f q = record { each = λ made s lt. none-stepped s lt (λ k. rw (holey-is row node made lt x y ∙ f) refl) q }
+  pub atom-not : {o : Outcome} → b ≡ false → o ≡ blank 0 0 → AtomSearched m row line node at dead dead pieces pieces o
+  atom-not f q = record { comes = idle-comes (λ made s lt k ds h l. rw (holey-is row node made lt x y ∙ f) refl) q }
 
   -- there is no atom
-  pub atom-none : {e : ℕ} {o : Outcome} → b ≡ true → AtomAt m line at e → e ≡ 0 → o ≡ blank 0 → AtomSearched m row line node at o
-  atom-none t g z q = record { each = λ made s lt. none-stepped s lt (λ k. rw (holey-is row node made lt x y ∙ t, g .nowhere z) refl) q }
+  pub atom-none : {e : ℕ} {o : Outcome} → b ≡ true → AtomAt m line at e → e ≡ 0 → o ≡ blank 0 0 → AtomSearched m row line node at dead dead pieces pieces o
+  atom-none t g z q = record { comes = idle-comes (λ made s lt k ds h l. rw (holey-is row node made lt x y ∙ t, g .nowhere z) refl) q }
 
   -- the open piece has the atom
-  pub atom-below : {e : ℕ} {o u : Outcome} → b ≡ true → AtomAt m line at e → ¬ (e ≡ 0) → SearchedIn m row line node e o → u ≡ passAtom (e - at) o → AtomSearched m row line node at u
-  atom-below {e} {o} t g z w q = record { each = λ made s lt. rw q (atom-stepped m (take made row) line node at e o (holey-is row node made lt x y ∙ t) g z (w .each made s lt)) }
+  pub atom-below : {e : ℕ} {o u : Outcome} {dead′ pieces′ : Bytes} → b ≡ true → AtomAt m line at e → ¬ (e ≡ 0) → SearchedIn m row line node e dead dead′ pieces pieces′ o → u ≡ passAtom (e - at) o
+      → AtomSearched m row line node at dead dead′ pieces pieces′ u
+  atom-below {e} {o} {u} {dead′} {pieces′} t g z w q = rw q record {
+    comes = record {
+      each = λ made s lt.
+          atom-outcomes m (take made row) line node at e (record { dead = dead; dead′ = dead′; pieces = pieces; pieces′ = pieces′ }) o (holey-is row node made lt x y ∙ t) g z (w .comes .each made s lt);
+      few = w .comes .few;
+    };
+  }

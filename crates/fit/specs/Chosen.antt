@@ -1,45 +1,57 @@
--- What first_reading answers: the chosen reading of the line.
+-- What first_reading answers: the chosen reading of the line, and how many places were taken up to find it.
 use mathlib.Core.Path.{_≡_}
 use mathlib.Core.Bool.{true, false}
 use mathlib.Core.Option.{none, some}
 use mathlib.Core.List.{List, [], map}
 use Prim.Native.Nat.{ℕ, _+_, _≤_, _<_}
 use lib.ListN.{length, getD, take, drop, replicate}
+use Rattle.model.specs.Limits.{lineMost, nodesMost, deadLeast}
 use Rattle.model.specs.declared.Marks.{Marks}
 use Rattle.model.specs.Text.{Bytes}
 use Rattle.model.specs.Reading.{Reading, chosen}
 use Rattle.model.specs.Fitting.{Distinct}
 use Rattle.model.specs.Parts.{Elem, elems}
+use Rattle.model.specs.Places.{placesTaken}
 use Rattle.model.specs.Results.{startsOf, nine}
 use Rattle.nodes.specs.declared.Node.{Node}
-use Rattle.nodes.specs.Rows.{Stands}
-use Rattle.nodes.specs.Templates.{Represents}
+use Rattle.nodes.specs.Rows.{elem, holes, Stands}
+use Rattle.nodes.specs.Templates.{Beginnings}
 use Rattle.fit.specs.declared.Choice.{Choice}
-use Rattle.fit.specs.declared.Outcome.{Outcome}
 
--- no call
-abbrev pub noChoice : Choice
-noChoice = record { found = false; template = 0; starts = replicate 9 0; lens = replicate 9 0 }
+-- no call, after so many places
+abbrev pub noChoice : ℕ → Choice
+noChoice k = record { found = false; template = 0; starts = replicate 9 0; lens = replicate 9 0; places = k }
 
--- the call of a template, with the pieces of an outcome
-abbrev pub choiceOf : Outcome → ℕ → Choice
-choiceOf o template = record { found = true; template = template; starts = o .starts; lens = o .lens }
+-- the call of a template with the stored pieces, after so many places
+abbrev pub choiceOf : Bytes → ℕ → ℕ → Choice
+choiceOf ps template k = record { found = true; template = template; starts = take 9 ps; lens = drop 9 ps; places = k }
 
--- the nodes are the tree of the templates ts, no two of which are equal, and the brackets differ
+-- what fitting the first `end` bytes of a line asks: a tree of `count` nodes stands in the row of nodes, and the row of dead places is long enough
+pub record Fits (row : List Node) (count : ℕ) (dead line : Bytes) (end : ℕ) : Type 0 where
+  pub stands : Stands row count
+  pub root : 0 < count
+  pub few : count ≤ nodesMost
+  pub high : end ≤ length line
+  pub short : end ≤ lineMost
+  pub room : deadLeast ≤ length dead
+
+-- the nodes are the tree of the templates ts, no two of which are equal, and the brackets differ: `pre` gives the beginning of the templates at
+-- each node, and no two nodes have one beginning
 pub record TreeOf (m : Marks) (rows : List Node) (ts : List Bytes) : Type 0 where
-  pub spelt : List (List Elem)
-  pub represents : Represents rows spelt
-  pub as-many : length spelt ≡ length ts
-  pub each : (k : ℕ) → k < length ts → getD spelt k [] ≡ elems m (getD ts k [])
+  pub pre : ℕ → List Elem
+  pub begins : Beginnings rows (map (elems m) ts) pre
+  pub apart : (i j : ℕ) → i < j → j < length rows → ¬ (pre i ≡ pre j)
+  pub plain-root : ¬ (elem rows 0 ≡ 1)
+  pub no-holes : holes rows 0 ≡ 0
   pub distinct : Distinct ts
   pub differ : ¬ (m .left ≡ m .right)
 
--- it stands at the front of the row
-pub record TreeAt (m : Marks) (row : List Node) (ts : List Bytes) : Type 0 where
-  pub made : ℕ
-  pub stands : Stands row made
-  pub root : 0 < made
-  pub of : TreeOf m (take made row) ts
+-- it stands at the front of the row, with `count` nodes
+pub record TreeAt (m : Marks) (row : List Node) (count : ℕ) (ts : List Bytes) : Type 0 where
+  pub stands : Stands row count
+  pub root : 0 < count
+  pub few : count ≤ nodesMost
+  pub of : TreeOf m (take count row) ts
 
 -- the call is the chosen reading of the line by the templates ts
 pub record Chosen (m : Marks) (ts : List Bytes) (line : Bytes) (c : Choice) : Type 0 where
@@ -53,8 +65,9 @@ pub record Chosen (m : Marks) (ts : List Bytes) (line : Bytes) (c : Choice) : Ty
   pub piece : (i : ℕ) → i < length (reading .pieces) → getD (reading .pieces) i [] ≡ take (getD (c .lens) i 0) (drop (getD (c .starts) i 0) line)
 
 -- the call is the chosen reading by any templates whose tree stands in the row, or there is none
-pub record Chooses (m : Marks) (row : List Node) (line : Bytes) (c : Choice) : Type 0 where
-  pub no-call : c .found ≡ false → (ts : List Bytes) → TreeAt m row ts → chosen m ts line ≡ none
+pub record Chooses (m : Marks) (row : List Node) (count : ℕ) (line : Bytes) (c : Choice) : Type 0 where
+  pub no-call : c .found ≡ false → (ts : List Bytes) → TreeAt m row count ts → chosen m ts line ≡ none
   pub blank : c .found ≡ false → (c .template ≡ 0) × (c .starts ≡ nine []) × (c .lens ≡ nine [])
-  pub call : c .found ≡ true → (ts : List Bytes) → TreeAt m row ts → Chosen m ts line c
+  pub call : c .found ≡ true → (ts : List Bytes) → TreeAt m row count ts → Chosen m ts line c
   pub within : (i : ℕ) → getD (c .starts) i 0 + getD (c .lens) i 0 ≤ length line
+  pub places : (ts : List Bytes) → TreeAt m row count ts → c .places ≡ placesTaken m ts line

@@ -1,4 +1,3 @@
--- The search, what its outcome says, and the chosen reading.
-pub mod Search
+-- What an outcome says of a search, and the chosen reading.
 pub mod Outcome
 pub mod Chosen

@@ -1,30 +1,42 @@
--- What the code's outcome says of what is found.
+-- What the code's outcome says of what a search comes to, and what the lent rows hold then.
 use mathlib.Core.Path.{_≡_}
+use mathlib.Core.Bool.{Bool, true, false}
 use mathlib.Core.List.{List, [], _∷_, map}
 use mathlib.Core.Option.{Option, none, some}
-use Prim.Native.Nat.{ℕ, _+_, _-_, _≤_, _<_}
-use lib.ListN.{length, take, drop, set, replicate}
+use Prim.Native.Nat.{ℕ, zero, suc, _+_, _-_, _*_, _≤_, _<_}
+use lib.Dec.{eqb}
+use lib.ListN.{length, take, drop, set}
+use Rattle.model.specs.Limits.{lineMost, nodesMost}
 use Rattle.model.specs.declared.Marks.{Marks}
 use Rattle.model.specs.Text.{Bytes}
 use Rattle.model.specs.Parts.{Elem, lit, stop, ReadingPart, byte, piece, pieces}
+use Rattle.model.specs.Places.{Found, Place, isIn, Tried, orTry, tryByte, tryPiece, tryAtom, tryPlace}
 use Rattle.nodes.specs.declared.Node.{Node}
-use Rattle.nodes.specs.Rows.{kid, holey, height, holes, Stands}
-use Rattle.fit.specs.Search.{Found, byByte, byPiece, byAtom, search}
+use Rattle.nodes.specs.Rows.{elem, kid, holey, height, holes, Stands}
+use Rattle.places.specs.Bits.{bit}
 use Rattle.fit.specs.declared.Outcome.{Outcome}
 
 -- ---- outcomes as the code makes them
 
--- at a node with no piece
-abbrev pub blank : ℕ → Outcome
-blank j = record { node = j; rest = 0; starts = replicate 9 0; lens = replicate 9 0 }
+-- at a node with no piece, with so many places
+abbrev pub blank : ℕ → ℕ → Outcome
+blank j k = record { node = j; rest = 0; places = k }
 
--- where piece k starts at place `at`: what is left of it is all of it
-abbrev pub storePiece : ℕ → ℕ → Outcome → Outcome
-storePiece k at o = record { node = o .node; rest = 0; starts = set (o .starts) k at; lens = set (o .lens) k (o .rest) }
+-- where the open piece starts: nothing is left of it
+abbrev pub closePiece : Outcome → Outcome
+closePiece o = record { node = o .node; rest = 0; places = o .places }
 
 -- with n bytes more in the open piece
 abbrev pub passAtom : ℕ → Outcome → Outcome
-passAtom n o = record { node = o .node; rest = o .rest + n; starts = o .starts; lens = o .lens }
+passAtom n o = record { node = o .node; rest = o .rest + n; places = o .places }
+
+-- with a place more
+abbrev pub countPlace : Outcome → Outcome
+countPlace o = record { node = o .node; rest = o .rest; places = o .places + 1 }
+
+-- after a, which led nowhere
+abbrev pub countAfter : Outcome → Outcome → Outcome
+countAfter a o = record { node = o .node; rest = o .rest; places = a .places + o .places }
 
 -- ---- the element that leads on
 
@@ -37,12 +49,22 @@ elementOf (b ∷ s) = lit b
 abbrev pub elementAt : Bytes → ℕ → Elem
 elementAt line at = elementOf (drop at line)
 
--- ---- what they say
+-- ---- the lent bytes of pieces: nine starts, then nine lengths
 
--- the numbers stored from place k of nine on, the first of them last
-unfoldable pub stored : ℕ → List ℕ → List ℕ
-stored k [] = replicate 9 0
-stored k (v ∷ vs) = set (stored (k + 1) vs) k v
+-- with start and length of piece k
+abbrev pub withPieceAt : (k start long : ℕ) → Bytes → Bytes
+withPieceAt k s l ps = set (set ps k s) (k + 9) l
+
+-- with those of the pieces from piece k on
+unfoldable pub withPieces : ℕ → (starts lens : List ℕ) → Bytes → Bytes
+withPieces k [] ls ps = ps
+withPieces k (s ∷ ss) [] ps = ps
+withPieces k (s ∷ ss) (l ∷ ls) ps = withPieceAt k s l (withPieces (k + 1) ss ls ps)
+
+-- what store_piece does
+pub record StoresPiece (k at : ℕ) (o : Outcome) (ps ps′ : Bytes) (r : Outcome) : Type 0 where
+  pub stored : ps′ ≡ withPieceAt k at (o .rest) ps
+  pub is : r ≡ closePiece o
 
 -- where the pieces of r start, if r starts at place `at`
 unfoldable pub startsIn : ℕ → List ReadingPart → List ℕ
@@ -54,56 +76,117 @@ startsIn at (piece p ∷ r) = at ∷ startsIn (at + length p) r
 abbrev pub lensIn : List ReadingPart → List ℕ
 lensIn r = map (λ p. length p) (pieces r)
 
--- the outcome o says what is found from place `at` on, with k pieces before
-abbrev pub Told : ℕ → ℕ → Option Found → Outcome → Type 0
-Told k at none o = o .node ≡ 0
-Told k at (some f) o = (0 < o .node) × (o .node ≡ f .node) × (o .rest ≡ length (f .rest))
-    × (o .starts ≡ stored k (startsIn (at + length (f .rest)) (f .parts))) × (o .lens ≡ stored k (lensIn (f .parts)))
+-- ---- what an outcome says
 
--- the outcome of the search from the node and place `at` on, with any fuel that is enough
-pub record Searched (m : Marks) (rows : List Node) (line : Bytes) (node at : ℕ) (o : Outcome) : Type 0 where
-  pub told : (n : ℕ) → height rows node + (length line - at) < n → Told (holes rows node) at (search m (kid rows) (holey rows) n node (drop at line)) o
+-- the outcome o says what is found from place `at` on, with k pieces before; where nothing is found, no piece is stored
+abbrev pub Told : (k at : ℕ) → Option Found → Outcome → (ps ps′ : Bytes) → Type 0
+Told k at none o ps ps′ = (o .node ≡ 0) × (ps′ ≡ ps)
+Told k at (some f) o ps ps′ = (0 < o .node) × (o .node ≡ f .node) × (o .rest ≡ length (f .rest))
+    × (ps′ ≡ withPieces k (startsIn (at + length (f .rest)) (f .parts)) (lensIn (f .parts)) ps)
+
+-- and how many places were taken up
+pub record Says (k at : ℕ) (t : Tried) (o : Outcome) (ps ps′ : Bytes) : Type 0 where
+  pub told : Told k at (t .found) o ps ps′
+  pub places : o .places ≡ length (t .taken)
+
+-- ---- dead places
+
+-- the bits of the row are the dead places ds of a tree of so many nodes, for positions below w
+abbrev pub HoldsDead : (count w : ℕ) → Bytes → List Place → Type 0
+HoldsDead count w row ds = (i p : ℕ) → i < count → p < w → bit row (i * w + p) ≡ isIn i p ds
+
+-- a template ends at the node
+abbrev pub endsAt : List Node → ℕ → Bool
+endsAt rows zero = false
+endsAt rows (suc j) = eqb (elem rows (suc j)) 0
+
+-- ---- a search, or one of its steps
+
+-- no search takes up more places than 2,048 nodes have in a line of 200 bytes
+abbrev pub placesMost : ℕ
+placesMost = 411648
+
+-- what lies in the rows before and after it: dead places, and pieces
+pub record Lent : Type 0 where
+  pub dead : Bytes
+  pub dead′ : Bytes
+  pub pieces : Bytes
+  pub pieces′ : Bytes
+
+-- the outcome from the node and place `at` on, for any fuel from b on and any dead places that the row holds, and those that it holds then
+pub record Outcomes (rows : List Node) (line : Bytes) (node at b : ℕ) (step : ℕ → List Place → Tried) (x : Lent) (o : Outcome) : Type 0 where
+  pub says : (n : ℕ) → b ≤ n → (ds : List Place) → HoldsDead (length rows) (suc (length line)) (x .dead) ds
+      → Says (holes rows node) at (step n ds) o (x .pieces) (x .pieces′) × HoldsDead (length rows) (suc (length line)) (x .dead′) (step n ds .dead)
   pub short : o .rest ≤ length line - at
   pub there : o .node < length rows
 
--- the outcome of one of the search's three steps from there: the number is the fuel of the searches that follow
-pub record Stepped (rows : List Node) (line : Bytes) (node at : ℕ) (step : ℕ → Option Found) (o : Outcome) : Type 0 where
-  pub told : (n : ℕ) → height rows node + (length line - at) ≤ n → Told (holes rows node) at (step n) o
-  pub short : o .rest ≤ length line - at
-  pub there : o .node < length rows
+-- what is left of template and line
+abbrev pub sizeIn : List Node → Bytes → ℕ → ℕ → ℕ
+sizeIn rows line node at = height rows node + (length line - at)
 
--- the three steps
-module _ (m : Marks) (rows : List Node) (line : Bytes) (node at : ℕ) where
-  abbrev pub byteStep : ℕ → Option Found
-  byteStep n = byByte (kid rows) (search m (kid rows) (holey rows) n) node (drop at line)
+-- the search, its three steps, the second and third together, and all of them; n is fuel
+module _ (m : Marks) (rows : List Node) (line : Bytes) (node at n : ℕ) where
+  abbrev pub placeTried : List Place → Tried
+  placeTried ds = tryPlace m (kid rows) (holey rows) n node at (drop at line) ds
 
-  abbrev pub pieceStep : ℕ → Option Found
-  pieceStep n = byPiece (kid rows) (search m (kid rows) (holey rows) n) node (drop at line)
+  abbrev pub byteStep : List Place → Tried
+  byteStep ds = tryByte (kid rows) (tryPlace m (kid rows) (holey rows) n) node at (drop at line) ds
 
-  abbrev pub atomStep : ℕ → Option Found
-  atomStep n = byAtom m (search m (kid rows) (holey rows) n node) (holey rows node) (drop at line)
+  abbrev pub pieceStep : List Place → Tried
+  pieceStep ds = tryPiece (kid rows) (tryPlace m (kid rows) (holey rows) n) node at (drop at line) ds
+
+  abbrev pub atomStep : List Place → Tried
+  atomStep ds = tryAtom m (tryPlace m (kid rows) (holey rows) n node) (holey rows node) at (drop at line) ds
+
+  abbrev pub laterStep : List Place → Tried
+  laterStep ds = orTry (pieceStep ds) atomStep
+
+  abbrev pub allSteps : List Place → Tried
+  allSteps ds = orTry (byteStep ds) laterStep
 
 -- ---- in a row at whose front a tree stands
 
--- the node is one of such a tree's, and the place lies in the first `end` bytes of the line
-pub record Asks (row : List Node) (line : Bytes) (end node at : ℕ) : Type 0 where
+-- the node is one of such a tree's and no template's end, the place lies in the first `end` bytes of the line, the row `dead` has a bit for
+-- each place and holds dead places at none of which a template ends, and there is room for nine pieces
+pub record Asks (row : List Node) (dead pieces line : Bytes) (end node at : ℕ) : Type 0 where
   pub made : ℕ
   pub stands : Stands row made
   pub there : node < made
   pub low : at ≤ end
   pub high : end ≤ length line
-  pub short : end < 256
+  pub few : made ≤ nodesMost
+  pub short : end ≤ lineMost
+  pub room : made * suc end ≤ 8 * length dead
+  pub plain : endsAt (take made row) node ≡ false
+  pub marked : List Place
+  pub holds : HoldsDead made (suc end) dead marked
+  pub no-ends : (i p : ℕ) → isIn i p marked ≡ true → endsAt (take made row) i ≡ false
+  pub nine : length pieces ≡ 18
 
--- the outcome of the search, whatever tree it is
-pub record SearchedIn (m : Marks) (row : List Node) (line : Bytes) (node at : ℕ) (o : Outcome) : Type 0 where
-  pub each : (made : ℕ) → Stands row made → node < made → Searched m (take made row) line node at o
+-- the outcome, whatever tree it is; it counts F places at most
+pub record Comes (row : List Node) (line : Bytes) (node at : ℕ) (fuel : List Node → ℕ) (F : ℕ) (step : List Node → ℕ → List Place → Tried) (x : Lent) (o : Outcome) : Type 0 where
+  pub each : (made : ℕ) → Stands row made → node < made → Outcomes (take made row) line node at (fuel (take made row)) (step (take made row)) x o
+  pub few : o .places ≤ F
 
--- the outcomes of its three steps
-pub record ByteSearched (m : Marks) (row : List Node) (line : Bytes) (node at : ℕ) (o : Outcome) : Type 0 where
-  pub each : (made : ℕ) → Stands row made → node < made → Stepped (take made row) line node at (byteStep m (take made row) line node at) o
+-- of the search
+pub record SearchedIn (m : Marks) (row : List Node) (line : Bytes) (node at : ℕ) (dead dead′ pieces pieces′ : Bytes) (o : Outcome) : Type 0 where
+  pub comes : Comes row line node at (λ rows. suc (sizeIn rows line node at)) placesMost (λ rows n. placeTried m rows line node at n)
+      (record { dead = dead; dead′ = dead′; pieces = pieces; pieces′ = pieces′ }) o
 
-pub record PieceSearched (m : Marks) (row : List Node) (line : Bytes) (node at : ℕ) (o : Outcome) : Type 0 where
-  pub each : (made : ℕ) → Stands row made → node < made → Stepped (take made row) line node at (pieceStep m (take made row) line node at) o
+-- of its three steps
+pub record ByteSearched (m : Marks) (row : List Node) (line : Bytes) (node at : ℕ) (dead dead′ pieces pieces′ : Bytes) (o : Outcome) : Type 0 where
+  pub comes : Comes row line node at (λ rows. sizeIn rows line node at) placesMost (λ rows n. byteStep m rows line node at n)
+      (record { dead = dead; dead′ = dead′; pieces = pieces; pieces′ = pieces′ }) o
 
-pub record AtomSearched (m : Marks) (row : List Node) (line : Bytes) (node at : ℕ) (o : Outcome) : Type 0 where
-  pub each : (made : ℕ) → Stands row made → node < made → Stepped (take made row) line node at (atomStep m (take made row) line node at) o
+pub record PieceSearched (m : Marks) (row : List Node) (line : Bytes) (node at : ℕ) (dead dead′ pieces pieces′ : Bytes) (o : Outcome) : Type 0 where
+  pub comes : Comes row line node at (λ rows. sizeIn rows line node at) placesMost (λ rows n. pieceStep m rows line node at n)
+      (record { dead = dead; dead′ = dead′; pieces = pieces; pieces′ = pieces′ }) o
+
+pub record AtomSearched (m : Marks) (row : List Node) (line : Bytes) (node at : ℕ) (dead dead′ pieces pieces′ : Bytes) (o : Outcome) : Type 0 where
+  pub comes : Comes row line node at (λ rows. sizeIn rows line node at) placesMost (λ rows n. atomStep m rows line node at n)
+      (record { dead = dead; dead′ = dead′; pieces = pieces; pieces′ = pieces′ }) o
+
+-- and of all of them
+pub record TakenUp (m : Marks) (row : List Node) (line : Bytes) (node at : ℕ) (dead dead′ pieces pieces′ : Bytes) (o : Outcome) : Type 0 where
+  pub comes : Comes row line node at (λ rows. sizeIn rows line node at) (3 * placesMost) (λ rows n. allSteps m rows line node at n)
+      (record { dead = dead; dead′ = dead′; pieces = pieces; pieces′ = pieces′ }) o

@@ -1,49 +1,56 @@
-// The first reading of a line by the templates (document 01, "Fitting a line"): a recursive search over node and position.
-// first_reading asks that a tree stands at the front of the row of nodes, and that the line's first `end` bytes are there and fewer
-// than 256. `&[Node]` is not covered by the checker's own account of a function: the four searches and first_reading are proved by walks.
+// The first reading of a line by the templates (document 01, "Fitting a line"): a recursive search over node and position, which takes up
+// no place twice (document 02, ticket 3). A dead place, which was found to lead nowhere, is marked by its bit in a lent row.
+// first_reading asks that a tree stands at the front of the row of nodes, that the line's first `end` bytes are there, and that the lent row has a
+// bit for each place. `&[Node]` is not covered by the checker's own account of a function: the five searches and first_reading are proved by walks.
 ghost use mathlib.Core.Path.{_≡_};
-ghost use Prim.Native.Nat.{_+_, _≤_, _<_, _^_};
+ghost use Prim.Native.Nat.{_+_, _*_, _≤_, _<_, _^_};
 ghost use lib.ListN.{length, take};
+ghost use Rattle.model.specs.Limits.{lineMost, nodesMost};
 ghost use Rattle.atom.specs.Atoms.{brackets, AtomAt};
 ghost use Rattle.nodes.specs.Rows.{code};
-ghost use Rattle.fit.specs.Outcome.{blank, storePiece, passAtom, elementAt, Asks, SearchedIn, ByteSearched, PieceSearched, AtomSearched};
-ghost use Rattle.fit.specs.Chosen.{noChoice, choiceOf, Chooses};
+ghost use Rattle.fit.specs.Outcome.{blank, StoresPiece, passAtom, countPlace, countAfter, elementAt, Asks, SearchedIn, TakenUp, ByteSearched, PieceSearched, AtomSearched};
+ghost use Rattle.fit.specs.Chosen.{noChoice, choiceOf, Fits, Chooses};
 use buffer::wide;
 use model::Marks;
 use nodes::Node;
+use places::clear;
+use places::is_dead;
+use places::set_dead;
 
-// What a search finds: the node of the template's end, 0 where there is none; the length of what is left of the piece
-// that is open where the search starts; and where each piece that is opened later starts, and its length.
+// The lent bytes of a search's pieces: nine starts, then nine lengths.
+const PIECE_BYTES: usize = 18;
+
+// What a search finds: the node of the template's end, 0 where there is none; the length of what is left of the piece that is open
+// where the search starts; and how many places it took up. The pieces that are opened later go to lent bytes.
 pub struct Outcome {
     pub node: usize,
     pub rest: usize,
-    pub starts: [u8; 9],
-    pub lens: [u8; 9],
+    pub places: usize,
 }
 
 // The outcome at a node with no piece.
-fn no_piece(node: usize) -> Outcome
-    ensures { λ r. ⌜ r ≡ blank node ⌝ }
+fn no_piece(node: usize, places: usize) -> Outcome
+    ensures { λ r. ⌜ r ≡ blank node places ⌝ }
 {
     Outcome {
         node,
         rest: 0,
-        starts: [0; 9],
-        lens: [0; 9],
+        places,
     }
 }
 
-// The outcome where piece k starts: what is left of it is all of it.
-fn store_piece(o: Outcome, k: usize, at: usize) -> Outcome
-    requires { ⌜ (k < 9) × (at < 256) × (o .rest < 256) ⌝ }
-    ensures { λ r. ⌜ r ≡ storePiece k at o ⌝ }
+// Piece k starts at a place: what is left of it is all of it.
+fn store_piece(pieces: &mut [u8], k: usize, at: usize, o: Outcome) -> Outcome
+    requires { ⌜ (k < 9) × (at < 256) × (o .rest < 256) × (length (now pieces) ≡ 18) ⌝ }
+    ensures { λ r. ⌜ StoresPiece k at o (now (pieces .entry)) (now (pieces .exit)) r ⌝ }
 {
-    let mut r = o;
-    let n = r.rest;
-    r.starts[k] = at as u8;
-    r.lens[k] = n as u8;
-    r.rest = 0;
-    r
+    pieces[k] = at as u8;
+    pieces[k + 9] = o.rest as u8;
+    Outcome {
+        node: o.node,
+        rest: 0,
+        places: o.places,
+    }
 }
 
 // The outcome with an atom of n bytes more in the open piece.
@@ -51,9 +58,43 @@ fn pass_atom(o: Outcome, n: usize) -> Outcome
     requires { ⌜ o .rest + n < 2 ^ 64 ⌝ }
     ensures { λ r. ⌜ r ≡ passAtom n o ⌝ }
 {
-    let mut r = o;
-    r.rest = o.rest + n;
-    r
+    Outcome {
+        node: o.node,
+        rest: o.rest + n,
+        places: o.places,
+    }
+}
+
+// The outcome with a place more.
+fn count_place(o: Outcome) -> Outcome
+    requires { ⌜ o .places + 1 < 2 ^ 64 ⌝ }
+    ensures { λ r. ⌜ r ≡ countPlace o ⌝ }
+{
+    Outcome {
+        node: o.node,
+        rest: o.rest,
+        places: o.places + 1,
+    }
+}
+
+// The outcome after one that led nowhere.
+fn count_after(a: Outcome, o: Outcome) -> Outcome
+    requires { ⌜ a .places + o .places < 2 ^ 64 ⌝ }
+    ensures { λ r. ⌜ r ≡ countAfter a o ⌝ }
+{
+    Outcome {
+        node: o.node,
+        rest: o.rest,
+        places: a.places + o.places,
+    }
+}
+
+// The number of a place: so many positions for each node.
+fn number_place(end: usize, node: usize, at: usize) -> usize
+    requires { ⌜ (node < nodesMost) × (end ≤ lineMost) × (at ≤ end) ⌝ }
+    ensures { λ r. ⌜ r ≡ node * (end + 1) + at ⌝ }
+{
+    node * (end + 1) + at
 }
 
 // The element that leads on at a place of the first `end` bytes of a line: the byte's, or the template's end.
@@ -75,30 +116,61 @@ fn find_atom(left: u8, right: u8, line: &[u8], end: usize, at: usize) -> usize
     atom::next_atom(&line[0..end], at, left, right)
 }
 
-// The first reading from the node and the place `at` on, in the first `end` bytes of the line: by the next byte or the template's
-// end, else by a placeholder, else by an atom more. The node's height and what is left of the line fall from search to search.
-// Of the marks the brackets alone go along: a copy of all at each search costs a tenth of the time.
+// The place of the node and the position `at`, in the first `end` bytes of the line: it is taken up unless it is dead, and dead where it
+// leads nowhere. The node's height and what is left of the line fall from search to search. Of the marks the brackets alone go along: a
+// copy of all at each search costs a tenth of the time.
 fn search(
     left: u8,
     right: u8,
     nodes: &[Node],
+    dead: &mut [u8],
+    pieces: &mut [u8],
     line: &[u8],
     end: usize,
     node: usize,
     at: usize,
 ) -> Outcome
-    requires { ⌜ Asks (now nodes) (now line) end node at ⌝ }
-    ensures { λ r. ⌜ SearchedIn (brackets left right) (now (nodes .entry)) (take end (now (line .entry))) node at r ⌝ }
+    requires { ⌜ Asks (now nodes) (now dead) (now pieces) (now line) end node at ⌝ }
+    ensures { λ r. ⌜ SearchedIn (brackets left right) (now (nodes .entry)) (take end (now (line .entry))) node at
+        (now (dead .entry)) (now (dead .exit)) (now (pieces .entry)) (now (pieces .exit)) r ⌝ }
 {
-    let byte = search_byte(left, right, nodes, line, end, node, at);
+    let place = number_place(end, node, at);
+    if is_dead(dead, place) {
+        return no_piece(0, 0);
+    }
+    let found = take_up(left, right, nodes, dead, pieces, line, end, node, at);
+    if found.node == 0 {
+        set_dead(dead, place);
+    }
+    count_place(found)
+}
+
+// From a place by the next byte or the line's end, else by a placeholder, else by an atom more.
+fn take_up(
+    left: u8,
+    right: u8,
+    nodes: &[Node],
+    dead: &mut [u8],
+    pieces: &mut [u8],
+    line: &[u8],
+    end: usize,
+    node: usize,
+    at: usize,
+) -> Outcome
+    requires { ⌜ Asks (now nodes) (now dead) (now pieces) (now line) end node at ⌝ }
+    ensures { λ r. ⌜ TakenUp (brackets left right) (now (nodes .entry)) (take end (now (line .entry))) node at
+        (now (dead .entry)) (now (dead .exit)) (now (pieces .entry)) (now (pieces .exit)) r ⌝ }
+{
+    let byte = search_byte(left, right, nodes, dead, pieces, line, end, node, at);
     if byte.node != 0 {
         return byte;
     }
-    let piece = search_piece(left, right, nodes, line, end, node, at);
+    let piece = search_piece(left, right, nodes, dead, pieces, line, end, node, at);
     if piece.node != 0 {
-        return piece;
+        return count_after(byte, piece);
     }
-    search_atom(left, right, nodes, line, end, node, at)
+    let longer = search_atom(left, right, nodes, dead, pieces, line, end, node, at);
+    count_after(byte, count_after(piece, longer))
 }
 
 // To the child for the next byte, or for the template's end.
@@ -106,22 +178,25 @@ fn search_byte(
     left: u8,
     right: u8,
     nodes: &[Node],
+    dead: &mut [u8],
+    pieces: &mut [u8],
     line: &[u8],
     end: usize,
     node: usize,
     at: usize,
 ) -> Outcome
-    requires { ⌜ Asks (now nodes) (now line) end node at ⌝ }
-    ensures { λ r. ⌜ ByteSearched (brackets left right) (now (nodes .entry)) (take end (now (line .entry))) node at r ⌝ }
+    requires { ⌜ Asks (now nodes) (now dead) (now pieces) (now line) end node at ⌝ }
+    ensures { λ r. ⌜ ByteSearched (brackets left right) (now (nodes .entry)) (take end (now (line .entry))) node at
+        (now (dead .entry)) (now (dead .exit)) (now (pieces .entry)) (now (pieces .exit)) r ⌝ }
 {
     let c = nodes::child(nodes, node, element_at(line, end, at));
     if c == 0 {
-        return no_piece(0);
+        return no_piece(0, 0);
     }
     if at == end {
-        return no_piece(c);
+        return no_piece(c, 1);
     }
-    search(left, right, nodes, line, end, c, at + 1)
+    search(left, right, nodes, dead, pieces, line, end, c, at + 1)
 }
 
 // To the placeholder's child, where a piece starts.
@@ -129,21 +204,27 @@ fn search_piece(
     left: u8,
     right: u8,
     nodes: &[Node],
+    dead: &mut [u8],
+    pieces: &mut [u8],
     line: &[u8],
     end: usize,
     node: usize,
     at: usize,
 ) -> Outcome
-    requires { ⌜ Asks (now nodes) (now line) end node at ⌝ }
-    ensures { λ r. ⌜ PieceSearched (brackets left right) (now (nodes .entry)) (take end (now (line .entry))) node at r ⌝ }
+    requires { ⌜ Asks (now nodes) (now dead) (now pieces) (now line) end node at ⌝ }
+    ensures { λ r. ⌜ PieceSearched (brackets left right) (now (nodes .entry)) (take end (now (line .entry))) node at
+        (now (dead .entry)) (now (dead .exit)) (now (pieces .entry)) (now (pieces .exit)) r ⌝ }
 {
     let c = nodes::child(nodes, node, 1);
     if c == 0 {
-        return no_piece(0);
+        return no_piece(0, 0);
     }
-    let piece = search(left, right, nodes, line, end, c, at);
+    let piece = search(left, right, nodes, dead, pieces, line, end, c, at);
+    if piece.node == 0 {
+        return piece;
+    }
     let n = nodes::node_at(nodes, node);
-    store_piece(piece, nodes::holes_of(n), at)
+    store_piece(pieces, nodes::holes_of(n), at, piece)
 }
 
 // An atom more in the open piece, if the node is a placeholder's.
@@ -151,48 +232,54 @@ fn search_atom(
     left: u8,
     right: u8,
     nodes: &[Node],
+    dead: &mut [u8],
+    pieces: &mut [u8],
     line: &[u8],
     end: usize,
     node: usize,
     at: usize,
 ) -> Outcome
-    requires { ⌜ Asks (now nodes) (now line) end node at ⌝ }
-    ensures { λ r. ⌜ AtomSearched (brackets left right) (now (nodes .entry)) (take end (now (line .entry))) node at r ⌝ }
+    requires { ⌜ Asks (now nodes) (now dead) (now pieces) (now line) end node at ⌝ }
+    ensures { λ r. ⌜ AtomSearched (brackets left right) (now (nodes .entry)) (take end (now (line .entry))) node at
+        (now (dead .entry)) (now (dead .exit)) (now (pieces .entry)) (now (pieces .exit)) r ⌝ }
 {
     if !nodes::has_element(nodes::node_at(nodes, node), 1) {
-        return no_piece(0);
+        return no_piece(0, 0);
     }
     let e = find_atom(left, right, line, end, at);
     if e == 0 {
-        return no_piece(0);
+        return no_piece(0, 0);
     }
-    let longer = search(left, right, nodes, line, end, node, e);
+    let longer = search(left, right, nodes, dead, pieces, line, end, node, e);
     pass_atom(longer, e - at)
 }
 
-// What a line is: a call of a template, with where each piece starts and its length, or no call.
+// What a line is: a call of a template, with where each piece starts and its length, or no call; and how many places were taken up.
 pub struct Choice {
     pub found: bool,
     pub template: usize,
     pub starts: [usize; 9],
     pub lens: [usize; 9],
+    pub places: usize,
 }
 
 // No call.
-fn no_choice() -> Choice
-    ensures { λ r. ⌜ r ≡ noChoice ⌝ }
+fn no_choice(places: usize) -> Choice
+    ensures { λ r. ⌜ r ≡ noChoice places ⌝ }
 {
     Choice {
         found: false,
         template: 0,
         starts: [0; 9],
         lens: [0; 9],
+        places,
     }
 }
 
 // Nine bytes as numbers.
-fn wide_nine(a: [u8; 9]) -> [usize; 9]
-    ensures { λ r. ⌜ r ≡ a ⌝ }
+fn wide_nine(a: &[u8]) -> [usize; 9]
+    requires { ⌜ length (now a) ≡ 9 ⌝ }
+    ensures { λ r. ⌜ r ≡ now (a .entry) ⌝ }
 {
     [
         wide(a[0]),
@@ -208,31 +295,41 @@ fn wide_nine(a: [u8; 9]) -> [usize; 9]
 }
 
 // The call of a template.
-fn make_choice(o: Outcome, template: usize) -> Choice
-    ensures { λ r. ⌜ r ≡ choiceOf o template ⌝ }
+fn make_choice(pieces: &[u8], template: usize, places: usize) -> Choice
+    requires { ⌜ length (now pieces) ≡ 18 ⌝ }
+    ensures { λ r. ⌜ r ≡ choiceOf (now (pieces .entry)) template places ⌝ }
 {
-    let starts = o.starts;
-    let lens = o.lens;
     Choice {
         found: true,
         template,
-        starts: wide_nine(starts),
-        lens: wide_nine(lens),
+        starts: wide_nine(&pieces[0..9]),
+        lens: wide_nine(&pieces[9..18]),
+        places,
     }
 }
 
-// The first of all readings of the first `end` bytes of a line by the templates of the tree.
-pub fn first_reading(m: Marks, nodes: &[Node], line: &[u8], end: usize) -> Choice
-    requires { ⌜ Asks (now nodes) (now line) end 0 0 ⌝ }
-    ensures { λ r. ⌜ Chooses m (now (nodes .entry)) (take end (now (line .entry))) r ⌝ }
+// The first of all readings of the first `end` bytes of a line by the templates of the tree, which has `count` nodes. At first no place of
+// the tree and the line is dead.
+pub fn first_reading(
+    m: Marks,
+    nodes: &[Node],
+    count: usize,
+    dead: &mut [u8],
+    line: &[u8],
+    end: usize,
+) -> Choice
+    requires { ⌜ Fits (now nodes) count (now dead) (now line) end ⌝ }
+    ensures { λ r. ⌜ Chooses m (now (nodes .entry)) count (take end (now (line .entry))) r ⌝ }
 {
+    clear(dead, count * (end + 1));
+    let mut pieces = [0u8; PIECE_BYTES];
     let left = m.left;
     let right = m.right;
-    let found = search(left, right, nodes, line, end, 0, 0);
+    let found = search(left, right, nodes, dead, &mut pieces, line, end, 0, 0);
     let j = found.node;
     if j == 0 {
-        return no_choice();
+        return no_choice(found.places);
     }
     let n = nodes::node_at(nodes, j);
-    make_choice(found, nodes::template_of(n))
+    make_choice(&pieces, nodes::template_of(n), found.places)
 }

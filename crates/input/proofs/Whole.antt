@@ -27,31 +27,31 @@ use Rattle.input.specs.Expands.{TakesContent, DropsLines, Expands}
 use Rattle.input.proofs.Reading.{input-over, input-read, input-long}
 
 -- a line that is taken is offered
-pub offers-content : {m : Marks} {text : Bytes} {row : List Node} {bodies : List ℕ} {at end : ℕ} {line : Bytes} {s : State} {o w : Bytes} {r : Answer} {o′ w′ : Bytes} → TakesContent text at end line
-    → Meets m text row bodies (some (take (end - at) line)) [] 0 s o w r o′ w′ → Meets m text row bodies (some (part text at end)) [] 0 s o w r o′ w′
-offers-content {m} {text} {row} {bodies} {s = s} {o = o} {w = w} {r = r} {o′ = o′} {w′ = w′} t h = subst (λ (l : Bytes). Meets m text row bodies (some l) [] 0 s o w r o′ w′) (t .is) h
+pub offers-content : {m : Marks} {text : Bytes} {row : List Node} {count : ℕ} {bodies : List ℕ} {at end : ℕ} {line : Bytes} {s : State} {o w : Bytes} {r : Answer} {o′ w′ : Bytes} → TakesContent text at end line
+    → Meets m text row count bodies (some (take (end - at) line)) [] 0 s o w r o′ w′ → Meets m text row count bodies (some (part text at end)) [] 0 s o w r o′ w′
+offers-content {m} {text} {row} {count} {bodies} {s = s} {o = o} {w = w} {r = r} {o′ = o′} {w′ = w′} t h = subst (λ (l : Bytes). Meets m text row count bodies (some l) [] 0 s o w r o′ w′) (t .is) h
 
 -- what the expansion comes to from s₀ on, it comes to from s on
-pub record Expanding (m : Marks) (text : Bytes) (row : List Node) (bodies : List ℕ) (s₀ : State) (o₀ w₀ : Bytes) (s : State) (o w : Bytes) : Type 0 where
+pub record Expanding (m : Marks) (text : Bytes) (row : List Node) (count : ℕ) (bodies : List ℕ) (s₀ : State) (o₀ w₀ : Bytes) (s : State) (o w : Bytes) : Type 0 where
   pub sound : Sound s o w
   pub within : s .at ≤ length text
   pub few : s .line + s₀ .at ≤ s₀ .line + s .at
   pub extends : Extends o₀ (s₀ .written) o (s .written)
-  pub same : (t : Loaded) → Book m text row bodies t
+  pub same : (t : Loaded) → Book m text row count bodies t
       → comesTo (s₀ .fuel) (length o₀) t (running (stateOf text none [] s₀ o₀ w₀)) ≡ comesTo (s .fuel) (length o₀) t (running (stateOf text none [] s o w))
 
-pub expanding-starts : {m : Marks} {text : Bytes} {row : List Node} {bodies : List ℕ} {s : State} {o w : Bytes} → Sound s o w → s .at ≤ length text → Expanding m text row bodies s o w s o w
+pub expanding-starts : {m : Marks} {text : Bytes} {row : List Node} {count : ℕ} {bodies : List ℕ} {s : State} {o w : Bytes} → Sound s o w → s .at ≤ length text → Expanding m text row count bodies s o w s o w
 expanding-starts h k = record { sound = h; within = k; few = omega arith; extends = extends-none (h .written); same = λ t b. refl }
 
 -- the state with a line read is sound
 pub read-sound : {s x : State} {at line : ℕ} {o w : Bytes} → Sound s o w → x ≡ withInput s at line → Sound x o w
 read-sound {o = o} {w} h e = subst (λ (y : State). Sound y o w) (sym e) record { written = h .written; kept = h .kept; symbols = h .symbols; calls = h .calls; total = h .total }
 
-module _ {m : Marks} {text : Bytes} {row : List Node} {bodies : List ℕ} {s₀ : State} {o₀ w₀ : Bytes} {s : State} {o w : Bytes} (i : Expanding m text row bodies s₀ o₀ w₀ s o w) where
+module _ {m : Marks} {text : Bytes} {row : List Node} {count : ℕ} {bodies : List ℕ} {s₀ : State} {o₀ w₀ : Bytes} {s : State} {o w : Bytes} (i : Expanding m text row count bodies s₀ o₀ w₀ s o w) where
   -- no input is left
-  pub expands-over : {r : Answer} → length text ≤ s .at → r ≡ endsWith 0 s → Expands m text row bodies s₀ o₀ w₀ r o w
+  pub expands-over : {r : Answer} → length text ≤ s .at → r ≡ endsWith 0 s → Expands m text row count bodies s₀ o₀ w₀ r o w
   unfolding lines
-  expands-over h er = subst (λ (y : Answer). Expands m text row bodies s₀ o₀ w₀ y o w) (sym er) record {
+  expands-over h er = subst (λ (y : Answer). Expands m text row count bodies s₀ o₀ w₀ y o w) (sym er) record {
     sound = i .sound;
     extends = i .extends;
     same = λ t b. i .same t b ∙ input-over (length o₀) m text t s o w (ap lines (drop-of-length-le text h));
@@ -64,19 +64,19 @@ module _ {m : Marks} {text : Bytes} {row : List Node} {bodies : List ℕ} {s₀ 
         length-take-le (end - s .at) (drop (s .at) text) (omega (arith, content .high, content .within))
 
     -- the line's content has over 200 bytes
-    pub expands-long : {r : Answer} → 200 < end - s .at → r ≡ endsWith 11 x → Expands m text row bodies s₀ o₀ w₀ r o w
-    expands-long h er = subst (λ (y : Answer). Expands m text row bodies s₀ o₀ w₀ y o w) (sym (er ∙ ap (endsWith 11) ex)) record {
+    pub expands-long : {r : Answer} → 200 < end - s .at → r ≡ endsWith 11 x → Expands m text row count bodies s₀ o₀ w₀ r o w
+    expands-long h er = subst (λ (y : Answer). Expands m text row count bodies s₀ o₀ w₀ y o w) (sym (er ∙ ap (endsWith 11) ex)) record {
       sound = read-sound (i .sound) refl;
       extends = i .extends;
       same = λ t b. i .same t b
           ∙ input-long (length o₀) m text t s o w (b .marks) (lineAt text (s .at)) (part text (s .at) end) next (content .is) (content .content) (lt-leb (length (part text (s .at) end)) 200 (omega (arith, content-long)));
     }
 
-    module _ {r : Answer} {o′ w′ : Bytes} (short : end - s .at ≤ 200) (h : Meets m text row bodies (some (part text (s .at) end)) [] 0 x o w r o′ w′) where
-      k : Meets m text row bodies (some (part text (s .at) end)) [] 0 (withInput s next (s .line + 1)) o w r o′ w′
-      k = subst (λ (y : State). Meets m text row bodies (some (part text (s .at) end)) [] 0 y o w r o′ w′) ex h
+    module _ {r : Answer} {o′ w′ : Bytes} (short : end - s .at ≤ 200) (h : Meets m text row count bodies (some (part text (s .at) end)) [] 0 x o w r o′ w′) where
+      k : Meets m text row count bodies (some (part text (s .at) end)) [] 0 (withInput s next (s .line + 1)) o w r o′ w′
+      k = subst (λ (y : State). Meets m text row count bodies (some (part text (s .at) end)) [] 0 y o w r o′ w′) ex h
 
-      line-same : (t : Loaded) → Book m text row bodies t
+      line-same : (t : Loaded) → Book m text row count bodies t
           → comesTo (s₀ .fuel) (length o₀) t (running (stateOf text none [] s₀ o₀ w₀)) ≡ comesTo (r .state .fuel) (length o₀) t (nextOf m text [] r [] [] [] o′ w′)
       line-same t b = i .same t b
           ∙ input-read (length o₀) m text t s o w (b .marks) (lineAt text (s .at)) (part text (s .at) end) next (content .is) (content .content) (le-leb (length (part text (s .at) end)) 200 (omega (arith, content-long)))
@@ -84,7 +84,7 @@ module _ {m : Marks} {text : Bytes} {row : List Node} {bodies : List ℕ} {s₀ 
           (i .extends .long) (k .same t b [] refl [] [] [])
 
       -- the run has ended with this line
-      pub expands-ended : isEnd (turn r) ≡ true → Expands m text row bodies s₀ o₀ w₀ r o′ w′
+      pub expands-ended : isEnd (turn r) ≡ true → Expands m text row count bodies s₀ o₀ w₀ r o′ w′
       expands-ended e = record {
         sound = k .follows .sound;
         extends = extends-more (i .extends) (k .follows .extends);
@@ -105,11 +105,11 @@ module _ {m : Marks} {text : Bytes} {row : List Node} {bodies : List ℕ} {s₀ 
         input-less = omega (arith, k .follows .at, content .ahead, content .within, drops .from)
 
         -- the run goes on in the input
-        pub expanding-on : isEnd (turn r) ≡ false → Expanding m text row bodies s₀ o₀ w₀ z o′ w′
+        pub expanding-on : isEnd (turn r) ≡ false → Expanding m text row count bodies s₀ o₀ w₀ z o′ w′
         unfolding settle skipIn
         expanding-on e =
             let u = withInput (r .state) (z .at) (z .line) in
-            subst (λ (y : State). Expanding m text row bodies s₀ o₀ w₀ y o′ w′) (sym (drops .is)) record {
+            subst (λ (y : State). Expanding m text row count bodies s₀ o₀ w₀ y o′ w′) (sym (drops .is)) record {
               sound = read-sound (k .follows .sound) refl;
               within = drops .within;
               few = omega (arith, k .follows .at, k .follows .line, i .few, content .ahead, drops .few);

@@ -29,10 +29,10 @@ pub record DropsLines (text : Bytes) (n : ℕ) (s s′ : State) : Type 0 where
   pub within : s′ .at ≤ length text
   pub few : s′ .line + s .at ≤ s .line + s′ .at
 
--- r ends the run with the expansion's result. `row` and `bodies` are the nodes and where the bodies start, s output memory are the state, output
+-- r ends the run with the expansion's result. `row`, `count` and `bodies` are the nodes, how many the tree has and where the bodies start, s output memory are the state, output
 -- and memory before, and output′ memory′ those after
-pub record Expands (m : Marks) (text : Bytes) (row : List Node) (bodies : List ℕ) (s : State) (output memory : Bytes) (r : Answer) (output′ memory′ : Bytes) : Type 0 where
+pub record Expands (m : Marks) (text : Bytes) (row : List Node) (count : ℕ) (bodies : List ℕ) (s : State) (output memory : Bytes) (r : Answer) (output′ memory′ : Bytes) : Type 0 where
   pub sound : Sound (r .state) output′ memory′
   pub extends : Extends output (s .written) output′ (r .state .written)
-  pub same : (t : Loaded) → Book m text row bodies t
+  pub same : (t : Loaded) → Book m text row count bodies t
       → comesTo (s .fuel) (length output) t (running (stateOf text none [] s output memory)) ≡ resultAfter r output′ memory′

@@ -9,7 +9,7 @@ ghost use Rattle.state.specs.State.{Sound};
 ghost use Rattle.matching.specs.Book.{Prepared};
 ghost use Rattle.cycle_laws.specs.Meets.{Meets};
 ghost use Rattle.input.specs.Expands.{TakesContent, DropsLines, Expands};
-ghost use Rattle.model.specs.Limits.{textMost, lineMost, fuelMost};
+ghost use Rattle.model.specs.Limits.{textMost, lineMost, fuelMost, deadLeast};
 use answer::Answer;
 use answer::end_with;
 use answer::is_end;
@@ -53,6 +53,8 @@ fn offer_content(
     m: Marks,
     text: &[u8],
     nodes: &[Node],
+    count: usize,
+    dead: &mut [u8],
     bodies: &[usize],
     output: &mut [u8],
     memory: &mut [u8],
@@ -60,15 +62,28 @@ fn offer_content(
     end: usize,
     s: State,
 ) -> Answer
-    requires { ⌜ Prepared m (now text) (now nodes) (now bodies) × Sound s (now output) (now memory)
-        × (at ≤ end) × (end ≤ length (now text)) × (end ≤ at + lineMost) ⌝ }
-    ensures { λ r. ⌜ Meets m (now (text .entry)) (now (nodes .entry)) (now (bodies .entry)) (some (part (now (text .entry)) at end)) []
+    requires { ⌜ Prepared m (now text) (now nodes) count (now bodies) × Sound s (now output) (now memory)
+        × (at ≤ end) × (end ≤ length (now text)) × (end ≤ at + lineMost) × (deadLeast ≤ length (now dead)) ⌝ }
+    ensures { λ r. ⌜ Meets m (now (text .entry)) (now (nodes .entry)) count (now (bodies .entry)) (some (part (now (text .entry)) at end)) []
         0 s (now (output .entry)) (now (memory .entry)) r (now (output .exit)) (now (memory .exit)) ⌝ }
 {
     let mut line = [0u8; LINE_MOST];
     take_line(text, at, end, &mut line);
     let n = end - at;
-    offer(m, text, nodes, bodies, output, memory, &line, n, 0, s)
+    offer(
+        m,
+        text,
+        nodes,
+        count,
+        dead,
+        bodies,
+        output,
+        memory,
+        &line,
+        n,
+        0,
+        s,
+    )
 }
 
 // Expands the input that is left, from the names in memory on.
@@ -76,14 +91,16 @@ pub fn expand_input(
     m: Marks,
     text: &[u8],
     nodes: &[Node],
+    count: usize,
+    dead: &mut [u8],
     bodies: &[usize],
     output: &mut [u8],
     memory: &mut [u8],
     s: State,
 ) -> Answer
-    requires { ⌜ Prepared m (now text) (now nodes) (now bodies) × Sound s (now output) (now memory)
-        × (s .at ≤ length (now text)) × (s .line ≤ textMost) ⌝ }
-    ensures { λ r. ⌜ Expands m (now (text .entry)) (now (nodes .entry)) (now (bodies .entry)) s
+    requires { ⌜ Prepared m (now text) (now nodes) count (now bodies) × Sound s (now output) (now memory)
+        × (s .at ≤ length (now text)) × (s .line ≤ textMost) × (deadLeast ≤ length (now dead)) ⌝ }
+    ensures { λ r. ⌜ Expands m (now (text .entry)) (now (nodes .entry)) count (now (bodies .entry)) s
         (now (output .entry)) (now (memory .entry)) r (now (output .exit)) (now (memory .exit)) ⌝ }
 {
     let mut st = s;
@@ -95,7 +112,19 @@ pub fn expand_input(
         if LINE_MOST < end - at {
             return end_with(11, t);
         }
-        let r = offer_content(m, text, nodes, bodies, output, memory, at, end, t);
+        let r = offer_content(
+            m,
+            text,
+            nodes,
+            count,
+            dead,
+            bodies,
+            output,
+            memory,
+            at,
+            end,
+            t,
+        );
         if is_end(r) {
             return r;
         }

@@ -6,7 +6,7 @@ use native.Mathlib.Omega.{arith}
 use borrow.Author.Tests.{eq-eqb, ne-eqb}
 use lib.ListN.{length, getD}
 use Rattle.model.specs.Text.{Bytes}
-use Rattle.model.specs.Load.{Macro, templates, count, nodes, Load, refused, loaded, load}
+use Rattle.model.specs.Load.{templates, count, nodes, Load, refused, loaded, load}
 use Rattle.model.specs.Fitting.{Distinct}
 use Rattle.model.specs.Legal.{Legal}
 use Rattle.model.proofs.Choices.{when-true, when-false}
@@ -34,6 +34,7 @@ pub refused-as : {x : Load} {text : Bytes} {t : Table} {k n : ℕ} {r : Loading}
 refused-as {x} {text} {t} {k} {n} {r} e some-fault q = rw q (record {
   is = e ∙ sym (answer-refused text t (refusedLoading k n) (λ z. omega arith));
   inside = λ z. absurd (omega arith);
+  counted = λ z. absurd (omega arith);
   input = omega arith;
   read = λ z. absurd (omega arith);
 })
@@ -47,18 +48,30 @@ module _ {x : Load} {text : Bytes} {t : Table} {r : Loading} (h : Loads x text t
   pub loads-refused : ¬ (r .number ≡ 0) → x ≡ refused (r .number) (r .line)
   loads-refused f = h .is ∙ answer-refused text t r f
 
--- the templates that are loaded are ready for their tree, in a row of 2,048 nodes or more
-pub loads-ready : {text : Bytes} {t : Table} {r : Loading} {rows : List Node} → Loads (load text) text t r → r .number ≡ 0 → 2048 ≤ length rows
-    → ReadyToBuild (r .marks .placeholder) (templatesIn text t (r .count)) rows
-loads-ready {text} {t} {r} {rows} h e a =
-    let ms : List Macro = macrosIn (r .marks) text t (r .count) in
-    let same : templates ms ≡ templatesIn text t (r .count) = macros-templates (r .marks) text t (r .count) in
-    let l : Legal (r .marks) ms = load-legal text (loadedOf text t r) (loads-loaded h e) .1 in
-    let n : nodes ms ≡ suc (beginnings (templatesIn text t (r .count))) = nodes-beginnings (templatesIn text t (r .count)) ms same (subst Distinct same (l .different)) in
-    record {
-      few = omega (arith, templates-in-length text t (r .count), h .inside e .entries .few);
-      short = λ k. subst (λ (ts : List Bytes). length (getD ts k []) ≤ 200) same (l .short k);
-      nine = λ k. subst (λ (ts : List Bytes). count (r .marks .placeholder) (getD ts k []) ≤ 9) same (l .nine k);
-      room = omega (arith, l .tree);
-      small = omega (arith, l .tree);
-    }
+module _ {text : Bytes} {t : Table} {r : Loading} (h : Loads (load text) text t r) (e : r .number ≡ 0) where
+  -- the macros that are loaded are legal
+  loads-legal : Legal (r .marks) (macrosIn (r .marks) text t (r .count))
+  loads-legal = load-legal text (loadedOf text t r) (loads-loaded h e) .1
+
+  -- the templates of the table are theirs
+  loads-templates : templates (macrosIn (r .marks) text t (r .count)) ≡ templatesIn text t (r .count)
+  loads-templates = macros-templates (r .marks) text t (r .count)
+
+  -- the answer counts the nodes of their tree
+  pub loads-counted : r .nodes ≡ suc (beginnings (templatesIn text t (r .count)))
+  loads-counted =
+      h .counted e ∙ nodes-beginnings (templatesIn text t (r .count)) (macrosIn (r .marks) text t (r .count)) loads-templates (subst Distinct loads-templates (loads-legal .different))
+
+  -- they are 2,048 at most
+  pub loads-nodes : r .nodes ≤ 2048
+  loads-nodes = omega (arith, h .counted e, loads-legal .tree)
+
+  -- the templates are ready for it, in a row of as many nodes or more
+  pub loads-ready : {rows : List Node} → 2048 ≤ length rows → ReadyToBuild (r .marks .placeholder) (templatesIn text t (r .count)) rows
+  loads-ready a = record {
+    few = omega (arith, templates-in-length text t (r .count), h .inside e .entries .few);
+    short = λ k. subst (λ (ts : List Bytes). length (getD ts k []) ≤ 200) loads-templates (loads-legal .short k);
+    nine = λ k. subst (λ (ts : List Bytes). count (r .marks .placeholder) (getD ts k []) ≤ 9) loads-templates (loads-legal .nine k);
+    room = omega (arith, loads-counted, loads-nodes);
+    small = omega (arith, loads-counted, loads-nodes);
+  }

@@ -5,7 +5,7 @@ use Prim.Native.Nat.{ℕ, _≤_}
 use lib.Dec.{eqb}
 use lib.ListN.{length, drop}
 use Rattle.model.specs.Text.{Bytes, lines}
-use Rattle.model.specs.Load.{Loaded, Load, refused, loaded}
+use Rattle.model.specs.Load.{nodes, Loaded, Load, refused, loaded}
 use Rattle.macros.specs.Table.{Table, macrosIn, EntriesInside}
 use Rattle.load.specs.declared.Loading.{Loading}
 
@@ -16,6 +16,7 @@ refusedLoading k n = record {
   line = n;
   marks = record { source = 0; placeholder = 0; code = 0; escape = 0; blank = 0; left = 0; plus = 0; minus = 0; times = 0; divide = 0; right = 0 };
   count = 0;
+  nodes = 0;
   input = 0;
 }
 
@@ -31,5 +32,6 @@ answerOf text t r = elim (eqb (r .number) 0) [ true ↦ loaded (loadedOf text t 
 pub record Loads (x : Load) (text : Bytes) (t : Table) (r : Loading) : Type 0 where
   pub is : x ≡ answerOf text t r
   pub inside : r .number ≡ 0 → EntriesInside text t (r .count)
+  pub counted : r .number ≡ 0 → r .nodes ≡ nodes (macrosIn (r .marks) text t (r .count))
   pub input : r .input ≤ length text
   pub read : r .number ≡ 0 → r .line ≤ r .input

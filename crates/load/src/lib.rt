@@ -17,13 +17,14 @@ ghost use Rattle.model.specs.Load as model-load;
 ghost use Rattle.macros.specs.Table.{tableSize};
 ghost use Rattle.load.specs.Answer.{refusedLoading, Loads};
 
-// What loading comes to. Number 0: the text is loaded; line is its section's last line, the input starts at `input`, and the first
-// `count` macros of the table are its macros. Any other number is the fault at line.
+// What loading comes to. Number 0: the text is loaded; line is its section's last line, the input starts at `input`, the first `count` macros
+// of the table are its macros, and their tree has `nodes` nodes. Any other number is the fault at line.
 pub struct Loading {
     pub number: usize,
     pub line: usize,
     pub marks: Marks,
     pub count: usize,
+    pub nodes: usize,
     pub input: usize,
 }
 
@@ -84,6 +85,7 @@ fn refuse_text(number: usize, line: usize) -> Loading
             right: 0,
         },
         count: 0,
+        nodes: 0,
         input: 0,
     }
 }

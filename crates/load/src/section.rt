@@ -94,6 +94,7 @@ fn load_line(m: Marks, text: &[u8], table: &mut [usize], p: Progress, n: usize, 
             line: n,
             marks: m,
             count: p.count,
+            nodes: p.nodes,
             input: next,
         }),
     }

@@ -18,8 +18,7 @@ use Rattle.call.specs.Call.{openedOf}
 use Rattle.call.specs.Params.{PiecesInside, Opens}
 use Rattle.call.proofs.Reading.{opens-reading}
 use Rattle.fit.specs.declared.Choice.{Choice}
-use Rattle.fit.specs.Chosen.{Chosen, Chooses}
-use Rattle.fit.specs.Outcome.{Asks}
+use Rattle.fit.specs.Chosen.{Fits, Chosen, Chooses}
 use Rattle.matching.specs.Book.{Book, Prepared}
 use Rattle.matching.specs.Matches.{opened, Opening, Opened, Calls}
 
@@ -38,15 +37,16 @@ opened-call {bodies} {number} {c} {x} {line} n e o = record { nine = e; opens = 
 
 -- ---- what callers take
 
--- the tree of a text that is loaded can be searched from its root
-pub book-asks : {m : Marks} {text : Bytes} {row : List Node} {bodies : List ℕ} {line : Bytes} {n : ℕ} → Prepared m text row bodies → n ≤ 200 → n ≤ length line → Asks row line n 0 0
-book-asks p s n =
+-- the tree of a text that is loaded can be searched, with room for its dead places
+pub book-asks : {m : Marks} {text : Bytes} {row : List Node} {count : ℕ} {bodies : List ℕ} {line dead : Bytes} {n : ℕ} → Prepared m text row count bodies → n ≤ 200 → n ≤ length line → 51456 ≤ length dead
+    → Fits row count dead line n
+book-asks p s n d =
     let f = p .book .fits in
-    record { made = f .made; stands = f .stands; there = f .root; low = omega arith; high = n; short = omega arith }
+    record { stands = f .stands; root = f .root; few = f .few; high = n; short = s; room = d }
 
-module _ {m : Marks} {row : List Node} (line : Bytes) (n : ℕ) {c : Choice} (g : Chooses m row (take n line) c) (f : c .found ≡ true) where
+module _ {m : Marks} {row : List Node} {count : ℕ} (line : Bytes) (n : ℕ) {c : Choice} (g : Chooses m row count (take n line) c) (f : c .found ≡ true) where
   -- what is chosen can be opened
-  pub choice-opening : {text : Bytes} {bodies : List ℕ} → Prepared m text row bodies → n ≤ 200 → n ≤ length line → Opening bodies line n c
+  pub choice-opening : {text : Bytes} {bodies : List ℕ} → Prepared m text row count bodies → n ≤ 200 → n ≤ length line → Opening bodies line n c
   choice-opening p s k =
       let b = p .book in
       let l = length-take n line in
@@ -57,7 +57,7 @@ module _ {m : Marks} {row : List Node} (line : Bytes) (n : ℕ) {c : Choice} (g 
       }
 
   -- the call is that of the first reading
-  pub reading-calls : {bodies : List ℕ} {number : ℕ} {r : Call} → Opened bodies line n c number r → (text : Bytes) (t : Loaded) → Book m text row bodies t → Calls m text t (take n line) number r
+  pub reading-calls : {bodies : List ℕ} {number : ℕ} {r : Call} → Opened bodies line n c number r → (text : Bytes) (t : Loaded) → Book m text row count bodies t → Calls m text t (take n line) number r
   unfolding opened
   reading-calls {bodies} {number} {r} w text t b =
       let o = w .opens in

@@ -11,17 +11,18 @@ use Rattle.model.specs.Sizes.{BodiesOk}
 use Rattle.nodes.specs.declared.Node.{Node}
 use Rattle.fit.specs.Chosen.{TreeAt}
 
--- t is loaded from the text: m are its marks, the tree of its templates stands in the row of nodes, and `bodies` says where each macro's body starts
-pub record Book (m : Marks) (text : Bytes) (row : List Node) (bodies : List ℕ) (t : Loaded) : Type 0 where
+-- t is loaded from the text: m are its marks, the tree of its templates stands in the row, with `count` nodes, and `bodies` says where each macro's
+-- body starts
+pub record Book (m : Marks) (text : Bytes) (row : List Node) (count : ℕ) (bodies : List ℕ) (t : Loaded) : Type 0 where
   pub marks : t .marks ≡ m
   pub short : length text ≤ textMost
-  pub fits : TreeAt m row (templates (t .macros))
+  pub fits : TreeAt m row count (templates (t .macros))
   pub as-many : length (t .macros) ≤ length bodies
   pub within : (k : ℕ) → k < length (t .macros) → getD bodies k 0 ≤ length text
   pub body : (k : ℕ) → k < length (t .macros) → getD (t .macros) k noMacro .body ≡ bodyAt m text (getD bodies k 0)
   pub nested : BodiesOk m (t .macros)
 
 -- a text is loaded into these
-pub record Prepared (m : Marks) (text : Bytes) (row : List Node) (bodies : List ℕ) : Type 0 where
+pub record Prepared (m : Marks) (text : Bytes) (row : List Node) (count : ℕ) (bodies : List ℕ) : Type 0 where
   pub table : Loaded
-  pub book : Book m text row bodies table
+  pub book : Book m text row count bodies table

@@ -8,7 +8,19 @@ pub mod Utf8
 pub mod Characters
 -- The first reading.
 pub mod Chosen
+pub mod Atoms
 pub mod Parts
+-- The search that takes up no place twice: it finds what the search without marks finds, takes up each place once, and does not depend on
+-- how nodes are numbered.
+pub mod Search
+pub mod Unmarked
+pub mod Different
+pub mod Once
+pub mod Beginnings
+pub mod NodeCount
+pub mod Renumbered
+pub mod SearchFuel
+pub mod Places
 pub mod FirstReading
 -- The starred examples.
 pub mod Starred

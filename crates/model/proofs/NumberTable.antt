@@ -25,18 +25,15 @@ use Rattle.model.specs.Machine.{Building, built, failed, add, addSymbol,
 use Rattle.model.specs.Machine.{Piece, takePass, nextPass, endPass, startRepeat, output, writeTo, writeLayout, saveText, skipBy, skipIf, skipCompared, finish, finishBuilt, carryOut}
 use Rattle.model.specs.Machine.{State, Next, running, ended, Passed, landed, beyond, badLanding, passOver, skipFrom, skipIn, call, passThrough, offeredAs, offered, stepped, unfinished}
 use Rattle.model.specs.Machine.{measured, readInput, readyIn, readyFor, ready, beginAt, beginLine, counted, eventFor, event, follow, after, initial, Result, resultOf, outcome, run}
-use Rattle.model.specs.Results.{shortRow, checkedAs, checkText, noPieces, fittedAs, fittedIn, fitLine, illegal, runText}
+use Rattle.model.specs.Places.{placesTaken}
+use Rattle.model.specs.Results.{shortRow, shortDead, checkedAs, checkText, noPieces, fittedAs, fittedIn, fitLine, illegal, runText}
 use Rattle.model.specs.NumberTable.{loadNumbers, endNumbers, begunNumbers, checkNumbers, fitNumbers, runNumbers}
 use Rattle.model.proofs.Choices.{false-not-true, both}
+use Rattle.model.proofs.Text.{has-more}
 
 -- ---- lists of numbers
 
--- a number among some is among these with one more in front
-has-cons : (k x : ℕ) (ns : List ℕ) → has k ns ≡ true → has k (x ∷ ns) ≡ true
-unfolding has
-has-cons k x ns e = both (λ b. b ≡ true) (eqb x k) _ _ refl e
-
--- with others behind
+-- a number among some is among these with others behind
 has-left : (k : ℕ) (ns ms : List ℕ) → has k ns ≡ true → has k (ns ++ ms) ≡ true
 unfolding has
 has-left k [] ms e = false-not-true e
@@ -50,7 +47,7 @@ has-left k (x ∷ ns) ms e = by (eqb x k) e (λ d. has-left k ns ms d)
 -- and with others in front
 has-right : (k : ℕ) (ns ms : List ℕ) → has k ms ≡ true → has k (ns ++ ms) ≡ true
 has-right k [] ms e = e
-has-right k (x ∷ ns) ms e = has-cons k x (ns ++ ms) (has-right k ns ms e)
+has-right k (x ∷ ns) ms e = has-more k x (ns ++ ms) (has-right k ns ms e)
 
 -- ---- loading
 
@@ -395,17 +392,19 @@ check-numbered rows text = both (λ (c : Checked). has (c .number) checkNumbers 
     by (loaded t) h = refl
 
 -- fit: 11 besides
-pub fit-numbered : (rows : ℕ) (text line : Bytes) → has (fitLine rows text line .number) fitNumbers ≡ true
+pub fit-numbered : (rows dead : ℕ) (text line : Bytes) → has (fitLine rows dead text line .number) fitNumbers ≡ true
 unfolding fitLine fittedIn fittedAs noPieces has
-fit-numbered rows text line = both (λ (f : Fitted). has (f .number) fitNumbers ≡ true) (shortRow rows) _ _ refl (by (load text) (load-numbered text))
+fit-numbered rows dead text line = both (λ (f : Fitted). has (f .number) fitNumbers ≡ true) (shortRow rows || shortDead dead) _ _ refl (by (load text) (load-numbered text))
   where
-    byReading : (t : Loaded) (o : Option Reading) → has (fittedAs t o .number) fitNumbers ≡ true
-    byReading t none = refl
-    byReading t (some r) = refl
+    byReading : (t : Loaded) (o : Option Reading) (k : ℕ) → has (fittedAs t o k .number) fitNumbers ≡ true
+    byReading t none k = refl
+    byReading t (some r) k = refl
 
     by : (x : Load) → LoadNumbered x → has (fittedIn line x .number) fitNumbers ≡ true
     by (refused k n) h = has-right k (11 ∷ 0 ∷ 1 ∷ []) loadNumbers h
-    by (loaded t) h = both (λ (f : Fitted). has (f .number) fitNumbers ≡ true) (ltb 200 (length line)) _ _ refl (byReading t (chosen (t .marks) (templates (t .macros)) line))
+    by (loaded t) h =
+        let ts = templates (t .macros) in
+        both (λ (f : Fitted). has (f .number) fitNumbers ≡ true) (ltb 200 (length line)) _ _ refl (byReading t (chosen (t .marks) ts line) (placesTaken (t .marks) ts line))
 
 -- no expansion ends with 20
 pub ended-unspent : (n room : ℕ) (t : Loaded) (k : ℕ) (s : State) → after n room t (running (initial t)) ≡ ended k s → ¬ (k ≡ 20)
@@ -419,13 +418,13 @@ begun-numbered fuel room t = by (after fuel room t (running (initial t))) (after
   where
     by : (x : Next) → NextNumbered x → has (outcome x .number) begunNumbers ≡ true
     by (running s) h = refl
-    by (ended k s) h = has-cons k 20 endNumbers h
+    by (ended k s) h = has-more k 20 endNumbers h
 
 -- any run
-pub run-numbered : (fuel rows room store : ℕ) (text : Bytes) → has (runText fuel rows room store text .number) runNumbers ≡ true
+pub run-numbered : (fuel rows dead room store : ℕ) (text : Bytes) → has (runText fuel rows dead room store text .number) runNumbers ≡ true
 unfolding runText run has
-run-numbered fuel rows room store text = both (λ (x : Result). has (x .number) runNumbers ≡ true) (illegal fuel rows store) _ _ refl (by (load text) (load-numbered text))
+run-numbered fuel rows dead room store text = both (λ (x : Result). has (x .number) runNumbers ≡ true) (illegal fuel rows dead store) _ _ refl (by (load text) (load-numbered text))
   where
     by : (x : Load) → LoadNumbered x → has (run fuel room x .number) runNumbers ≡ true
-    by (refused k n) h = has-cons k 1 (loadNumbers ++ begunNumbers) (has-left k loadNumbers begunNumbers h)
+    by (refused k n) h = has-more k 1 (loadNumbers ++ begunNumbers) (has-left k loadNumbers begunNumbers h)
     by (loaded t) h = has-right (run fuel room (loaded t) .number) (1 ∷ loadNumbers) begunNumbers (begun-numbered fuel room t)

@@ -113,7 +113,7 @@ module _ (m : Marks) where
       rw (h .1, k .1) (after-piece (m .placeholder) (h .0) (k .0) p (pieces x) (pieces y) refl (earlier-before x y l (h .0) (k .0) (h .2) (k .2)))
 
   -- templates with the same elements are equal
-  elems-same : (t u : List ℕ) → elems m t ≡ elems m u → t ≡ u
+  pub elems-same : (t u : List ℕ) → elems m t ≡ elems m u → t ≡ u
   unfolding elems
   elems-same [] u e = sym (at-end [] u e)
   elems-same (b ∷ t) u e = by (eqb b (m .placeholder)) (tested b (m .placeholder)) (λ v. elems-same t v)

@@ -5,7 +5,7 @@ use mathlib.Core.Option.{Option, none, some}
 use mathlib.Core.List.{List, [], _∷_, _++_, map}
 use Prim.Native.Nat.{ℕ, zero, suc, _+_, _-_, _*_, _/_, _^_, _≤_, _<_}
 use native.Mathlib.Omega.{arith}
-use native.Mathlib.Nat.{pow-suc, suc-mul}
+use native.Mathlib.Nat.{pow-suc, suc-mul, mul-le-mul-right}
 use borrow.Author.Tests.{ltb-true, ltb-false, ne-eqb, eq-eqb}
 use lib.Dec.{eqb, ltb}
 use lib.ListN.{length, getD, drop, replicate, length-append, length-replicate}
@@ -15,14 +15,16 @@ use Rattle.model.specs.declared.Fitted.{Fitted}
 use Rattle.model.specs.Text.{Bytes, has, startsWith, ontoFirst, lines, marksOf}
 use Rattle.model.specs.Reading.{Pieces, Reading, chosen}
 use Rattle.model.specs.Store.{digitsOf, decimal}
-use Rattle.model.specs.Load.{Macro, noMacro, templates, Progress, Seen, fault, more, sectionEnds, lowest, count, templateFault, unless, templateLine, codeLine, endLine, lineSeen, Loaded, Load, refused, loaded, lowestAt, loadOn, loadFrom, noneRead, loadLines, load}
-use Rattle.model.specs.Results.{shortRow, startsOf, nine, noPieces, fittedAs, fittedIn, fitLine}
+use Rattle.model.specs.Load.{Macro, noMacro, templates, nodes, Progress, Seen, fault, more, sectionEnds, lowest, count, templateFault, unless, templateLine, codeLine, endLine, lineSeen, Loaded, Load, refused, loaded, lowestAt, loadOn, loadFrom, noneRead, loadLines, load}
+use Rattle.model.specs.Places.{placesTaken}
+use Rattle.model.specs.Results.{shortRow, shortDead, startsOf, nine, noPieces, fittedAs, fittedIn, fitLine}
 use Rattle.model.specs.Fitting.{Fits, end, literal, placeholder}
 use Rattle.model.specs.Legal.{MacrosAt}
 use Rattle.model.specs.Printed.{spaced, endRow, checkRow, pieceRow, fitRow, fitRows, fitPrints}
 use Rattle.model.proofs.Choices.{both, split, or-false}
 use Rattle.model.proofs.Loading.{load-legal, loaded-chosen}
 use Rattle.model.proofs.Input.{load-at, line-number}
+use Rattle.model.proofs.Places.{loaded-places}
 
 -- ---- numbers in decimal
 
@@ -219,19 +221,53 @@ record FittedLow (line : Bytes) (n : ℕ) (f : Fitted) : Type 0 where
   few : length (f .start) ≤ 9
   starts : Below n (f .start)
   lengths : Below n (f .length)
+  places : f .places ≤ 2048 * suc (length line)
+  most-places : f .places ≤ 411648
 
 no-pieces-low : {line : Bytes} {k n : ℕ} → k ≤ 11 → (length line ≤ 200 → k ≤ 9) → n ≤ 65537 → FittedLow line 0 (noPieces k n)
 unfolding noPieces
-no-pieces-low a b c = record { number = a; single = b; place = c; few = nine-long [] (omega arith); starts = below-nine 0 [] tt; lengths = below-nine 0 [] tt }
+no-pieces-low a b c = record {
+  number = a;
+  single = b;
+  place = c;
+  few = nine-long [] (omega arith);
+  starts = below-nine 0 [] tt;
+  lengths = below-nine 0 [] tt;
+  places = omega arith;
+  most-places = omega arith;
+}
 
 -- n is neither above the line's length nor above 200
 abbrev FittedShort : Bytes → Fitted → Type 0
 FittedShort line f = (n : ℕ) × (n ≤ length line) × (n ≤ 200) × FittedLow line n f
 
 module _ (text : Bytes) (line : Bytes) where
-  fitted-low : (t : Loaded) → load text ≡ loaded t → length line ≤ 200 → (o : Option Reading) → chosen (t .marks) (templates (t .macros)) line ≡ o → FittedShort line (fittedAs t o)
+  -- the places of a text that loads, with as many nodes as there may be
+  places-low : (t : Loaded) → load text ≡ loaded t → length line ≤ 200 → (placesTaken (t .marks) (templates (t .macros)) line ≤ 2048 * suc (length line)) × (placesTaken (t .marks) (templates (t .macros)) line ≤ 411648)
+  places-low t e h =
+      let a = loaded-places text t e line in
+      let b = mul-le-mul-right {m = nodes (t .macros)} {n = 2048} (suc (length line)) (load-legal text t e .1 .tree) in
+      (omega (arith, a, b), omega (arith, a, b))
+
+  fitted-low : (t : Loaded) → load text ≡ loaded t → length line ≤ 200 → (o : Option Reading) → chosen (t .marks) (templates (t .macros)) line ≡ o
+      → FittedShort line (fittedAs t o (placesTaken (t .marks) (templates (t .macros)) line))
   unfolding fittedAs
-  fitted-low t e h none q = (0, omega arith, omega arith, no-pieces-low (omega arith) (λ _. omega arith) (omega arith))
+  fitted-low t e h none q =
+      let (a, b) = places-low t e h in (
+        0,
+        omega arith,
+        omega arith,
+        record {
+          number = omega arith;
+          single = λ _. omega arith;
+          place = omega arith;
+          few = nine-long [] (omega arith);
+          starts = below-nine 0 [] tt;
+          lengths = below-nine 0 [] tt;
+          places = a;
+          most-places = b;
+        },
+      )
   fitted-low t e h (some r) q =
       let i : ℕ = r .which in
       let x : Macro = getD (t .macros) i noMacro in
@@ -239,7 +275,8 @@ module _ (text : Bytes) (line : Bytes) where
       subst (λ (u : Bytes). Fits (t .marks) u (r .pieces) line) (template-at (t .macros) i) (loaded-chosen text t e line r q .reads .fits) in
       let c : count (t .marks .placeholder) (x .template) ≤ 9 = subst (λ (u : Bytes). count (t .marks .placeholder) u ≤ 9) (template-at (t .macros) i) (load-legal text t e .1 .nine i) in
       let l = line-number text t e (x .line) (drop (x .line) (lines text))
-      (record { read = line-within (t .marks) (lines text) (t .macros) i (load-at text t e .0); left = refl }) in (
+      (record { read = line-within (t .marks) (lines text) (t .macros) i (load-at text t e .0); left = refl }) in
+      let (a, b) = places-low t e h in (
         length line,
         omega arith,
         h,
@@ -250,6 +287,8 @@ module _ (text : Bytes) (line : Bytes) where
           few = nine-long _ (omega (arith, starts-count 0 f));
           starts = below-nine (length line) _ (starts-below 0 (length line) f (omega arith));
           lengths = below-nine (length line) _ (lengths-below (length line) f (omega arith));
+          places = a;
+          most-places = b;
         },
       )
 
@@ -261,8 +300,8 @@ module _ (text : Bytes) (line : Bytes) where
       (λ u. (0, omega arith, omega arith, no-pieces-low (omega arith) (λ v. absurd (omega (arith, ltb-true 200 (length line) u))) (omega arith)))
       (λ u. fitted-low t e (ltb-false 200 (length line) u) (chosen (t .marks) (templates (t .macros)) line) refl)
 
-  fit-low : FittedShort line (fitLine 2048 text line)
-  unfolding fitLine shortRow
+  fit-low : FittedShort line (fitLine 2048 51456 text line)
+  unfolding fitLine shortRow shortDead
   fit-low = fitted-in-low (load text) refl (load-low text)
 
 -- ---- rows
@@ -279,27 +318,29 @@ piece-row-long n d w (s ∷ ss) (l ∷ ls) h k =
     let m = suc-mul (length ss) (d + d) in
     simp length-append (omega arith)
 
--- a row of fit_line: 44 bytes for each byte of the line, and for its end
-fit-row-long : (line : Bytes) (f : Fitted) → FittedShort line f → length (fitRow f) ≤ 44 * (length line + 1)
+-- a row of fit_line: 49 bytes for each byte of the line, and for its end
+fit-row-long : (line : Bytes) (f : Fitted) → FittedShort line f → length (fitRow f) ≤ 49 * (length line + 1)
 unfolding fitRow
 fit-row-long [] f (n, z, w, h) =
     let a = decimal-few 0 (f .number) (omega (arith, h .single (omega arith))) in
     let b = spaced-few 4 (f .line) (omega (arith, h .place)) in
     let c = piece-row-long n 2 (λ x u. spaced-few 0 x (omega arith)) (f .start) (f .length) (h .starts) (h .lengths) in
     let d = h .few in
+    let e = spaced-few 3 (f .places) (omega (arith, h .places)) in
     simp length-append (omega arith)
 fit-row-long (x ∷ line) f (n, z, w, h) =
     let a = decimal-few 1 (f .number) (omega (arith, h .number)) in
     let b = spaced-few 4 (f .line) (omega (arith, h .place)) in
     let c = piece-row-long n 4 (λ x u. spaced-few 2 x (omega arith)) (f .start) (f .length) (h .starts) (h .lengths) in
     let d = h .few in
+    let e = spaced-few 5 (f .places) (omega (arith, h .most-places)) in
     simp length-append (omega arith)
 
-fit-rows-long : (text : Bytes) (ls : List Bytes) → length (fitRows text ls) ≤ 44 * spread ls
+fit-rows-long : (text : Bytes) (ls : List Bytes) → length (fitRows text ls) ≤ 49 * spread ls
 unfolding fitRows spread
 fit-rows-long text [] = omega arith
 fit-rows-long text (l ∷ ls) =
-    let a = fit-row-long l (fitLine 2048 text l) (fit-low text l) in
+    let a = fit-row-long l (fitLine 2048 51456 text l) (fit-low text l) in
     let b = fit-rows-long text ls in
     simp length-append (omega arith)
 
@@ -316,6 +357,6 @@ unfolding checkRow
 check-row-long name c = simp length-append (omega (arith, spaced-most (c .number), spaced-most (c .line)))
 
 -- all that fit_line prints
-pub fit-prints-long : (text file : Bytes) → length (fitPrints text file) ≤ 44 * (length file + 1)
+pub fit-prints-long : (text file : Bytes) → length (fitPrints text file) ≤ 49 * (length file + 1)
 unfolding fitPrints
 fit-prints-long text file = omega (arith, fit-rows-long text (lines file), lines-spread file)

@@ -1,4 +1,4 @@
--- Document 01's starred examples ("Fitting a line", "Values") with those of document 02's tickets 1 and 2, one list, computed against the definitions in one proof.
+-- Document 01's starred examples ("Fitting a line", "Values") with those of document 02's tickets 1 to 3, one list, computed against the definitions in one proof.
 use mathlib.Core.Path.{_≡_, refl}
 use mathlib.Core.Option.{Option, none, some}
 use mathlib.Core.List.{List, [], _∷_, _++_, map}
@@ -13,10 +13,12 @@ use Rattle.model.specs.declared.Conversion.{Conversion}
 use Rattle.model.specs.declared.Conversion.the-variants.{Length, CodePoint}
 use Rattle.model.specs.Text.{Bytes, isDigit, has, same}
 use Rattle.model.specs.Utf8.{pointsFault, isTail, ofTwo, character, ontoPoints, pointsFrom, points}
-use Rattle.model.specs.Reading.{Reading, chosen, balancedFrom, balanced, cuts, withPiece, withLiteral, readings, rank, less, asReadings, allReadings, leastOf, least}
+use Rattle.model.specs.Reading.{group, atom, Reading, chosen, balancedFrom, balanced, cuts, withPiece, withLiteral, readings, rank, less, asReadings, allReadings, leastOf, least}
+use Rattle.model.specs.Parts.{elems}
 use Rattle.model.specs.Store.{find, decimal, digitsOf}
 use Rattle.model.specs.Value.{valueFault, valueOf, checked, quotient, divided, andThen, giving, number, isMark, nameOf, allDigits, isStoredNumber, storedNumber, ofStored, closing, expression, sum, product, factors, operand, whole}
 use Rattle.model.specs.Machine.{Frame, param, Building, built, failed, add, addLength, addCodePoint, addConverted, Piece, onePass, passOf, noPass}
+use Rattle.model.specs.Places.{isIn, tryPlace, sameElem, sameElems, numberFrom, addBeginnings, beginningsFrom, beginnings, beginningAt, childIn, endsInHole, holeyIn, together, fitting, placesTaken}
 
 -- the bytes of a quoted text, of characters of one byte
 unfoldable pub bytes : String → List ℕ
@@ -31,6 +33,7 @@ session = record { source = 36; placeholder = 33; code = 36; escape = 33; blank 
 pub data Told : Type 0 where
   call : (template : List ℕ) (pieces : List (List ℕ)) → Told
   no-call : Told
+  places : (number : ℕ) → Told
   value : ℤ → Told
   code-points : List ℕ → Told
   line : (built : Bytes) → Told
@@ -46,8 +49,12 @@ toldValue none = fault (valueFault none)
 toldValue (some v) = value v
 
 -- a line fitted against templates
-abbrev fitting : List String → String → Told
-fitting ts l = toldReading ts (chosen session (map bytes ts) (bytes l))
+abbrev fitted : List String → String → Told
+fitted ts l = toldReading ts (chosen session (map bytes ts) (bytes l))
+
+-- the places that are taken up for it; in the last example below a dead place is met again
+abbrev placed : List String → String → Told
+placed ts l = places (placesTaken session (map bytes ts) (bytes l))
 
 -- a text as an expression, with nothing stored
 abbrev valued : String → Told
@@ -94,14 +101,23 @@ three = "AB!" ∷ "!B" ∷ "!=!" ∷ []
 -- each example with what its document says of it
 abbrev examples : List (Told × Told)
 examples =
-    (fitting three "AB", reads "AB!" ("" ∷ []))
-    ∷ (fitting three "ABB", reads "AB!" ("B" ∷ []))
-    ∷ (fitting three "XB", reads "!B" ("X" ∷ []))
-    ∷ (fitting three "A=B", reads "!=!" ("A" ∷ "B" ∷ []))
-    ∷ (fitting three "(=)=", reads "!=!" ("(=)" ∷ "" ∷ []))
-    ∷ (fitting three "(=", no-call)
-    ∷ (fitting three "", no-call)
-    ∷ (fitting ("!" ∷ []) ")(", no-call)
+    (fitted three "AB", reads "AB!" ("" ∷ []))
+    ∷ (fitted three "ABB", reads "AB!" ("B" ∷ []))
+    ∷ (fitted three "XB", reads "!B" ("X" ∷ []))
+    ∷ (fitted three "A=B", reads "!=!" ("A" ∷ "B" ∷ []))
+    ∷ (fitted three "(=)=", reads "!=!" ("(=)" ∷ "" ∷ []))
+    ∷ (fitted three "(=", no-call)
+    ∷ (fitted three "", no-call)
+    ∷ (fitted ("!" ∷ []) ")(", no-call)
+    ∷ (placed three "AB", places 5)
+    ∷ (placed three "ABB", places 6)
+    ∷ (placed three "XB", places 5)
+    ∷ (placed three "A=B", places 8)
+    ∷ (placed three "(=)=", places 6)
+    ∷ (placed three "(=", places 2)
+    ∷ (placed three "", places 2)
+    ∷ (placed ("!" ∷ []) ")(", places 2)
+    ∷ (placed ("!a!b" ∷ []) "aa", places 8)
     ∷ (valued "", value (pos 0))
     ∷ (valued "2-3*4", value (negsuc 9))
     ∷ (valued "(-7)/2", value (negsuc 2))
@@ -127,5 +143,5 @@ examples =
 
 -- what the definitions give is what the documents say
 pub starred : map (λ e. e .0) examples ≡ map (λ e. e .1) examples
-unfolding bytes isDigit has same find chosen balancedFrom balanced cuts withPiece withLiteral readings rank less asReadings allReadings leastOf least valueOf checked quotient divided andThen giving number isMark nameOf allDigits isStoredNumber storedNumber ofStored closing expression sum product factors operand whole isTail ofTwo character ontoPoints pointsFrom points digitsOf decimal param add addLength addCodePoint addConverted onePass passOf
+unfolding group atom elems isIn tryPlace sameElem sameElems numberFrom addBeginnings beginningsFrom beginnings beginningAt childIn endsInHole holeyIn together fitting placesTaken bytes isDigit has same find chosen balancedFrom balanced cuts withPiece withLiteral readings rank less asReadings allReadings leastOf least valueOf checked quotient divided andThen giving number isMark nameOf allDigits isStoredNumber storedNumber ofStored closing expression sum product factors operand whole isTail ofTwo character ontoPoints pointsFrom points digitsOf decimal param add addLength addCodePoint addConverted onePass passOf
 starred = refl

@@ -1,13 +1,16 @@
--- Laws of parts of a text.
+-- Laws of parts of a text, and of numbers among others.
 use mathlib.Core.Path.{_≡_, refl, ap, sym, _∙_}
-use mathlib.Core.List.{[], _∷_, _++_}
+use mathlib.Core.Bool.{true}
+use mathlib.Core.List.{List, [], _∷_, _++_}
 use Prim.Native.Nat.{ℕ, zero, suc, _+_, _-_, _≤_, _<_}
 use native.Mathlib.Nat.{min-le-left, sub-zero}
 use native.Mathlib.Numerals.{add-one}
 use native.Mathlib.Omega.{arith}
+use lib.Dec.{eqb}
 use lib.ListN.{length, getD, take, drop, length-take, length-drop}
 use lib.Seq.{length-take-le, take-all, take-take, take-nil, take-suc, take-add, drop-cons, drop-drop, getD-drop}
-use Rattle.model.specs.Text.{Bytes, part}
+use Rattle.model.specs.Text.{Bytes, has, part}
+use Rattle.model.proofs.Choices.{both}
 
 -- ---- how long it is
 
@@ -78,3 +81,10 @@ part-join s a b c h k =
     let y : b - a + (c - b) ≡ c - a = omega arith in
     ap (λ (j : ℕ). part s a b ++ take (c - b) (drop j s)) (sym x) ∙ ap (λ (l : Bytes). part s a b ++ take (c - b) l) (sym (drop-drop (b - a) a s))
     ∙ sym (take-add (b - a) (c - b) (drop a s)) ∙ ap (λ (n : ℕ). take n (drop a s)) y
+
+-- ---- a number among others
+
+-- is among these with one more in front
+pub has-more : (k x : ℕ) (ns : List ℕ) → has k ns ≡ true → has k (x ∷ ns) ≡ true
+unfolding has
+has-more k x ns e = both (λ b. b ≡ true) (eqb x k) _ _ refl e

@@ -1,27 +1,28 @@
--- What is proved of document 01's definitions, in one place: the first reading, the fuels, the events, the numbers, what is demanded of a run, the sizes
+-- What is proved of document 01's definitions, in one place: the first reading, the places of a search, the fuels, the events, the numbers, what is demanded of a run, the sizes
 -- of its states, the places of its lines, the digits of conversions, characters, and the range of values. Every statement is for all texts that load and all rooms; the proofs are in the
 -- modules that each line cites.
-use mathlib.Core.Path.{_≡_}
+use mathlib.Core.Path.{_≡_, refl}
 use mathlib.Core.Logic.{_↔_}
 use mathlib.Core.Bool.{true, false}
 use mathlib.Core.Option.{none, some}
 use mathlib.Core.List.{List, [], _∷_, _++_}
-use Prim.Native.Nat.{ℕ, _+_, _*_, _^_, _≤_}
+use Prim.Native.Nat.{ℕ, suc, _+_, _*_, _^_, _≤_, _<_}
 use lib.ListN.{length}
 use lib.IntN.{ℤ}
 use Rattle.model.specs.declared.Marks.{Marks}
 use Rattle.model.specs.declared.Ran.{Ran}
 use Rattle.model.specs.declared.Conversion.{Conversion}
 use Rattle.model.specs.declared.Conversion.the-variants.{Length, CodePoint}
-use Rattle.model.specs.Limits.{largest, digitsMost}
+use Rattle.model.specs.Limits.{lineMost, nodesMost, deadLeast, largest, digitsMost}
 use Rattle.model.specs.Text.{Bytes, Grows, has, lines}
 use Rattle.model.specs.Utf8.{Character, character, points, Point, encode, encodeAll, Points, Leads, MalformedText, MalformedFront}
 use Rattle.model.specs.Reading.{Pieces, Reading, chosen}
 use Rattle.model.specs.Code.{digitOf, conversionOf}
 use Rattle.model.specs.Store.{Store, decimal}
 use Rattle.model.specs.Value.{FitsWidth, checked, expression, whole, valueOf}
-use Rattle.model.specs.Load.{templates, Loaded, Load, loaded, load}
+use Rattle.model.specs.Load.{templates, nodes, Loaded, Load, loaded, load}
 use Rattle.model.specs.Machine.{Loop, Frame, Shared, halts, param, failed, add, addConverted, pieceOf, passOf, takePass, State, skipIn, running, ended, counted, event, after, initial, resultOf, run}
+use Rattle.model.specs.Places.{Found, tryPlace, beginnings, childIn, holeyIn, together, fitting, placesTaken, Once}
 use Rattle.model.specs.Results.{checkText, fitLine, runText}
 use Rattle.model.specs.Fitting.{Reads, First}
 use Rattle.model.specs.FirstReading.{FitsFirst, OffersFirst}
@@ -31,6 +32,10 @@ use Rattle.model.specs.Runs.{Runs}
 use Rattle.model.specs.NumberTable.{begunNumbers, checkNumbers, fitNumbers, runNumbers}
 use Rattle.model.specs.Demands.{EndsInFuel, GoesBeyond, OffersInRun, FollowsExpansion}
 use Rattle.model.proofs.FirstReading as FirstReading
+use Rattle.model.proofs.Search.{search}
+use Rattle.model.proofs.Places as Places
+use Rattle.model.proofs.Places.{IsChosen}
+use Rattle.model.proofs.SearchFuel as SearchFuel
 use Rattle.model.proofs.Fuel as Fuel
 use Rattle.model.proofs.Events as Events
 use Rattle.model.proofs.NumberTable as NumberTable
@@ -62,12 +67,41 @@ module _ (text : Bytes) (t : Loaded) (loads : load text ≡ loaded t) (line : By
   first-is-chosen = Loading.loaded-first text t loads line
 
 -- so fit's answer is the first reading, in 01's words
-pub fit-is-first : (text : Bytes) (t : Loaded) → load text ≡ loaded t → (line : Bytes) (rows : ℕ) → 2048 ≤ rows → length line ≤ 200 → FitsFirst t line (fitLine rows text line)
+pub fit-is-first : (text : Bytes) (t : Loaded) → load text ≡ loaded t → (line : Bytes) (rows dead : ℕ) → 2048 ≤ rows → 51456 ≤ dead → length line ≤ 200
+    → FitsFirst t line (fitLine rows dead text line)
 fit-is-first = FirstReading.fit-first
 
 -- and so is what the event of a pending line comes to, in a run or from any other state: passing through, or the call
 pub offer-is-first : (text : Bytes) (t : Loaded) → load text ≡ loaded t → (room : ℕ) (s : State) (l : Bytes) → s .pending ≡ some l → OffersFirst room t l (counted s) (event room t s)
 offer-is-first = FirstReading.offered-first
+
+-- ---- the places of a search
+
+-- a row of dead places has a bit for each node at each position of a line
+pub dead-row : 8 * deadLeast ≡ nodesMost * (lineMost + 1)
+dead-row = refl
+
+-- marks change nothing: a search that goes back to dead places, too, finds the same
+pub marks-change-nothing : (m : Marks) (ts : List Bytes) (line : Bytes)
+    → fitting m ts line .found ≡ search m (childIn (beginnings m ts)) (holeyIn (beginnings m ts)) (suc (together (beginnings m ts) + length line)) 0 line
+marks-change-nothing = Places.found-unmarked
+
+module _ (text : Bytes) (t : Loaded) (loads : load text ≡ loaded t) (line : Bytes) where
+  -- where the search finds nothing, no reading is chosen
+  pub search-no-call : fitting (t .marks) (templates (t .macros)) line .found ≡ none → chosen (t .marks) (templates (t .macros)) line ≡ none
+  search-no-call = Places.loaded-finds-none text t loads line
+
+  -- where it finds something, that is the chosen reading
+  pub search-is-chosen : (f : Found) → fitting (t .marks) (templates (t .macros)) line .found ≡ some f → IsChosen (t .marks) (templates (t .macros)) line f
+  search-is-chosen = Places.loaded-finds-chosen text t loads line
+
+  -- no place is taken up twice
+  pub each-place-once : Once (fitting (t .marks) (templates (t .macros)) line .taken)
+  each-place-once = Places.taken-once (t .marks) (templates (t .macros)) line
+
+  -- so they are at most as many as the tree's nodes times (line length + 1)
+  pub few-places : placesTaken (t .marks) (templates (t .macros)) line ≤ nodes (t .macros) * suc (length line)
+  few-places = Places.loaded-places text t loads line
 
 -- ---- two fuels
 
@@ -128,10 +162,10 @@ module _ (n room : ℕ) (t : Loaded) (s : State) where
 pub check-number : (rows : ℕ) (text : Bytes) → has (checkText rows text .number) checkNumbers ≡ true
 check-number = NumberTable.check-numbered
 
-pub fit-number : (rows : ℕ) (text line : Bytes) → has (fitLine rows text line .number) fitNumbers ≡ true
+pub fit-number : (rows dead : ℕ) (text line : Bytes) → has (fitLine rows dead text line .number) fitNumbers ≡ true
 fit-number = NumberTable.fit-numbered
 
-pub run-number : (fuel rows room store : ℕ) (text : Bytes) → has (runText fuel rows room store text .number) runNumbers ≡ true
+pub run-number : (fuel rows dead room store : ℕ) (text : Bytes) → has (runText fuel rows dead room store text .number) runNumbers ≡ true
 run-number = NumberTable.run-numbered
 
 -- the table has no 10
@@ -268,6 +302,11 @@ skip-beyond = Input.skip-beyond
 -- any number that is large enough bounds the depth of an expression
 pub any-depth : (m : Marks) (st : Store) (s : Bytes) (n : ℕ) → 3 * length s + 3 ≤ n → whole (expression n m st s) ≡ valueOf m st s
 any-depth = Depth.value-enough
+
+-- the depth of a search
+pub any-fuel : (m : Marks) (ts : List Bytes) (line : Bytes) (n : ℕ) → together (beginnings m ts) + length line < n
+    → tryPlace m (childIn (beginnings m ts)) (holeyIn (beginnings m ts)) n 0 0 line [] ≡ fitting m ts line
+any-fuel = SearchFuel.fuel-enough
 
 -- and the length of a pass's piece
 pub any-length : (m : Marks) (ds s : Bytes) (d : ℕ) → pieceOf (length s + 1 + d) m ds s ≡ pieceOf (length s + 1) m ds s

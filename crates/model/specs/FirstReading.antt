@@ -3,12 +3,12 @@
 use mathlib.Core.Path.{_≡_}
 use mathlib.Core.Logic.{_↔_}
 use mathlib.Core.List.{map}
-use Prim.Native.Nat.{ℕ, _<_}
+use Prim.Native.Nat.{ℕ, suc, _*_, _≤_, _<_}
 use lib.ListN.{length, getD}
 use Rattle.model.specs.declared.Fitted.{Fitted}
 use Rattle.model.specs.Text.{Bytes}
 use Rattle.model.specs.Reading.{Pieces}
-use Rattle.model.specs.Load.{noMacro, templates, Loaded}
+use Rattle.model.specs.Load.{noMacro, templates, nodes, Loaded}
 use Rattle.model.specs.Machine.{State, Next, call, passThrough}
 use Rattle.model.specs.Results.{startsOf, nine}
 use Rattle.model.specs.Fitting.{Reads, First}
@@ -24,6 +24,7 @@ pub record FitsFirst (t : Loaded) (line : Bytes) (r : Fitted) : Type 0 where
   pub done : r .number ≡ 0
   pub no-call : r .line ≡ 0 ↔ ((i : ℕ) (ps : Pieces) → ¬ Reads (t .marks) (templates (t .macros)) line i ps)
   pub call : 0 < r .line → (i : ℕ) × (ps : Pieces) × First (t .marks) (templates (t .macros)) line i ps × Names t i ps r
+  pub few-places : r .places ≤ nodes (t .macros) * suc (length line)
 
 -- the line l is offered in a run: from the state s, in which that event is counted, the machine comes to x. Where twelve calls are open, `call` ends with 14,
 -- whatever the reading

@@ -8,6 +8,7 @@ pub mod Store
 pub mod Value
 pub mod Load
 pub mod Machine
+pub mod Places
 pub mod Results
 -- What is said of them: readings and their order in 01's words, what a loaded text has, how large a run's states are.
 pub mod Fitting

@@ -46,6 +46,10 @@ fuelMost = 1000000
 abbrev pub storeLeast : ℕ
 storeLeast = 8704
 
+-- the least length of a lent row of dead places: a bit for each node at each position of a line
+abbrev pub deadLeast : ℕ
+deadLeast = 51456
+
 -- values are signed numbers of 64 bits: from -(largest + 1) to largest
 abbrev pub largest : ℕ
 largest = 9223372036854775807

@@ -1,7 +1,7 @@
 -- What the programs print on standard output, byte for byte: numbers are in decimal, a blank is byte 32, and each row ends with byte 10.
 use mathlib.Core.List.{List, [], _∷_, _++_}
 use Prim.Native.Nat.{ℕ}
-use Rattle.model.specs.Limits.{textMost, nodesMost, fuelMost, storeLeast}
+use Rattle.model.specs.Limits.{textMost, nodesMost, fuelMost, storeLeast, deadLeast}
 use Rattle.model.specs.declared.Checked.{Checked}
 use Rattle.model.specs.declared.Fitted.{Fitted}
 use Rattle.model.specs.Text.{Bytes, lines}
@@ -25,7 +25,7 @@ runPrinted x = x .output ++ endRow (x .number) (x .line) (x .events)
 
 -- `expand` runs a text with all the fuel there is, and has room for as many bytes of output as a text has
 unfoldable pub expandPrints : Bytes → Bytes
-expandPrints text = runPrinted (runText fuelMost nodesMost textMost storeLeast text)
+expandPrints text = runPrinted (runText fuelMost nodesMost deadLeast textMost storeLeast text)
 
 -- ---- check_text
 
@@ -46,13 +46,13 @@ pieceRow [] ls = []
 pieceRow (s ∷ ss) [] = []
 pieceRow (s ∷ ss) (l ∷ ls) = (spaced s ++ spaced l) ++ pieceRow ss ls
 
--- number and template's line, then the pieces
+-- number and template's line, then the pieces, then the number of places taken up
 unfoldable pub fitRow : Fitted → Bytes
-fitRow f = decimal (f .number) ++ spaced (f .line) ++ pieceRow (f .start) (f .length) ++ (10 ∷ [])
+fitRow f = decimal (f .number) ++ spaced (f .line) ++ pieceRow (f .start) (f .length) ++ spaced (f .places) ++ (10 ∷ [])
 
 unfoldable pub fitRows : Bytes → List Bytes → Bytes
 fitRows text [] = []
-fitRows text (l ∷ ls) = fitRow (fitLine nodesMost text l) ++ fitRows text ls
+fitRows text (l ∷ ls) = fitRow (fitLine nodesMost deadLeast text l) ++ fitRows text ls
 
 -- `fit_line` has a row for each line of a file, taken whole
 unfoldable pub fitPrints : (text file : Bytes) → Bytes

@@ -5,7 +5,7 @@ use mathlib.Core.List.{List, [], _∷_, _++_, map}
 use Prim.Native.Nat.{ℕ, suc, _+_, _-_}
 use lib.Dec.{eqb, ltb}
 use lib.ListN.{length, getD, replicate}
-use Rattle.model.specs.Limits.{lineMost, nodesMost, storeLeast, fuelMost}
+use Rattle.model.specs.Limits.{lineMost, nodesMost, storeLeast, deadLeast, fuelMost}
 use Rattle.model.specs.declared.Marks.{Marks}
 use Rattle.model.specs.declared.Checked.{Checked}
 use Rattle.model.specs.declared.Fitted.{Fitted}
@@ -14,10 +14,15 @@ use Rattle.model.specs.Text.{Bytes}
 use Rattle.model.specs.Reading.{Pieces, Reading, chosen}
 use Rattle.model.specs.Load.{Macro, noMacro, templates, Loaded, Load, refused, loaded, load}
 use Rattle.model.specs.Machine.{Result, run}
+use Rattle.model.specs.Places.{placesTaken}
 
 -- 1 where the node row is below 2,048
 unfoldable pub shortRow : ℕ → Bool
 shortRow rows = ltb rows nodesMost
+
+-- 1 where the row of dead places is below 51,456 bytes
+unfoldable pub shortDead : ℕ → Bool
+shortDead dead = ltb dead deadLeast
 
 -- ---- check
 
@@ -41,35 +46,38 @@ startsOf m at (b ∷ t) (p ∷ ps) = elim (eqb b (m .placeholder)) [ true ↦ at
 unfoldable pub nine : List ℕ → List ℕ
 nine ns = ns ++ replicate (9 - length ns) 0
 
--- a number and a line, with no pieces
+-- a number and a line, with no pieces and no place taken up
 unfoldable pub noPieces : ℕ → ℕ → Fitted
-noPieces k n = record { number = k; line = n; start = nine []; length = nine [] }
+noPieces k n = record { number = k; line = n; start = nine []; length = nine []; places = 0 }
 
-unfoldable pub fittedAs : Loaded → Option Reading → Fitted
-fittedAs t none = noPieces 0 0
-fittedAs t (some r) =
+-- a reading or none, and the number of places that were taken up
+unfoldable pub fittedAs : Loaded → Option Reading → ℕ → Fitted
+fittedAs t none k = record { number = 0; line = 0; start = nine []; length = nine []; places = k }
+fittedAs t (some r) k =
     let x : Macro = getD (t .macros) (r .which) noMacro in
-    record { number = 0; line = x .line; start = nine (startsOf (t .marks) 0 (x .template) (r .pieces)); length = nine (map (λ p. length p) (r .pieces)) }
+    record { number = 0; line = x .line; start = nine (startsOf (t .marks) 0 (x .template) (r .pieces)); length = nine (map (λ p. length p) (r .pieces)); places = k }
 
 -- a line over 200 bytes gives 11
 unfoldable pub fittedIn : Bytes → Load → Fitted
 fittedIn line (refused k n) = noPieces k n
-fittedIn line (loaded t) = elim (ltb lineMost (length line)) [ true ↦ noPieces 11 0 | false ↦ fittedAs t (chosen (t .marks) (templates (t .macros)) line) ]
+fittedIn line (loaded t) =
+    let ts : List Bytes = templates (t .macros) in
+    elim (ltb lineMost (length line)) [ true ↦ noPieces 11 0 | false ↦ fittedAs t (chosen (t .marks) ts line) (placesTaken (t .marks) ts line) ]
 
--- a line, taken whole, fitted against the templates of a text
-unfoldable pub fitLine : ℕ → Bytes → Bytes → Fitted
-fitLine rows text line = elim (shortRow rows) [ true ↦ noPieces 1 0 | false ↦ fittedIn line (load text) ]
+-- a line, taken whole, fitted against the templates of a text, with lent rows of nodes and of dead places
+unfoldable pub fitLine : (rows dead : ℕ) → Bytes → Bytes → Fitted
+fitLine rows dead text line = elim (shortRow rows || shortDead dead) [ true ↦ noPieces 1 0 | false ↦ fittedIn line (load text) ]
 
 -- ---- run
 
--- 1 where the fuel isn't 1 to 1,000,000, the node row is below 2,048 or the store below 8,704
-unfoldable pub illegal : ℕ → ℕ → ℕ → Bool
-illegal fuel rows store = ltb fuel 1 || (ltb fuelMost fuel || (shortRow rows || ltb store storeLeast))
+-- 1 where the fuel isn't 1 to 1,000,000, the node row is below 2,048, the row of dead places below 51,456 or the store below 8,704
+unfoldable pub illegal : (fuel rows dead store : ℕ) → Bool
+illegal fuel rows dead store = ltb fuel 1 || (ltb fuelMost fuel || (shortRow rows || (shortDead dead || ltb store storeLeast)))
 
 -- a run with this fuel, and with rooms of these sizes
-unfoldable pub runText : (fuel rows room store : ℕ) → Bytes → Result
-runText fuel rows room store text =
-    elim (illegal fuel rows store) [
+unfoldable pub runText : (fuel rows dead room store : ℕ) → Bytes → Result
+runText fuel rows dead room store text =
+    elim (illegal fuel rows dead store) [
       | true ↦ record { number = 1; line = 0; events = 0; output = []; store = [] }
       | false ↦ run fuel room (load text)
     ]

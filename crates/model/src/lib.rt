@@ -36,6 +36,9 @@ pub const FUEL_MOST: u64 = 1000000;
 // The least length of a lent store: every listing fits.
 pub const STORE_LEAST: usize = 8704;
 
+// The least length of a lent row of dead places: a bit for each node at each position of a line.
+pub const DEAD_LEAST: usize = 51456;
+
 // A value of an expression, and the largest one; the least is one further below 0.
 pub type Integer = i64;
 
@@ -104,13 +107,15 @@ pub struct Checked {
     pub line: u64,
 }
 
-// What fitting a line answers: the template's line, and where each parameter's piece starts and how long it is.
+// What fitting a line answers: the template's line, where each parameter's piece starts and how long it is, and how many places were
+// taken up.
 #[repr(C)]
 pub struct Fitted {
     pub number: u64,
     pub line: u64,
     pub start: [u64; 9],
     pub length: [u64; 9],
+    pub places: u64,
 }
 
 // What a run answers: the lengths are of what was written to output and store.

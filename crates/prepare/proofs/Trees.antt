@@ -13,14 +13,13 @@ use Rattle.model.proofs.Loading.{brackets, load-legal}
 use Rattle.model.proofs.Nesting.{load-nested}
 use Rattle.model.proofs.Input.{text-short}
 use Rattle.nodes.specs.declared.Node.{Node}
-use Rattle.nodes.specs.Templates.{Represents}
-use Rattle.fit.proofs.Choose.{tree-of}
+use Rattle.nodes.specs.Templates.{Beginnings}
 use Rattle.macros.specs.Table.{templatesIn, macrosIn, Entries}
 use Rattle.macros.proofs.Table.{macros-templates}
 use Rattle.tree.specs.Built.{ReadyToBuild, Built}
 use Rattle.load.specs.declared.Loading.{Loading}
 use Rattle.load.specs.Answer.{loadedOf}
-use Rattle.load.proofs.Answer.{loads-loaded, loads-ready}
+use Rattle.load.proofs.Answer.{loads-loaded, loads-counted, loads-nodes, loads-ready}
 use Rattle.prepare.specs.declared.Tables.{Tables}
 use Rattle.prepare.specs.Prepares.{LoadsAll, HasTree, Prepares}
 
@@ -45,25 +44,38 @@ module _ {text : Bytes} {t : Tables} (h : LoadsAll text t) where
   pub can-build : {row : List Node} → r .number ≡ 0 → 2048 ≤ length row → Entries text (t .table) (r .count) × ReadyToBuild (r .marks .placeholder) listed row
   can-build z u = (h .inside z .entries, loads-ready h z u)
 
+  -- as many nodes are built as are counted
+  built-counted : (row : List Node) (c : ℕ) → r .number ≡ 0 → c ≤ length row → Built (r .marks) listed (take c row) → c ≡ r .nodes
+  built-counted row c z u b = omega (arith, b .count, length-take-le c row u, loads-counted h z)
+
   -- what is built is the tree of the text's templates
-  has-tree : (row : List Node) (c : ℕ) → r .number ≡ 0 → c ≤ length row → Built (r .marks) listed (take c row) → HasTree text t row
-  has-tree row c z u b =
-      let is : Represents (take c row) (map (elems (r .marks)) (templates macros)) =
-      subst (λ (ts : List Bytes). Represents (take c row) (map (elems (r .marks)) ts)) (sym same) (b .represents) in
+  has-tree : (row : List Node) → r .number ≡ 0 → r .nodes ≤ length row → Built (r .marks) listed (take (r .nodes) row) → HasTree text t row
+  has-tree row z u b =
+      let (pre, begins, apart) = b .begins in
       record {
         short = text-short text (loadedOf text (t .table) r) (loads-loaded h z);
         fits = record {
-          made = c;
           stands = record { within = u; tree = b .tree };
-          root = omega (arith, b .some-node, length-take-le c row u);
-          of = tree-of (r .marks) (take c row) (templates macros) is (legal z .1 .different) (brackets (r .marks) (legal z .0));
+          root = omega (arith, b .some-node, length-take-le (r .nodes) row u);
+          few = loads-nodes h z;
+          of = record {
+            pre = pre;
+            begins = subst (λ (ts : List Bytes). Beginnings (take (r .nodes) row) (map (elems (r .marks)) ts) pre) (sym same) begins;
+            apart = apart;
+            plain-root = b .plain-root;
+            no-holes = b .no-holes;
+            distinct = legal z .1 .different;
+            differ = brackets (r .marks) (legal z .0);
+          };
         };
         nested = load-nested text (loadedOf text (t .table) r) (loads-loaded h z);
       }
 
   -- a text that loads
   pub prepared : {row : List Node} {c : ℕ} → r .number ≡ 0 → (c ≤ length row) × Built (r .marks) listed (take c row) → Prepares text row t
-  prepared {row} {c} z (u, b) = record { all = h; has-tree = λ _. has-tree row c z u b }
+  prepared {row} {c} z (u, b) =
+      let e = built-counted row c z u b in
+      record { all = h; has-tree = λ _. has-tree row z (subst (λ (n : ℕ). n ≤ length row) e u) (subst (λ (n : ℕ). Built (r .marks) listed (take n row)) e b) }
 
   -- a text that is refused
   pub refused : {row : List Node} → ¬ (r .number ≡ 0) → Prepares text row t

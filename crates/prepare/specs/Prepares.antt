@@ -19,7 +19,7 @@ LoadsAll text t = Loads (load text) text (t .table) (t .loading)
 -- what an expansion needs of a loaded text, besides its table: the tree of its templates stands in the row
 pub record HasTree (text : Bytes) (t : Tables) (row : List Node) : Type 0 where
   pub short : length text ≤ textMost
-  pub fits : TreeAt (t .loading .marks) row (templates (loadedOf text (t .table) (t .loading) .macros))
+  pub fits : TreeAt (t .loading .marks) row (t .loading .nodes) (templates (loadedOf text (t .table) (t .loading) .macros))
   pub nested : BodiesOk (t .loading .marks) (loadedOf text (t .table) (t .loading) .macros)
 
 -- t is what loading the text and building its tree in the row of nodes comes to

@@ -163,28 +163,42 @@ module _ {o : Bytes} {w : ℕ} (name : Bytes) (x : Checked) where
 
 -- ---- a row of fit_line
 
-module _ {o : Bytes} {w : ℕ} (f : Fitted) where
-  fit-parts : RoomFor o w (fitRow f) → RoomFor o w (decimal (f .number) ++ spaced (f .line) ++ pieceRow (f .start) (f .length) ++ (10 ∷ []))
-  unfolding fitRow
-  fit-parts h = h
+module _ {o : Bytes} {w : ℕ} (n : ℕ) where
+  -- the last number, and the row's end
+  pub last-room : RoomFor o w (spaced n ++ (10 ∷ [])) → RoomFor o w (spaced n)
+  last-room h = room-first (spaced n) (10 ∷ []) h
 
-  pub fit-number : RoomFor o w (fitRow f) → RoomFor o w (decimal (f .number))
-  fit-number h = room-1 (decimal (f .number)) (spaced (f .line)) (pieceRow (f .start) (f .length)) (10 ∷ []) (fit-parts h)
+  pub end-room : {a : ℕ} {o₁ : Bytes} → RoomFor o w (spaced n ++ (10 ∷ [])) → Prints o w (spaced n) a o₁ → RoomFor o₁ a (10 ∷ [])
+  end-room h p = room-next (10 ∷ []) h p
 
-  module _ {a : ℕ} {o₁ : Bytes} where
-    pub fit-line : RoomFor o w (fitRow f) → Prints o w (decimal (f .number)) a o₁ → RoomFor o₁ a (spaced (f .line))
-    fit-line h p = room-2 (decimal (f .number)) (spaced (f .line)) (pieceRow (f .start) (f .length)) (10 ∷ []) (fit-parts h) p
+module _ (f : Fitted) where
+  -- the last number and the end as one part
+  last-part : Bytes
+  last-part = spaced (f .places) ++ (10 ∷ [])
 
-    module _ {b : ℕ} {o₂ : Bytes} where
-      pub fit-pieces : RoomFor o w (fitRow f) → Prints o w (decimal (f .number)) a o₁ → Prints o₁ a (spaced (f .line)) b o₂ → RoomFor o₂ b (pieceRow (f .start) (f .length))
-      fit-pieces h p q = room-3 (decimal (f .number)) (spaced (f .line)) (pieceRow (f .start) (f .length)) (10 ∷ []) (fit-parts h) p q
+  fit-is : fitRow f ≡ decimal (f .number) ++ spaced (f .line) ++ pieceRow (f .start) (f .length) ++ last-part
+  unfolding fitRow last-part
+  fit-is = append-assoc (decimal (f .number) ++ spaced (f .line) ++ pieceRow (f .start) (f .length)) (spaced (f .places)) (10 ∷ [])
 
-      module _ {c : ℕ} {o₃ : Bytes} where
-        pub fit-newline : RoomFor o w (fitRow f) → Prints o w (decimal (f .number)) a o₁ → Prints o₁ a (spaced (f .line)) b o₂
-            → Prints o₂ b (pieceRow (f .start) (f .length)) c o₃ → RoomFor o₃ c (10 ∷ [])
-        fit-newline h p q r = room-4 (decimal (f .number)) (spaced (f .line)) (pieceRow (f .start) (f .length)) (10 ∷ []) (fit-parts h) p q r
+  module _ {o : Bytes} {w : ℕ} where
+    pub fit-number : RoomFor o w (fitRow f) → RoomFor o w (decimal (f .number))
+    fit-number h = room-1 (decimal (f .number)) (spaced (f .line)) (pieceRow (f .start) (f .length)) last-part (room-as fit-is h)
 
-        pub fit-prints : {r : ℕ} {o₄ : Bytes} → Prints o w (decimal (f .number)) a o₁ → Prints o₁ a (spaced (f .line)) b o₂
-            → Prints o₂ b (pieceRow (f .start) (f .length)) c o₃ → Prints o₃ c (10 ∷ []) r o₄ → Prints o w (fitRow f) r o₄
-        unfolding fitRow
-        fit-prints p q r s = prints-4 p q r s
+    module _ {a : ℕ} {o₁ : Bytes} where
+      pub fit-line : RoomFor o w (fitRow f) → Prints o w (decimal (f .number)) a o₁ → RoomFor o₁ a (spaced (f .line))
+      fit-line h p = room-2 (decimal (f .number)) (spaced (f .line)) (pieceRow (f .start) (f .length)) last-part (room-as fit-is h) p
+
+      module _ {b : ℕ} {o₂ : Bytes} where
+        pub fit-pieces : RoomFor o w (fitRow f) → Prints o w (decimal (f .number)) a o₁ → Prints o₁ a (spaced (f .line)) b o₂ → RoomFor o₂ b (pieceRow (f .start) (f .length))
+        fit-pieces h p q = room-3 (decimal (f .number)) (spaced (f .line)) (pieceRow (f .start) (f .length)) last-part (room-as fit-is h) p q
+
+        module _ {c : ℕ} {o₃ : Bytes} where
+          pub fit-last : RoomFor o w (fitRow f) → Prints o w (decimal (f .number)) a o₁ → Prints o₁ a (spaced (f .line)) b o₂
+              → Prints o₂ b (pieceRow (f .start) (f .length)) c o₃ → RoomFor o₃ c (spaced (f .places) ++ (10 ∷ []))
+          unfolding last-part
+          fit-last h p q r = room-4 (decimal (f .number)) (spaced (f .line)) (pieceRow (f .start) (f .length)) last-part (room-as fit-is h) p q r
+
+          pub fit-prints : {r : ℕ} {o₄ : Bytes} → Prints o w (decimal (f .number)) a o₁ → Prints o₁ a (spaced (f .line)) b o₂
+              → Prints o₂ b (pieceRow (f .start) (f .length)) c o₃ → Prints o₃ c (spaced (f .places) ++ (10 ∷ [])) r o₄ → Prints o w (fitRow f) r o₄
+          unfolding last-part
+          fit-prints p q r s = prints-as (sym fit-is) (prints-4 p q r s)

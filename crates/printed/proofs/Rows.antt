@@ -34,15 +34,15 @@ written-prints {o} {s} {w} {o′} h =
 
 -- a run in the first 65,536 bytes of out
 module _ (text out : Bytes) {store output′ store′ : Bytes} {r : Ran}
-    (x : Runs (runText 1000000 2048 (length (take 65536 out)) (length store) text) (take 65536 out) store r output′ store′)
+    (x : Runs (runText 1000000 2048 51456 (length (take 65536 out)) (length store) text) (take 65536 out) store r output′ store′)
     (h : 65603 ≤ length out) (s : length store ≡ 8704) (kept : length output′ ≡ length (take 65536 out)) where
   whole : Result
-  whole = runText 1000000 2048 65536 8704 text
+  whole = runText 1000000 2048 51456 65536 8704 text
 
   ran : Runs whole (take 65536 out) store r output′ store′
   unfolding whole
-  ran = subst (λ (n : ℕ). Runs (runText 1000000 2048 65536 n text) (take 65536 out) store r output′ store′) s
-      (subst (λ (n : ℕ). Runs (runText 1000000 2048 n (length store) text) (take 65536 out) store r output′ store′) (length-take-le 65536 out (omega arith)) x)
+  ran = subst (λ (n : ℕ). Runs (runText 1000000 2048 51456 65536 n text) (take 65536 out) store r output′ store′) s
+      (subst (λ (n : ℕ). Runs (runText 1000000 2048 51456 n (length store) text) (take 65536 out) store r output′ store′) (length-take-le 65536 out (omega arith)) x)
 
   short : length (whole .output) ≤ 65536
   short =
@@ -130,7 +130,7 @@ module _ {o : Bytes} {w : ℕ} {ss ls : List ℕ} {i k : ℕ} {o′ : Bytes} (p 
 
 -- ---- the lines of a file
 
-fits-room : {o : Bytes} (text file : Bytes) → 44 * (length file + 1) ≤ length o → RoomFor o 0 (fitPrints text file)
+fits-room : {o : Bytes} (text file : Bytes) → 49 * (length file + 1) ≤ length o → RoomFor o 0 (fitPrints text file)
 fits-room text file h = record { fits = omega (arith, fit-prints-long text file) }
 
 -- the rows of the lines before place `at` are there
@@ -145,7 +145,7 @@ unfolding fitPrints
 rowing-none = record { done = []; prints = prints-none (omega arith); rest = refl; within = omega arith }
 
 module _ {text file o : Bytes} {at k : ℕ} {o′ : Bytes} (p : Rowing text file o at k o′) {end next : ℕ} (l : LineAt file at end next) {f : Fitted}
-    (e : f ≡ fitLine 2048 text (part file at end)) where
+    (e : f ≡ fitLine 2048 51456 text (part file at end)) where
   -- the next row, and those after it
   next-row : p .done ++ (fitRow f ++ fitRows text (lines (drop next file))) ≡ fitPrints text file
   unfolding fitRows
@@ -153,7 +153,7 @@ module _ {text file o : Bytes} {at k : ℕ} {o′ : Bytes} (p : Rowing text file
       ap (λ (x : Fitted). p .done ++ (fitRow x ++ fitRows text (lines (drop next file)))) e
       ∙ ap (λ (x : List Bytes). p .done ++ fitRows text x) (sym (l .is)) ∙ p .rest
 
-  pub row-room : 44 * (length file + 1) ≤ length o → RoomFor o′ k (fitRow f)
+  pub row-room : 49 * (length file + 1) ≤ length o → RoomFor o′ k (fitRow f)
   row-room h = left-room (fitRow f) _ (fits-room text file h) (p .prints) next-row
 
   pub rowing-more : {k₁ : ℕ} {o₁ : Bytes} → Prints o′ k (fitRow f) k₁ o₁ → Rowing text file o next k₁ o₁

@@ -60,7 +60,7 @@ refused-runs fuel {output = output} p z e = same-runs (ap (run fuel (length outp
 
 -- ---- a text that is prepared is ready for its expansion
 
-pub ready : {text : Bytes} {row : List Node} {t : Tables} {bodies : List ℕ} → Prepares text row t → t .loading .number ≡ 0 → HasBodies (t .table) bodies → ReadyToRun text row bodies (t .loading)
+pub ready : {text : Bytes} {row : List Node} {t : Tables} {bodies : List ℕ} → Prepares text row t → t .loading .number ≡ 0 → HasBodies (t .table) bodies → ReadyToRun text row (t .loading .nodes) bodies (t .loading)
 ready {text} {row} {t} p z b =
     let l = t .loading in
     let h = p .all in
@@ -97,8 +97,8 @@ ended-as {q} {memory} {store} {store′} {e = e} h z u v w x y =
       lists = subst (λ (k : ℕ). Written store (listing (held (q .state .index .count) memory)) k store′) (sym y) (h .is);
     }
 
-module _ {text : Bytes} {row : List Node} {bodies : List ℕ} {l : Loading} (y : ReadyToRun text row bodies l) where
-  pub prepared : Prepared (l .marks) text row bodies
+module _ {text : Bytes} {row : List Node} {count : ℕ} {bodies : List ℕ} {l : Loading} (y : ReadyToRun text row count bodies l) where
+  pub prepared : Prepared (l .marks) text row count bodies
   prepared = record { table = y .table; book = y .book }
 
   module _ {x : Index} {fuel : ℕ} {s : State} (is : s ≡ startOf l x fuel) where
@@ -111,13 +111,13 @@ module _ {text : Bytes} {row : List Node} {bodies : List ℕ} {l : Loading} (y :
           subst (λ (z : State). Sound z output memory) (sym is)
           (record { written = omega arith; kept = h .kept; symbols = omega arith; calls = omega arith; total = omega arith })
 
-      module _ {output : Bytes} {q : Answer} {output′ memory′ : Bytes} (e : Expands (l .marks) text row bodies s output memory q output′ memory′) where
+      module _ {output : Bytes} {q : Answer} {output′ memory′ : Bytes} (e : Expands (l .marks) text row count bodies s output memory q output′ memory′) where
         begins : _≡_ {A = Next} (running (initial (y .table))) (running (stateOf text none [] (startOf l x fuel) output memory))
         unfolding initial
         begins = λ i. running (record { input = y .input i; line = y .last i; pending = none; frames = []; calls = 0; shared = record { symbols = 0; store = sym (h .is) i; output = [] }; events = 0 })
 
-        expands : Expands (l .marks) text row bodies (startOf l x fuel) output memory q output′ memory′
-        expands = subst (λ (z : State). Expands (l .marks) text row bodies z output memory q output′ memory′) is e
+        expands : Expands (l .marks) text row count bodies (startOf l x fuel) output memory q output′ memory′
+        expands = subst (λ (z : State). Expands (l .marks) text row count bodies z output memory q output′ memory′) is e
 
         -- what the run of the loaded text comes to
         whole : resultAfter q output′ memory′ ≡ run fuel (length output) (load text)

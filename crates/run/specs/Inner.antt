@@ -23,11 +23,11 @@ use Rattle.answer.specs.Answers.{turn, endNumber}
 abbrev pub refusal : ℕ → ℕ → Result
 refusal k n = record { number = k; line = n; events = 0; output = []; store = [] }
 
--- a text is loaded: the tree of its templates stands in the row, and `bodies` says where their bodies start
-pub record ReadyToRun (text : Bytes) (row : List Node) (bodies : List ℕ) (r : Loading) : Type 0 where
+-- a text is loaded: the tree of its templates stands in the row, with `count` nodes, and `bodies` says where their bodies start
+pub record ReadyToRun (text : Bytes) (row : List Node) (count : ℕ) (bodies : List ℕ) (r : Loading) : Type 0 where
   pub table : Loaded
   pub loads : load text ≡ loaded table
-  pub book : Book (r .marks) text row bodies table
+  pub book : Book (r .marks) text row count bodies table
   pub last : table .last ≡ r .line
   pub input : table .input ≡ lines (drop (r .input) text)
   pub at : r .input ≤ length text

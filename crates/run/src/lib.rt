@@ -2,7 +2,7 @@
 // the caller's output, and the names that were stored are listed in the caller's store.
 ghost use mathlib.Core.Path.{_≡_};
 ghost use mathlib.Core.List.{[]};
-ghost use Prim.Native.Nat.{_≤_, _<_};
+ghost use Prim.Native.Nat.{_≤_};
 ghost use lib.ListN.{length};
 ghost use Rattle.model.specs.Load as Load;
 ghost use Rattle.model.specs.Machine as Machine;
@@ -11,7 +11,7 @@ ghost use Rattle.store.specs.Memory.{Kept, Holds};
 ghost use Rattle.prepare.specs.Prepares.{Prepares};
 ghost use Rattle.model.specs.Runs.{Runs};
 ghost use Rattle.run.specs.Inner.{refusal, ReadyToRun, startOf, EndsRun};
-ghost use Rattle.model.specs.Limits.{storeLeast, fuelMost};
+ghost use Rattle.model.specs.Limits.{storeLeast, deadLeast, fuelMost};
 use answer::Answer;
 use answer::end_number;
 use buffer::widen;
@@ -77,6 +77,8 @@ fn end(q: Answer, memory: &[u8], store: &mut [u8]) -> Ran
 fn run_loaded(
     text: &[u8],
     nodes: &[Node],
+    count: usize,
+    dead: &mut [u8],
     bodies: &[usize],
     loading: Loading,
     fuel: usize,
@@ -85,13 +87,23 @@ fn run_loaded(
     index: Index,
     store: &mut [u8],
 ) -> Ran
-    requires { ⌜ ReadyToRun (now text) (now nodes) (now bodies) loading
-        × Holds (now memory) index [] × (fuel ≤ fuelMost) × (storeLeast ≤ length (now store)) ⌝ }
+    requires { ⌜ ReadyToRun (now text) (now nodes) count (now bodies) loading
+        × Holds (now memory) index [] × (fuel ≤ fuelMost) × (storeLeast ≤ length (now store)) × (deadLeast ≤ length (now dead)) ⌝ }
     ensures { λ r. ⌜ Runs (Machine.run fuel (length (now (output .entry))) (Load.load (now (text .entry))))
         (now (output .entry)) (now (store .entry)) r (now (output .exit)) (now (store .exit)) ⌝ }
 {
     let s = start(loading, index, fuel);
-    let q = expand_input(loading.marks, text, nodes, bodies, output, memory, s);
+    let q = expand_input(
+        loading.marks,
+        text,
+        nodes,
+        count,
+        dead,
+        bodies,
+        output,
+        memory,
+        s,
+    );
     end(q, memory, store)
 }
 
@@ -99,12 +111,13 @@ fn run_loaded(
 pub fn run_prepared(
     text: &[u8],
     nodes: &[Node],
+    dead: &mut [u8],
     t: Tables,
     fuel: usize,
     output: &mut [u8],
     store: &mut [u8],
 ) -> Ran
-    requires { ⌜ Prepares (now text) (now nodes) t × (fuel ≤ fuelMost) × (storeLeast ≤ length (now store)) ⌝ }
+    requires { ⌜ Prepares (now text) (now nodes) t × (fuel ≤ fuelMost) × (storeLeast ≤ length (now store)) × (deadLeast ≤ length (now dead)) ⌝ }
     ensures { λ r. ⌜ Runs (Machine.run fuel (length (now (output .entry))) (Load.load (now (text .entry))))
         (now (output .entry)) (now (store .entry)) r (now (output .exit)) (now (store .exit)) ⌝ }
 {
@@ -119,6 +132,8 @@ pub fn run_prepared(
     run_loaded(
         text,
         nodes,
+        loading.nodes,
+        dead,
         &bodies,
         loading,
         fuel,

@@ -1,27 +1,29 @@
 -- What the public calls answer, from what loading a text and fitting a line ensure.
 use mathlib.Core.Path.{_≡_, refl, sym, _∙_, ap, subst}
-use mathlib.Core.Bool.{Bool, true, false}
+use mathlib.Core.Bool.{Bool, true, false, _||_}
+use mathlib.Core.Option.{Option}
 use mathlib.Core.List.{List, [], _∷_}
 use Prim.Native.Nat.{ℕ, zero, suc, _≤_, _<_}
 use native.Mathlib.Omega.{arith}
+use lib.Dec.{ltb}
 use lib.ListN.{length, getD, take, replicate}
 use lib.Seq.{take-length}
 use borrow.Author.Tests.{ltb-false, lt-ltb, le-ltb}
 use Rattle.model.specs.declared.Checked.{Checked}
 use Rattle.model.specs.declared.Fitted.{Fitted}
 use Rattle.model.specs.Text.{Bytes}
-use Rattle.model.specs.Reading.{chosen}
+use Rattle.model.specs.Reading.{Reading, chosen}
 use Rattle.model.specs.Load.{Macro, noMacro, templates, load, loaded, Loaded}
-use Rattle.model.specs.Results.{shortRow, checkedAs, checkText, startsOf, nine, noPieces, fittedAs, fittedIn, fitLine}
+use Rattle.model.specs.Results.{shortRow, shortDead, checkedAs, checkText, startsOf, nine, noPieces, fittedAs, fittedIn, fitLine}
+use Rattle.model.specs.Places.{placesTaken}
 use Rattle.model.specs.FirstReading.{FitsFirst}
 use Rattle.model.proofs.Choices.{false-not-true}
 use Rattle.model.proofs.Theorems.{fit-is-first}
-use Rattle.model.proofs.Choices.{when-true, when-false}
+use Rattle.model.proofs.Choices.{when-true, when-false, or-false}
 use Rattle.model.proofs.Loading.{templates-length}
 use Rattle.nodes.specs.declared.Node.{Node}
 use Rattle.fit.specs.declared.Choice.{Choice}
-use Rattle.fit.specs.Outcome.{Asks}
-use Rattle.fit.specs.Chosen.{Chosen, Chooses}
+use Rattle.fit.specs.Chosen.{Fits, Chosen, Chooses}
 use Rattle.macros.specs.Table.{Table, lineIn, macroIn, macrosIn}
 use Rattle.macros.proofs.Table.{macros-in-length, macros-in-at}
 use Rattle.load.specs.Answer.{loadedOf}
@@ -29,11 +31,7 @@ use Rattle.load.proofs.Answer.{loads-loaded, loads-refused}
 use Rattle.prepare.specs.declared.Tables.{Tables}
 use Rattle.prepare.specs.Prepares.{LoadsAll, Prepares}
 use Rattle.stage2.specs.Answers.{Answers}
-
--- a row of nodes that is not too short
-pub row-legal : {rows : ℕ} {b : Bool} → b ≡ shortRow rows → b ≡ false → 2048 ≤ rows
-unfolding shortRow
-row-legal h e = ltb-false _ 2048 (sym h ∙ e)
+use Rattle.stage2.specs.Rooms.{TestsRows}
 
 -- ---- check
 
@@ -58,33 +56,40 @@ checked {text} {t} {k} {n} h u v = by (t .loading .number) refl
 
 -- ---- fit
 
-module _ (rows : ℕ) (text line : Bytes) {b : Bool} (h : b ≡ shortRow rows) where
-  pub fit-short : {f : Fitted} → b ≡ true → f ≡ noPieces 1 0 → f ≡ fitLine rows text line
-  unfolding fitLine
-  fit-short e a = a ∙ sym (when-true _ _ (sym h ∙ e))
+-- the test of both rows
+pub rows-tested : (rows dead : ℕ) → TestsRows rows dead (ltb rows 2048 || ltb dead 51456)
+unfolding shortRow shortDead
+rows-tested rows dead = record { is = refl; nodes = λ e. ltb-false _ _ (or-false (ltb rows 2048) _ e .0); places = λ e. ltb-false _ _ (or-false (ltb rows 2048) _ e .1) }
 
-  pub fit-legal : {f : Fitted} → b ≡ false → f ≡ fittedIn line (load text) → f ≡ fitLine rows text line
+-- a row that is too short gives 1
+module _ (rows dead : ℕ) (text line : Bytes) {b : Bool} (h : TestsRows rows dead b) where
+  pub fit-short : {f : Fitted} → b ≡ true → f ≡ noPieces 1 0 → f ≡ fitLine rows dead text line
   unfolding fitLine
-  fit-legal e a = a ∙ sym (when-false _ _ (sym h ∙ e))
+  fit-short e a = a ∙ sym (when-true _ _ (sym (h .is) ∙ e))
+
+  pub fit-legal : {f : Fitted} → b ≡ false → f ≡ fittedIn line (load text) → f ≡ fitLine rows dead text line
+  unfolding fitLine
+  fit-legal e a = a ∙ sym (when-false _ _ (sym (h .is) ∙ e))
 
 -- the first-reading rule
-pub first-rule : (rows : ℕ) (text line : Bytes) {f : Fitted} → f ≡ fitLine rows text line
-    → (t : Loaded) → load text ≡ loaded t → 2048 ≤ rows → length line ≤ 200 → FitsFirst t line f
-first-rule rows text line e t l u v = subst (FitsFirst t line) (sym e) (fit-is-first text t l line rows u v)
+pub first-rule : (rows dead : ℕ) (text line : Bytes) {f : Fitted} → f ≡ fitLine rows dead text line
+    → (t : Loaded) → load text ≡ loaded t → 2048 ≤ rows → 51456 ≤ dead → length line ≤ 200 → FitsFirst t line f
+first-rule rows dead text line e t l u d v = subst (FitsFirst t line) (sym e) (fit-is-first text t l line rows dead u d v)
 
 -- the answer with no pieces
-pub no-pieces : {k n k′ n′ : ℕ} → k ≡ k′ → n ≡ n′ → record { number = k; line = n; start = replicate 9 0; length = replicate 9 0 } ≡ noPieces k′ n′
+pub no-pieces : {k n k′ n′ : ℕ} → k ≡ k′ → n ≡ n′ → record { number = k; line = n; start = replicate 9 0; length = replicate 9 0; places = 0 } ≡ noPieces k′ n′
 unfolding noPieces nine
-no-pieces u v = λ i. record { number = u i; line = v i; start = replicate 9 0; length = replicate 9 0 }
+no-pieces u v = λ i. record { number = u i; line = v i; start = replicate 9 0; length = replicate 9 0; places = 0 }
 
 -- the answer for a choice
 module _ {t : Table} {c : Choice} where
-  pub answer-none : {f : Fitted} → c .found ≡ false → f ≡ noPieces 0 0 → Answers t c f
-  answer-none e h = record { no-call = λ _. h; call = λ u. false-not-true (sym e ∙ u) }
+  pub answer-none : {p : ℕ} → c .found ≡ false → p ≡ c .places → Answers t c (record { number = 0; line = 0; start = replicate 9 0; length = replicate 9 0; places = p })
+  unfolding nine
+  answer-none e p = record { no-call = λ _. λ i. record { number = 0; line = 0; start = replicate 9 0; length = replicate 9 0; places = p i }; call = λ u. false-not-true (sym e ∙ u) }
 
-  pub answer-call : {k n : ℕ} {s l : List ℕ} → c .found ≡ true → k ≡ lineIn t (c .template) → n ≡ k → s ≡ c .starts → l ≡ c .lens
-      → Answers t c (record { number = 0; line = n; start = s; length = l })
-  answer-call e k n s l = record { no-call = λ u. false-not-true (sym u ∙ e); call = λ _. λ i. record { number = 0; line = (n ∙ k) i; start = s i; length = l i } }
+  pub answer-call : {k n p : ℕ} {s l : List ℕ} → c .found ≡ true → k ≡ lineIn t (c .template) → n ≡ k → s ≡ c .starts → l ≡ c .lens → p ≡ c .places
+      → Answers t c (record { number = 0; line = n; start = s; length = l; places = p })
+  answer-call e k n s l p = record { no-call = λ u. false-not-true (sym u ∙ e); call = λ _. λ i. record { number = 0; line = (n ∙ k) i; start = s i; length = l i; places = p i } }
 
 template-at : (ms : List Macro) (k : ℕ) → getD (templates ms) k [] ≡ getD ms k noMacro .template
 unfolding templates noMacro
@@ -108,19 +113,24 @@ module _ {text : Bytes} {t : Tables} {row : List Node} (line : Bytes) (p : Prepa
     fit-long l e = e ∙ sym (when-true _ _ (lt-ltb 200 (length line) l)) ∙ ap (fittedIn line) (sym (loads-loaded (p .all) z))
 
     -- any other
-    fit-loaded : length line ≤ 200 → fittedAs (loadedOf text (t .table) (t .loading)) (chosen (t .loading .marks) (templates (macros text t)) line) ≡ fittedIn line (load text)
+    fit-loaded : length line ≤ 200 → fittedAs (loadedOf text (t .table) (t .loading)) (chosen (t .loading .marks) (templates (macros text t)) line) (placesTaken (t .loading .marks) (templates (macros text t)) line)
+        ≡ fittedIn line (load text)
     unfolding fittedIn
     fit-loaded l = sym (when-false _ _ (le-ltb 200 (length line) l)) ∙ ap (fittedIn line) (sym (loads-loaded (p .all) z))
 
-    -- the tree is there to be searched, from its root and the line's start on
-    pub asks-whole : length line ≤ 200 → Asks row line (length line) 0 0
-    asks-whole l =
+    -- the tree is there to be searched, with room for its dead places
+    pub asks-whole : {dead : Bytes} → 51456 ≤ length dead → length line ≤ 200 → Fits row (t .loading .nodes) dead line (length line)
+    asks-whole d l =
         let x = p .has-tree z .fits in
-        record { made = x .made; stands = x .stands; there = x .root; low = omega arith; high = omega arith; short = omega (arith, l) }
+        record { stands = x .stands; root = x .root; few = x .few; high = omega arith; short = l; room = d }
 
-    module _ {c : Choice} (chose : Chooses (t .loading .marks) row (take (length line) line) c) where
-      h : Chooses (t .loading .marks) row line c
-      h = subst (λ (s : Bytes). Chooses (t .loading .marks) row s c) (take-length line) chose
+    module _ {c : Choice} (chose : Chooses (t .loading .marks) row (t .loading .nodes) (take (length line) line) c) where
+      h : Chooses (t .loading .marks) row (t .loading .nodes) line c
+      h = subst (λ (s : Bytes). Chooses (t .loading .marks) row (t .loading .nodes) s c) (take-length line) chose
+
+      -- the places that were taken up
+      taken : c .places ≡ placesTaken (t .loading .marks) (templates (macros text t)) line
+      taken = h .places (templates (macros text t)) (p .has-tree z .fits)
 
       -- the chosen reading, where there is one
       which : c .found ≡ true → Chosen (t .loading .marks) (templates (macros text t)) line c
@@ -133,11 +143,14 @@ module _ {text : Bytes} {t : Tables} {row : List Node} (line : Bytes) (p : Prepa
       pub template-within : c .found ≡ true → c .template < 128
       template-within e = omega (arith, place e, p .all .inside z .entries .few)
 
-      no-call : {f : Fitted} → length line ≤ 200 → c .found ≡ false → f ≡ noPieces 0 0 → f ≡ fittedIn line (load text)
+      no-call : {f : Fitted} → length line ≤ 200 → c .found ≡ false → f ≡ record { number = 0; line = 0; start = nine []; length = nine []; places = c .places } → f ≡ fittedIn line (load text)
       unfolding fittedAs
-      no-call l e a = a ∙ ap (fittedAs (loadedOf text (t .table) (t .loading))) (sym (h .no-call e (templates (macros text t)) (p .has-tree z .fits))) ∙ fit-loaded l
+      no-call l e a =
+          a ∙ (λ i. record { number = 0; line = 0; start = nine []; length = nine []; places = taken i })
+          ∙ ap (λ (o : Option Reading). fittedAs (loadedOf text (t .table) (t .loading)) o (placesTaken (t .loading .marks) (templates (macros text t)) line))
+          (sym (h .no-call e (templates (macros text t)) (p .has-tree z .fits))) ∙ fit-loaded l
 
-      call : {f : Fitted} → length line ≤ 200 → c .found ≡ true → f ≡ record { number = 0; line = lineIn (t .table) (c .template); start = c .starts; length = c .lens }
+      call : {f : Fitted} → length line ≤ 200 → c .found ≡ true → f ≡ record { number = 0; line = lineIn (t .table) (c .template); start = c .starts; length = c .lens; places = c .places }
           → f ≡ fittedIn line (load text)
       unfolding fittedAs
       call l e a =
@@ -147,8 +160,8 @@ module _ {text : Bytes} {t : Tables} {row : List Node} (line : Bytes) (p : Prepa
           let y : getD (templates (macros text t)) (c .template) [] ≡ getD (macros text t) (w .reading .which) noMacro .template =
           template-at (macros text t) (c .template) ∙ ap (λ (k : ℕ). getD (macros text t) k noMacro .template) (sym (w .which)) in
           let starts = w .starts ∙ ap (λ (q : Bytes). nine (startsOf (t .loading .marks) 0 q (w .reading .pieces))) y in
-          a ∙ (λ i. record { number = 0; line = x i .line; start = starts i; length = w .lens i })
-          ∙ ap (fittedAs (loadedOf text (t .table) (t .loading))) (sym (w .is)) ∙ fit-loaded l
+          a ∙ (λ i. record { number = 0; line = x i .line; start = starts i; length = w .lens i; places = taken i })
+          ∙ ap (λ (o : Option Reading). fittedAs (loadedOf text (t .table) (t .loading)) o (placesTaken (t .loading .marks) (templates (macros text t)) line)) (sym (w .is)) ∙ fit-loaded l
 
       -- what the choice comes to
       pub fit-chosen : {f : Fitted} → length line ≤ 200 → Answers (t .table) c f → f ≡ fittedIn line (load text)

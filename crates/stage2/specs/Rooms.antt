@@ -1,13 +1,20 @@
--- The test of a run's fuel and rooms.
+-- The tests of lent rows, and of a run's fuel and rooms.
 use mathlib.Core.Path.{_≡_}
-use mathlib.Core.Bool.{Bool, false}
+use mathlib.Core.Bool.{Bool, false, _||_}
 use Prim.Native.Nat.{ℕ, _≤_}
-use Rattle.model.specs.Limits.{nodesMost, storeLeast, fuelMost}
-use Rattle.model.specs.Results.{illegal}
+use Rattle.model.specs.Limits.{nodesMost, storeLeast, deadLeast, fuelMost}
+use Rattle.model.specs.Results.{shortRow, shortDead, illegal}
+
+-- whether a row of nodes or a row of dead places is too short
+pub record TestsRows (rows dead : ℕ) (r : Bool) : Type 0 where
+  pub is : r ≡ (shortRow rows || shortDead dead)
+  pub nodes : r ≡ false → nodesMost ≤ rows
+  pub places : r ≡ false → deadLeast ≤ dead
 
 -- whether fuel and rooms are illegal
-pub record TestsRooms (fuel rows store : ℕ) (r : Bool) : Type 0 where
-  pub is : r ≡ illegal fuel rows store
+pub record TestsRooms (fuel rows dead store : ℕ) (r : Bool) : Type 0 where
+  pub is : r ≡ illegal fuel rows dead store
   pub few : r ≡ false → fuel ≤ fuelMost
   pub nodes : r ≡ false → nodesMost ≤ rows
+  pub places : r ≡ false → deadLeast ≤ dead
   pub room : r ≡ false → storeLeast ≤ store

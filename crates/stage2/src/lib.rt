@@ -1,5 +1,6 @@
 // The public calls of STAGE2 (document 01, "Events, store and result"): check a text, fit a line against its templates, and run it.
-// Each takes the text itself and a lent row of nodes, whose contents are free. No public function has a `requires`.
+// Each takes the text itself and a lent row of nodes, and fit and run a lent row of dead places; what these rows hold is free. No public
+// function has a `requires`.
 // `&[Node]` is not covered by the checker's own account of a function: check, fit, fit_prepared and run are proved by walks.
 ghost use mathlib.Core.Path.{_≡_};
 ghost use Prim.Native.Nat.{_≤_, _<_};
@@ -13,13 +14,14 @@ ghost use Rattle.prepare.specs.Prepares.{Prepares};
 ghost use Rattle.model.specs.Runs.{Runs};
 ghost use Rattle.model.specs.Demands.{FollowsExpansion};
 ghost use Rattle.stage2.specs.Answers.{Answers};
-ghost use Rattle.stage2.specs.Rooms.{TestsRooms};
-ghost use Rattle.model.specs.Limits.{macrosMost};
+ghost use Rattle.stage2.specs.Rooms.{TestsRows, TestsRooms};
+ghost use Rattle.model.specs.Limits.{macrosMost, deadLeast};
 use buffer::widen;
 use fit::Choice;
 use fit::first_reading;
 use macros::line_of;
 use model::Checked;
+use model::DEAD_LEAST;
 use model::FUEL_MOST;
 use model::Fitted;
 use model::LINE_MOST;
@@ -57,6 +59,13 @@ fn is_short(rows: usize) -> bool
     rows < NODES_MOST
 }
 
+// Whether that row, or a row of so many bytes for dead places, is.
+fn lack_room(rows: usize, dead: usize) -> bool
+    ensures { λ r. ⌜ TestsRows rows dead r ⌝ }
+{
+    (rows < NODES_MOST) | (dead < DEAD_LEAST)
+}
+
 // A text checked, with a legal row of nodes.
 fn check_in(text: &[u8]) -> Checked
     ensures { λ r. ⌜ r ≡ checkedAs (Load.load (now (text .entry))) ⌝ }
@@ -79,7 +88,7 @@ pub fn check(text: &[u8], nodes: &mut [Node]) -> Checked
     check_in(text)
 }
 
-// A number and a line, with no pieces.
+// A number and a line, with no pieces and no place taken up.
 fn no_pieces(number: usize, line: usize) -> Fitted
     ensures { λ r. ⌜ r ≡ noPieces number line ⌝ }
 {
@@ -88,6 +97,7 @@ fn no_pieces(number: usize, line: usize) -> Fitted
         line: widen(line),
         start: [0; 9],
         length: [0; 9],
+        places: 0,
     }
 }
 
@@ -106,14 +116,21 @@ fn answer_choice(t: Tables, c: Choice) -> Fitted
             line: widen(line_of(&table, k)),
             start: widen_nine(starts),
             length: widen_nine(lens),
+            places: widen(c.places),
         };
     }
-    no_pieces(0, 0)
+    Fitted {
+        number: 0,
+        line: 0,
+        start: [0; 9],
+        length: [0; 9],
+        places: widen(c.places),
+    }
 }
 
 // A line fitted against the templates of a text that is prepared, or refused.
-fn fit_prepared(text: &[u8], nodes: &[Node], t: Tables, line: &[u8]) -> Fitted
-    requires { ⌜ Prepares (now text) (now nodes) t ⌝ }
+fn fit_prepared(text: &[u8], nodes: &[Node], dead: &mut [u8], t: Tables, line: &[u8]) -> Fitted
+    requires { ⌜ Prepares (now text) (now nodes) t × (deadLeast ≤ length (now dead)) ⌝ }
     ensures { λ f. ⌜ f ≡ fittedIn (now (line .entry)) (Load.load (now (text .entry))) ⌝ }
 {
     let r = t.loading;
@@ -124,28 +141,31 @@ fn fit_prepared(text: &[u8], nodes: &[Node], t: Tables, line: &[u8]) -> Fitted
     if LINE_MOST < n {
         return no_pieces(11, 0);
     }
-    let c = first_reading(r.marks, nodes, line, n);
+    let c = first_reading(r.marks, nodes, r.nodes, dead, line, n);
     answer_choice(t, c)
 }
 
-// Fits one line, taken whole, against the templates of a text: the first of all its readings, or line 0 where it is no call.
-pub fn fit(text: &[u8], nodes: &mut [Node], line: &[u8]) -> Fitted
-    ensures { λ r. ⌜ r ≡ fitLine (length (now (nodes .entry))) (now (text .entry)) (now (line .entry)) ⌝ }
-    ensures { λ r. ⌜ ((t : Loaded) → Load.load (now (text .entry)) ≡ loaded t → 2048 ≤ length (now (nodes .entry)) → length (now (line .entry)) ≤ 200
-        → FitsFirst t (now (line .entry)) r) ⌝ }
+// Fits one line, taken whole, against the templates of a text: the first of all its readings, or line 0 where it is no call; and how many
+// places were taken up to find it.
+pub fn fit(text: &[u8], nodes: &mut [Node], dead: &mut [u8], line: &[u8]) -> Fitted
+    ensures { λ r. ⌜ r ≡ fitLine (length (now (nodes .entry))) (length (now (dead .entry))) (now (text .entry)) (now (line .entry)) ⌝ }
+    ensures { λ r. ⌜ ((t : Loaded) → Load.load (now (text .entry)) ≡ loaded t → 2048 ≤ length (now (nodes .entry)) → 51456 ≤ length (now (dead .entry))
+        → length (now (line .entry)) ≤ 200 → FitsFirst t (now (line .entry)) r) ⌝ }
 {
-    if is_short(nodes.len()) {
+    if lack_room(nodes.len(), dead.len()) {
         return no_pieces(1, 0);
     }
     let t = prepare(text, nodes);
-    fit_prepared(text, nodes, t, line)
+    fit_prepared(text, nodes, dead, t, line)
 }
 
-// Whether the fuel is not 1 to 1,000,000, the node row below 2,048 or the store below 8,704.
-fn is_illegal(fuel: u64, rows: usize, store: usize) -> bool
-    ensures { λ r. ⌜ TestsRooms fuel rows store r ⌝ }
+// Whether the fuel is not 1 to 1,000,000, the node row below 2,048, the row of dead places below 51,456 or the store below 8,704.
+fn is_illegal(fuel: u64, rows: usize, dead: usize, store: usize) -> bool
+    ensures { λ r. ⌜ TestsRooms fuel rows dead store r ⌝ }
 {
-    (fuel < 1) | ((FUEL_MOST < fuel) | ((rows < NODES_MOST) | (store < STORE_LEAST)))
+    (fuel < 1)
+        | ((FUEL_MOST < fuel)
+            | ((rows < NODES_MOST) | ((dead < DEAD_LEAST) | (store < STORE_LEAST))))
 }
 
 // The fuel as the machine counts it.
@@ -155,17 +175,24 @@ fn count_of(n: u64) -> usize
     n as usize
 }
 
-// Runs a text. No more than 2,048 nodes of the lent row are used; their contents are free.
-pub fn run(text: &[u8], fuel: u64, nodes: &mut [Node], output: &mut [u8], store: &mut [u8]) -> Ran
-    ensures { λ r. ⌜ Runs (runText fuel (length (now (nodes .entry))) (length (now (output .entry))) (length (now (store .entry))) (now (text .entry)))
+// Runs a text. No more than 2,048 nodes and 51,456 bytes of the lent rows are used; what they hold is free.
+pub fn run(
+    text: &[u8],
+    fuel: u64,
+    nodes: &mut [Node],
+    dead: &mut [u8],
+    output: &mut [u8],
+    store: &mut [u8],
+) -> Ran
+    ensures { λ r. ⌜ Runs (runText fuel (length (now (nodes .entry))) (length (now (dead .entry))) (length (now (output .entry))) (length (now (store .entry))) (now (text .entry)))
         (now (output .entry)) (now (store .entry)) r (now (output .exit)) (now (store .exit)) ⌝ }
     ensures { λ r. ⌜ ((t : Loaded) → Load.load (now (text .entry)) ≡ loaded t
-        → illegal fuel (length (now (nodes .entry))) (length (now (store .entry))) ≡ false
+        → illegal fuel (length (now (nodes .entry))) (length (now (dead .entry))) (length (now (store .entry))) ≡ false
         → FollowsExpansion t fuel (now (output .entry)) (now (store .entry)) r (now (output .exit)) (now (store .exit))) ⌝ }
 {
-    if is_illegal(fuel, nodes.len(), store.len()) {
+    if is_illegal(fuel, nodes.len(), dead.len(), store.len()) {
         return refuse(1, 0);
     }
     let t = prepare(text, nodes);
-    run_prepared(text, nodes, t, count_of(fuel), output, store)
+    run_prepared(text, nodes, dead, t, count_of(fuel), output, store)
 }

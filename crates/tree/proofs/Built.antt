@@ -1,4 +1,4 @@
--- The nodes of a table are a tree that represents its templates.
+-- The nodes of a table are the tree of its templates' beginnings.
 use mathlib.Core.Path.{_≡_, refl, sym, _∙_, ap, subst}
 use mathlib.Core.List.{List, [], _∷_, _++_, map}
 use mathlib.Core.Logic.{⊎-elim}
@@ -15,7 +15,6 @@ use Rattle.nodes.specs.declared.Node.{Node}
 use Rattle.nodes.specs.Rows.{noNode, elem, code, firstOf, countOf, templateOf, height, holes, Child, Tree}
 use Rattle.nodes.proofs.Rows.{front-node}
 use Rattle.nodes.specs.Templates.{Beginnings}
-use Rattle.nodes.proofs.Templates.{represents}
 use Rattle.templates.specs.Count.{known}
 use Rattle.templates.specs.Keys.{keys, codeOf, Share, one, cnt, holed}
 use Rattle.tree.specs.Nodes.{columns, Half, Made}
@@ -25,7 +24,7 @@ use Rattle.templates.proofs.Keys.{code-hole, code-inj, lt-or, cnt-more, cnt-sam
 use Rattle.tree.proofs.Known.{templates-known}
 use Rattle.tree.proofs.Nodes.{Agree, stem, carry-all}
 use Rattle.tree.proofs.Room.{bound}
-use Rattle.tree.proofs.Elements.{elemOf, code-elem, order-code, elem-code-inj, elem-inj, begin, begin-at, begin-zero, begin-suc, begin-length, begin-share, begin-on, whole, map-at}
+use Rattle.tree.proofs.Elements.{elemOf, code-elem, order-code, elem-code-inj, elem-inj, begin, begin-at, begin-zero, begin-suc, begin-more, begin-length, begin-share, begin-on, whole, map-at}
 use Rattle.tree.proofs.Exact.{at-end, goes-on, at-least}
 
 module _ (f : ℕ → ℕ → ℕ) (len : ℕ → ℕ) (n : ℕ) (rows : List Node) (half : Half f len n (columns rows) (length rows) (length rows) (length rows) 0) where
@@ -149,6 +148,14 @@ module _ (f : ℕ → ℕ → ℕ) (len : ℕ → ℕ) (n : ℕ) (rows : List No
           let x = half .node j z u in
           let g : suc (len (templateOf rows j)) ≡ 201 - height rows j = omega (arith, x .deep, x .live, ends _ _ (at-end f len n rows half ends j z u e)) in
           (omega (arith, size, x .known), at (templateOf rows j) (x .known) ∙ ap (begin f (templateOf rows j)) g);
+      used = λ j z u.
+          let x = half .node j z u in
+          let k = templateOf rows j in
+          let d = 201 - height rows j in
+          let more : ℕ = suc (len k) - d in
+          let g : suc (len k) ≡ more + d = omega (arith, x .deep, x .live) in
+          let (es, e) = begin-more f k d more in
+          (es, (k, omega (arith, size, x .known), at k (x .known) ∙ ap (begin f k) g ∙ e));
       no-empty = λ k u q. omega (arith, ap length q, ap length (at k (omega (arith, size))), begin-length f k (suc (len k)));
     }
 
@@ -185,7 +192,8 @@ is-built m ts first rows at r ready le h =
       tree = tree;
       begins = (pre f len n made half, b, all-distinct f len n made half);
       parent = has-parent f len n made half;
-      represents = represents made tree (map (elems m) ts) (pre f len n made half) b lt (λ e. omega (arith, half .root .2, e)) (half .root .3);
+      plain-root = λ e. omega (arith, half .root .2, e);
+      no-holes = half .root .3;
       ordered = is-ordered f len n made half;
       count = omega (arith, bound f len (known ts) n old (columns made) (length made) (length made) (length made) 0 half, at-least f len (known ts) n old made half bounded ends);
     }

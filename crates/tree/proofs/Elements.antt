@@ -1,7 +1,7 @@
 -- Beginnings as lists of elements.
 use mathlib.Core.Path.{_≡_, refl, sym, _∙_, ap}
 use mathlib.Core.Bool.{Bool, true, false}
-use mathlib.Core.List.{List, [], _∷_, _++_, map}
+use mathlib.Core.List.{List, [], _∷_, _++_, map, append-nil, append-assoc}
 use mathlib.Core.Logic.{⊎-elim}
 use Prim.Native.Nat.{ℕ, zero, suc, _+_, _<_}
 use native.Mathlib.Omega.{arith}
@@ -79,6 +79,16 @@ module _ (f : ℕ → ℕ → ℕ) where
   pub begin-suc : (k d : ℕ) → begin f k (suc d) ≡ begin f k d ++ elemOf (f k d) ∷ []
   unfolding begin
   begin-suc k d = refl
+
+  -- a beginning of n elements more
+  pub begin-more : (k d n : ℕ) → (es : List Elem) × (begin f k (n + d) ≡ begin f k d ++ es)
+  unfolding begin
+  begin-more k d zero = let z : 0 + d ≡ d = omega arith in ([], ap (begin f k) z ∙ sym (append-nil (begin f k d)))
+  begin-more k d (suc n) =
+      let (es, e) = begin-more k d n in
+      let z : suc n + d ≡ suc (n + d) = omega arith in
+      let last : List Elem = elemOf (f k (n + d)) ∷ [] in
+      (es ++ last, ap (begin f k) z ∙ ap (λ (l : List Elem). l ++ last) e ∙ append-assoc (begin f k d) es last)
 
   pub begin-length : (k d : ℕ) → length (begin f k d) ≡ d
   unfolding begin

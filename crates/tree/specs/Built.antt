@@ -9,8 +9,8 @@ use Rattle.model.specs.Text.{Bytes}
 use Rattle.model.specs.Load.{count}
 use Rattle.model.specs.Parts.{Elem, elems}
 use Rattle.nodes.specs.declared.Node.{Node}
-use Rattle.nodes.specs.Rows.{elem, Child, Tree}
-use Rattle.nodes.specs.Templates.{Represents, Beginnings}
+use Rattle.nodes.specs.Rows.{elem, holes, Child, Tree}
+use Rattle.nodes.specs.Templates.{Beginnings}
 use Rattle.macros.specs.Table.{Table, templatesIn, Entries}
 use Rattle.templates.specs.Count.{beginnings}
 use Rattle.tree.specs.Nodes.{Made}
@@ -54,6 +54,7 @@ pub record Built (m : Marks) (ts : List Bytes) (rows : List Node) : Type 0 where
   pub tree : Tree rows
   pub begins : (pre : ℕ → List Elem) × Beginnings rows (map (elems m) ts) pre × ((i j : ℕ) → i < j → j < length rows → pre i ≡ pre j → ⊥)
   pub parent : (j : ℕ) → 0 < j → j < length rows → (i : ℕ) × (i < j) × Child rows i j
-  pub represents : Represents rows (map (elems m) ts)
+  pub plain-root : ¬ (elem rows 0 ≡ 1)
+  pub no-holes : holes rows 0 ≡ 0
   pub ordered : (i j l : ℕ) → Child rows i j → Child rows i l → j < l → order (elem rows j) < order (elem rows l)
   pub count : length rows ≡ suc (beginnings ts)

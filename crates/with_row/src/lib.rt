@@ -1,4 +1,4 @@
-// The public calls with a row of nodes of their own, for programs.
+// The public calls with rows of nodes and of dead places of their own, for programs.
 ghost use mathlib.Core.Path.{_≡_};
 ghost use mathlib.Core.Bool.{false};
 ghost use Prim.Native.Nat.{_≤_};
@@ -9,6 +9,7 @@ ghost use Rattle.model.specs.FirstReading.{FitsFirst};
 ghost use Rattle.model.specs.Runs.{Runs};
 ghost use Rattle.model.specs.Demands.{FollowsExpansion};
 use model::Checked;
+use model::DEAD_LEAST;
 use model::Fitted;
 use model::NODES_MOST;
 use model::Ran;
@@ -36,21 +37,23 @@ pub fn check(text: &[u8]) -> Checked
 
 // Fits a line.
 pub fn fit(text: &[u8], line: &[u8]) -> Fitted
-    ensures { λ r. ⌜ r ≡ fitLine 2048 (now (text .entry)) (now (line .entry)) ⌝ }
+    ensures { λ r. ⌜ r ≡ fitLine 2048 51456 (now (text .entry)) (now (line .entry)) ⌝ }
     ensures { λ r. ⌜ ((t : Loaded) → load (now (text .entry)) ≡ loaded t → length (now (line .entry)) ≤ 200
         → FitsFirst t (now (line .entry)) r) ⌝ }
 {
     let mut row = [make_node(); NODES_MOST];
-    stage2::fit(text, &mut row, line)
+    let mut dead = [0u8; DEAD_LEAST];
+    stage2::fit(text, &mut row, &mut dead, line)
 }
 
 // Runs a text.
 pub fn run(text: &[u8], fuel: u64, output: &mut [u8], store: &mut [u8]) -> Ran
-    ensures { λ r. ⌜ Runs (runText fuel 2048 (length (now (output .entry))) (length (now (store .entry))) (now (text .entry)))
+    ensures { λ r. ⌜ Runs (runText fuel 2048 51456 (length (now (output .entry))) (length (now (store .entry))) (now (text .entry)))
         (now (output .entry)) (now (store .entry)) r (now (output .exit)) (now (store .exit)) ⌝ }
-    ensures { λ r. ⌜ ((t : Loaded) → load (now (text .entry)) ≡ loaded t → illegal fuel 2048 (length (now (store .entry))) ≡ false
+    ensures { λ r. ⌜ ((t : Loaded) → load (now (text .entry)) ≡ loaded t → illegal fuel 2048 51456 (length (now (store .entry))) ≡ false
         → FollowsExpansion t fuel (now (output .entry)) (now (store .entry)) r (now (output .exit)) (now (store .exit))) ⌝ }
 {
     let mut row = [make_node(); NODES_MOST];
-    stage2::run(text, fuel, &mut row, output, store)
+    let mut dead = [0u8; DEAD_LEAST];
+    stage2::run(text, fuel, &mut row, &mut dead, output, store)
 }

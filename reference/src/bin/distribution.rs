@@ -1,11 +1,12 @@
-//! Prints how many random texts gave each number: `distribution [SEED] [COUNT]`.
+//! Prints how many random texts gave each number, and how many places the lines
+//! of texts about places take up: `distribution [SEED] [COUNT]`.
 
 use std::collections::BTreeMap;
 use std::env;
 use std::time::Instant;
 
 use stage2_reference::generate::{Generator, Size};
-use stage2_reference::{run, NODE_ROW, STORE_ROOM};
+use stage2_reference::{fit, most_places, run, DEAD_ROW, NODE_ROW, STORE_ROOM};
 
 fn main() {
     let argument =
@@ -13,26 +14,56 @@ fn main() {
     let seed = argument(1, 1);
     let count = argument(2, 20_000);
     for size in [Size::Small, Size::Large] {
-        print(size, seed, count);
+        print(&format!("{size:?}"), seed, count, |generator| generator.text(size));
+    }
+    for size in [Size::Small, Size::Large] {
+        let make = |generator: &mut Generator| generator.places_text(size);
+        print(&format!("{size:?}, about places"), seed, count, make);
+        print_places(seed, count, make);
     }
 }
 
-fn print(size: Size, seed: u64, count: u64) {
+/// The numbers of the runs of texts.
+fn print(kind: &str, seed: u64, count: u64, make: impl Fn(&mut Generator) -> Vec<u8>) {
     let mut generator = Generator::new(seed);
     let mut store = vec![0; STORE_ROOM];
     let mut numbers: BTreeMap<u64, u64> = BTreeMap::new();
     let (mut events, mut bytes) = (0, 0);
     let start = Instant::now();
     for _ in 0..count {
-        let text = generator.text(size);
+        let text = make(&mut generator);
         let mut output = vec![0; generator.room()];
-        let ran = run(&text, generator.fuel(), NODE_ROW, &mut output, &mut store);
+        let ran = run(&text, generator.fuel(), NODE_ROW, DEAD_ROW, &mut output, &mut store);
         *numbers.entry(ran.number).or_default() += 1;
         events += ran.events;
         bytes += text.len() as u64;
     }
-    println!("{size:?}: {count} texts, {bytes} bytes, {events} events, {:?}", start.elapsed());
+    println!("{kind}: {count} texts, {bytes} bytes, {events} events, {:?}", start.elapsed());
     for (number, texts) in numbers {
         println!("{number:4} {texts:7}");
     }
+}
+
+/// How many places the lines of texts take up, by calls and others.
+fn print_places(seed: u64, count: u64, make: impl Fn(&mut Generator) -> Vec<u8>) {
+    let mut generator = Generator::new(seed);
+    let mut lines: BTreeMap<u64, [u64; 2]> = BTreeMap::new();
+    let (mut most, mut bound) = (0, 0);
+    for _ in 0..count {
+        let text = make(&mut generator);
+        for line in text.split(|&byte| byte == b'\n') {
+            let fitted = fit(&text, NODE_ROW, DEAD_ROW, line);
+            let Some(places) = most_places(&text, line).filter(|_| fitted.number == 0) else { continue };
+            let magnitude = 10u64.pow(fitted.places.ilog10());
+            lines.entry(magnitude).or_default()[usize::from(fitted.line == 0)] += 1;
+            if fitted.places > most {
+                (most, bound) = (fitted.places, places);
+            }
+        }
+    }
+    println!("places from    calls  no calls");
+    for (magnitude, [calls, others]) in lines {
+        println!("{magnitude:11} {calls:8} {others:9}");
+    }
+    println!("at most {most}, where {bound} are allowed");
 }

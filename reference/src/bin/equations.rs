@@ -10,15 +10,20 @@ use stage2_reference::generate::{Generator, Size};
 use std::fmt::Write;
 
 const NODES: usize = 2048;
+const DEAD: usize = 51456;
 const STORE: usize = 8704;
 
-/// Of so many texts one is about characters and one about values, beside those
-/// that any text may hold.
+/// Of so many texts one each is about characters, about values and about places,
+/// beside those that any text may hold.
 const ROUND: u64 = 13;
 
-/// The places of these two in a round.
+/// Where these three stand in a round.
 const CHARACTERS: u64 = 0;
 const VALUES: u64 = 6;
+const PLACES: u64 = 9;
+
+/// One text of so many has too short a row of dead places.
+const SHORT_ROW: u64 = 41;
 
 fn main() {
     let words: Vec<String> = std::env::args().collect();
@@ -45,16 +50,18 @@ fn equations(k: u64, generator: &mut Generator, unfolds: &str) -> String {
     let text = match k % ROUND {
         CHARACTERS => generator.character_text(),
         VALUES => generator.value_text(),
+        PLACES => generator.places_text(Size::Small),
         _ => generator.text(Size::Small),
     };
-    let line = generator.line(&text);
+    let line = generator.line(&text, Size::Small);
     let fuel = generator.fuel().clamp(1, 60);
     let room = generator.room().min(400);
+    let dead = if k % SHORT_ROW == 1 { DEAD - 1 } else { DEAD };
     let mut output = vec![0; room];
     let mut store = vec![0; STORE];
     let checked = stage2_reference::check(&text, NODES);
-    let fitted = stage2_reference::fit(&text, NODES, &line);
-    let ran = stage2_reference::run(&text, fuel, NODES, &mut output, &mut store);
+    let fitted = stage2_reference::fit(&text, NODES, dead, &line);
+    let ran = stage2_reference::run(&text, fuel, NODES, dead, &mut output, &mut store);
     let mut page = String::new();
     let mut theorem = |name: &str, left: String, right: String| {
         write!(page, "\n{name}{k} : {left} ≡ {right}\nunfolding {unfolds}\n{name}{k} = refl\n")
@@ -68,18 +75,19 @@ fn equations(k: u64, generator: &mut Generator, unfolds: &str) -> String {
     );
     theorem(
         "fit",
-        format!("fitLine {NODES} {shown} {}", list(&line)),
+        format!("fitLine {NODES} {dead} {shown} {}", list(&line)),
         format!(
-            "record {{ number = {}; line = {}; start = {}; length = {} }}",
+            "record {{ number = {}; line = {}; start = {}; length = {}; places = {} }}",
             fitted.number,
             fitted.line,
             list(&fitted.start),
-            list(&fitted.length)
+            list(&fitted.length),
+            fitted.places
         ),
     );
     theorem(
         "run",
-        format!("runText {fuel} {NODES} {room} {STORE} {shown}"),
+        format!("runText {fuel} {NODES} {dead} {room} {STORE} {shown}"),
         format!(
             "record {{ number = {}; line = {}; events = {}; output = {}; store = {} }}",
             ran.number,
@@ -102,27 +110,31 @@ fn list<T: Copy + Into<u64>>(items: &[T]) -> String {
     shown + "[])"
 }
 
+/// The modules of the definitions that the equations compute.
+const MODULES: [&str; 11] =
+    ["Text", "Utf8", "Reading", "Code", "Store", "Value", "Load", "Machine", "Parts", "Places", "Results"];
+
 /// The `use` lines for all definitions, and the names that the equations unfold.
 fn names(specs: &str) -> (String, String) {
-    let modules = ["Text", "Utf8", "Reading", "Code", "Store", "Value", "Load", "Machine", "Results"];
     let (mut uses, mut unfolds) = (String::new(), Vec::new());
-    for module in modules {
+    for module in MODULES {
         let source =
             std::fs::read_to_string(format!("{specs}/{module}.antt")).expect("the definitions can be read");
-        let mut found = Vec::new();
-        for line in source.lines() {
-            let declared = line.strip_prefix("unfoldable pub ").or(line.strip_prefix("  pub "));
-            if let Some((name, _)) = declared.and_then(|rest| rest.split_once(" :")) {
-                if line.starts_with("unfoldable") || is_mutual(&source, name) {
-                    found.push(name.to_string());
-                }
-            }
-        }
+        let found: Vec<&str> = source.lines().filter_map(|line| unfoldable(&source, line)).collect();
         writeln!(uses, "use Rattle.model.specs.{module}.{{{}}}", found.join(", "))
             .expect("a string takes all text");
-        unfolds.extend(found);
+        unfolds.extend(found.iter().map(|name| name.to_string()));
     }
     (uses, unfolds.join(" "))
+}
+
+/// The name that a line of a module declares, if it can be unfolded. A declaration
+/// may be indented: in a module with arguments, and in a mutual block.
+fn unfoldable<'a>(source: &str, line: &'a str) -> Option<&'a str> {
+    let rest = line.trim_start();
+    let marked = rest.strip_prefix("unfoldable pub ");
+    let (name, _) = marked.or(line.strip_prefix("  pub "))?.split_once(" :")?;
+    (marked.is_some() || is_mutual(source, name)).then_some(name)
 }
 
 /// A member of a mutual block is indented, and has clauses as indented as its type.

@@ -1,4 +1,5 @@
-//! Writes the vectors that stand at a limit and one past it.
+//! Writes the vectors that stand at a limit and one past it, and those whose
+//! lines would keep a search busy that takes up places again.
 //!
 //! They are too long to write by hand. What each of them gives is worked out
 //! here from document 01 and not taken from the library, so that the library
@@ -48,6 +49,7 @@ fn vectors() -> Vec<Vector> {
     memory(&mut all);
     output(&mut all);
     fuel(&mut all);
+    separators(&mut all);
     all
 }
 
@@ -237,4 +239,22 @@ fn fuel(all: &mut Vec<Vector>) {
     add(all, "number-11-before-number-20", text(999_998, &long), end(11, 7, 1_000_000));
     let offered = "T$\n999997!F7\n!F8\nx\n$$\nT\n".to_string();
     add(all, "number-20-at-a-built-line", offered, end(20, 7, 1_000_000));
+}
+
+fn separators(all: &mut Vec<Vector>) {
+    let row = |count: usize| "a".repeat(count);
+
+    // Without a b no line fits. With one at its end the last piece has what the
+    // eight separators leave.
+    let lines = (row(200) + "\n").repeat(100);
+    let nowhere = format!("!a!a!a!a!a!a!a!a!b$\n<!10>!90!F1\n$$\n{lines}{}b\n", row(199));
+    let written = format!("{lines}<>{}\n", row(191));
+    add(all, "fitting-equal-separators-nowhere", nowhere, written + &end(0, 105, 102));
+
+    // The second template needs the longest of all first pieces. Its line is an
+    // input line of 200 bytes, and then a built line of 199.
+    let last = "!a!a!a!a!a!a!a!a!c$\n$\n!ab!!!!!!!!$\n!15!F1\n$\nD:!$\n!10!10b\n$$\n";
+    let input = format!("{}b\nD:{}\n", row(199), row(99));
+    let out = "198\n197\n".to_string() + &end(0, 11, 6);
+    add(all, "fitting-equal-separators-at-the-last-place", last.to_string() + &input, out);
 }

@@ -124,14 +124,15 @@ fn ten_placeholders(random: &mut Random) -> String {
     format!("A!$\n$\n{template}$\n$$\nAB\n")
 }
 
-/// Eight to ten placeholders, and short lines.
+/// Eight to ten placeholders, and lines of up to 200 bytes and more.
 fn nine_placeholders(random: &mut Random) -> String {
     let count = random.between(8, 10);
     let separator = random.pick(&["", ",", "="]);
     let template = vec!["!"; count].join(separator);
     let mut lines = String::new();
     for _ in 0..random.between(1, 4) {
-        for _ in 0..random.between(0, 12) {
+        let most = random.pick(&[12, 12, 40, 120]);
+        for _ in 0..random.between(0, most) {
             lines += random.pick(&["A", "A", ",", ",", "=", "(A)", "(,)"]);
         }
         lines += "\n";

@@ -6,6 +6,7 @@ mod body;
 mod characters;
 mod edges;
 mod mutation;
+mod places;
 mod random;
 mod style;
 mod values;
@@ -17,8 +18,9 @@ use style::Style;
 /// How long texts and lines may be.
 #[derive(Clone, Copy, Debug, PartialEq, Eq)]
 pub enum Size {
-    /// For slow checkers: at most [`SMALL_TEXT`] bytes, at most four
-    /// placeholders in a template, and lines that hardly grow.
+    /// For slow checkers, which list all readings of a line: at most
+    /// [`SMALL_TEXT`] bytes, at most four placeholders in a template or short
+    /// lines, and lines that hardly grow.
     Small,
     /// Up to the limits of document 01 and past them.
     Large,
@@ -41,7 +43,7 @@ impl Generator {
     /// A text. About nine of ten load.
     pub fn text(&mut self, size: Size) -> Vec<u8> {
         loop {
-            let text = match self.random.weighted(&[70, 19, 11, 7, 7]) {
+            let text = match self.random.weighted(&[70, 19, 11, 7, 7, 7]) {
                 0 => self.plain_text(size),
                 1 => {
                     let mut text = self.plain_text(size);
@@ -50,7 +52,8 @@ impl Generator {
                 }
                 2 => edges::text(&mut self.random, size),
                 3 => self.character_text(),
-                _ => self.value_text(),
+                4 => self.value_text(),
+                _ => self.places_text(size),
             };
             if size == Size::Large || text.len() <= SMALL_TEXT {
                 return text;
@@ -69,6 +72,11 @@ impl Generator {
         values::text(&mut self.random)
     }
 
+    /// A text with many placeholders, equal separators and lines of equal bytes.
+    pub fn places_text(&mut self, size: Size) -> Vec<u8> {
+        places::text(&mut self.random, size)
+    }
+
     /// An expression near the ends of the range in the session's marks, and names
     /// with what is stored under them.
     pub fn expression(&mut self) -> (String, [(&'static str, String); 2]) {
@@ -76,12 +84,21 @@ impl Generator {
     }
 
     /// A line for fitting that resembles one of the text's templates.
-    pub fn line(&mut self, text: &[u8]) -> Vec<u8> {
+    pub fn line(&mut self, text: &[u8], size: Size) -> Vec<u8> {
         let style = Style::of_text(text);
         let lines: Vec<&[u8]> = text.split(|&byte| byte == b'\n').skip(1).collect();
-        let most_placeholders = lines.iter().map(|line| style.placeholders(line)).max().unwrap_or(0);
-        if self.random.chance(6) && most_placeholders <= 2 {
-            return self.long_line(&style);
+        let placeholders = lines.iter().map(|line| style.placeholders(line)).max().unwrap_or(0);
+        let mut line = self.any_line(&style, &lines);
+        // With two placeholders the readings of the longest lines can be listed.
+        if size == Size::Small && placeholders > 2 {
+            line.truncate(places::listed_length(placeholders));
+        }
+        line
+    }
+
+    fn any_line(&mut self, style: &Style, lines: &[&[u8]]) -> Vec<u8> {
+        if self.random.chance(6) {
+            return self.long_line(style);
         }
         if lines.is_empty() || self.random.chance(15) {
             return style.piece(&mut self.random, 8);
@@ -102,6 +119,13 @@ impl Generator {
         let last = style.literal(&mut self.random);
         line[length - 1] = last;
         line
+    }
+
+    /// A text or line with a few changes.
+    pub fn changed(&mut self, bytes: &[u8]) -> Vec<u8> {
+        let mut changed = bytes.to_vec();
+        mutation::mutate(&mut self.random, &mut changed);
+        changed
     }
 
     /// A fuel, now and then an illegal one.
@@ -188,7 +212,7 @@ fn templates(random: &mut Random, style: &Style, size: Size) -> Vec<Vec<u8>> {
         for _ in 0..random.between(0, 4) {
             template.push(style.template_byte(random));
         }
-        let most = if size == Size::Small { 4 } else { 3 };
+        let most = if size == Size::Small { 4 } else { 9 };
         let fits = style.placeholders(&template) <= most;
         if fits && (!templates.contains(&template) || random.chance(4)) {
             templates.push(template);

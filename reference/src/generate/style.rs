@@ -59,15 +59,15 @@ impl Style {
         self.flags[3]
     }
 
-    fn placeholder(&self) -> u8 {
+    pub fn placeholder(&self) -> u8 {
         self.flags[1]
     }
 
-    fn left(&self) -> u8 {
+    pub fn left(&self) -> u8 {
         self.flags[6]
     }
 
-    fn right(&self) -> u8 {
+    pub fn right(&self) -> u8 {
         self.flags[11]
     }
 

@@ -5,7 +5,7 @@
 
 use std::sync::LazyLock;
 
-use stage2_reference::{run, Ran, NODE_ROW, STORE_ROOM};
+use stage2_reference::{run, Ran, DEAD_ROW, NODE_ROW, STORE_ROOM};
 
 /// A run's result with the bytes it left.
 #[derive(Debug, PartialEq, Eq)]
@@ -19,7 +19,7 @@ pub struct Left {
 pub fn run_text(text: &[u8], fuel: u64, room: usize) -> Left {
     let mut output = pattern(room);
     let mut store = pattern(STORE_ROOM + 100);
-    let ran = run(text, fuel, NODE_ROW, &mut output, &mut store);
+    let ran = run(text, fuel, NODE_ROW, DEAD_ROW, &mut output, &mut store);
     let output = written(output, ran.output);
     let store = written(store, ran.store);
     Left { ran, output, store }

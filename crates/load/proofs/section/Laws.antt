@@ -99,7 +99,7 @@ module _ {m : Marks} {text : Bytes} {t u : Table} {p : Progress} {n at end next 
     left = λ x i z h. (record { same = sym (next-line x i z h ∙ rw e); sound = rw e at (g .left); within = l .within; read = omega (arith, h .read, l .ahead) }, l .ahead);
   }
 
-  pub line-ends : s ≡ Ends → LeadsOn m text t p n at u (Led.Done (record { number = 0; line = n; marks = m; count = p .count; input = next }))
+  pub line-ends : s ≡ Ends → LeadsOn m text t p n at u (Led.Done (record { number = 0; line = n; marks = m; count = p .count; nodes = p .nodes; input = next }))
   unfolding loadOn
   line-ends e =
       let q : t ≡ u = rw e at (g .left) in
@@ -107,6 +107,7 @@ module _ {m : Marks} {text : Bytes} {t u : Table} {p : Progress} {n at end next 
         left = λ x i z h. record {
           is = next-line x i z h ∙ rw (e, q);
           inside = λ _. rw (sym q) (h .sound .inside);
+          counted = λ _. rw (sym q) (h .sound .counted);
           input = l .within;
           read = λ _. omega (arith, h .read, l .ahead);
         };

@@ -1,6 +1,6 @@
--- add_fitted adds the four parts of the row: the number, the line, the pieces, and the byte 10.
+-- add_fitted adds the four parts of the row: the number, the line, the pieces, and the places with the byte 10.
 use borrow.Author.Needs.{needs}
-use Rattle.printed.proofs.Adding.{fit-number, fit-line, fit-pieces, fit-newline, fit-prints}
+use Rattle.printed.proofs.Adding.{fit-number, fit-line, fit-pieces, fit-last, fit-prints}
 use Rattle.printed.proofs.add_fitted.Statement.{statement}
 use Rattle.printed.proofs.add_fitted.Tie as tie
 
@@ -13,11 +13,8 @@ add-spaced-requires c κs = search fit-line
 add-pieces-requires : tie.Need-add-pieces-requires
 add-pieces-requires c κs = search fit-pieces
 
-slice-aggregate-add-bytes : tie.Need-slice-aggregate-add-bytes
-slice-aggregate-add-bytes c = search needs
-
-add-bytes-requires : tie.Need-add-bytes-requires
-add-bytes-requires c κs = search fit-newline
+add-last-requires : tie.Need-add-last-requires
+add-last-requires c κs = search fit-last
 
 same-length : tie.Need-same-length
 same-length c = search needs
@@ -32,7 +29,6 @@ add-fitted-spec =
     add-decimal-requires
     add-spaced-requires
     add-pieces-requires
-    slice-aggregate-add-bytes
-    add-bytes-requires
+    add-last-requires
     same-length
     returns)

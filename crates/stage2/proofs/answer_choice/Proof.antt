@@ -23,11 +23,14 @@ widen-nine-requires c κs = search needs
 widen-nine-requires-2 : tie.Need-widen-nine-requires-2
 widen-nine-requires-2 c κs = search needs
 
+widen-requires-2 : tie.Need-widen-requires-2
+widen-requires-2 c κs = search needs
+
 returns : tie.Need-returns
 returns c = search (answer-call, needs)
 
-no-pieces-requires : tie.Need-no-pieces-requires
-no-pieces-requires c κs = search needs
+widen-requires-3 : tie.Need-widen-requires-3
+widen-requires-3 c κs = search needs
 
 returns-2 : tie.Need-returns-2
 returns-2 c = search (answer-none, needs)
@@ -41,6 +44,7 @@ answer-choice-spec =
     widen-requires
     widen-nine-requires
     widen-nine-requires-2
+    widen-requires-2
     returns
-    no-pieces-requires
+    widen-requires-3
     returns-2)

@@ -1,4 +1,4 @@
--- run lends its own row, of 2,048 nodes.
+-- run lends its own rows, of 2,048 nodes and of 51,456 bytes.
 -- Written by tools/walk with the facts of its answers.
 use mathlib.Core.Path.{refl, ap, sym, subst, _∙_}
 use lib.Dec.{lit<}
@@ -24,7 +24,7 @@ use denote.Array.{Array, arrayVal, array-repeat, array-lawful}
 use sound.WpLaws.{FmC, fmOf}
 use denote.RattleType.{RattleType, owns}
 use denote.Laws.{Is}
-use denote.Plain.{UInt, uint-vals, uint-tells, uint-makes}
+use denote.Plain.{UInt, uint-vals, uint-tells, uint-makes, uint-lawful, uint-copy}
 use denote.Ref.{RefT, now, at-last}
 use denote.Slice as Slice
 use denote.Slice.{sliceTy, sliceVal, MutSlice, ShrSlice, finally, slice-vals, mut-slice-tells, mut-slice-lawful, shr-slice-tells, shr-slice-lawful, shr-slice-copy}
@@ -115,16 +115,21 @@ module _ {M : Type 1} (𝓤 : URA M) (H : Heap 𝓤) (A : Atoms 𝓤) (W : Given
         Walk.stays (T-output .own output (v-output ∷ [])) ∷ Walk.stays (T-store .own store (v-store ∷ [])) ∷ []) ! (
         Walk.move ! (3 ∷ []) (Walk.tokens-out W ((κ₀, q₀) ∷ (κ₁, q₁) ∷ (κ₂, q₂) ∷ []) ! (id⊢ 𝓤 _) (
         Walk.enter ! C Λ code.function (v-text ∷ (vint w64 fuel) ∷ v-output ∷ v-store ∷ []) Post (
-        Run.alloc1 ! (λ l₀. Run.alloc1 ! (λ l₁. Run.alloc1 ! (λ l₂. Run.alloc1 ! (λ l₃. Run.alloc1 ! (λ l₄. Run.alloc1 ! (λ l₅. Run.alloc1 ! (λ l₆. Run.alloc1 ! (λ l₇. Run.alloc1 ! (λ l₈. Run.alloc1 ! (λ l₉. Run.alloc1 ! (λ l₁₀. Run.alloc1 ! (λ l₁₁. Run.alloc1 ! (λ l₁₂.
-        let E : Env 𝓤 H = Walk.at-addresses (code.function .locals) (l₀ ∷ l₁ ∷ l₂ ∷ l₃ ∷ l₄ ∷ l₅ ∷ l₆ ∷ l₇ ∷ l₈ ∷ l₉ ∷ l₁₀ ∷ l₁₁ ∷ l₁₂ ∷ []) in
-        Walk.move ! (24 ∷ 24 ∷ 22 ∷ 22 ∷ 20 ∷ 20 ∷ 18 ∷ 18 ∷ 16 ∷ 16 ∷ 14 ∷ 14 ∷ 12 ∷ 12 ∷ 10 ∷ 10 ∷ 8 ∷ 8 ∷ 6 ∷ 6 ∷ 4 ∷ 4 ∷ 2 ∷ 2 ∷ 0 ∷ 0 ∷ []) (
+        Run.alloc1 ! (λ l₀. Run.alloc1 ! (λ l₁. Run.alloc1 ! (λ l₂. Run.alloc1 ! (λ l₃. Run.alloc1 ! (λ l₄. Run.alloc1 ! (λ l₅. Run.alloc1 ! (λ l₆. Run.alloc1 ! (λ l₇. Run.alloc1 ! (λ l₈. Run.alloc1 ! (λ l₉. Run.alloc1 ! (λ l₁₀. Run.alloc1 ! (λ l₁₁. Run.alloc1 ! (λ l₁₂. Run.alloc1 ! (λ l₁₃. Run.alloc1 ! (λ l₁₄. Run.alloc1 ! (λ l₁₅.
+        let E : Env 𝓤 H = Walk.at-addresses (code.function .locals) (l₀ ∷ l₁ ∷ l₂ ∷ l₃ ∷ l₄ ∷ l₅ ∷ l₆ ∷ l₇ ∷ l₈ ∷ l₉ ∷ l₁₀ ∷ l₁₁ ∷ l₁₂ ∷ l₁₃ ∷ l₁₄ ∷
+        l₁₅ ∷ []) in
+        Walk.move ! (30 ∷ 30 ∷ 28 ∷ 28 ∷ 26 ∷ 26 ∷ 24 ∷ 24 ∷ 22 ∷ 22 ∷ 20 ∷ 20 ∷ 18 ∷ 18 ∷ 16 ∷ 16 ∷ 14 ∷ 14 ∷ 12 ∷ 12 ∷ 10 ∷ 10 ∷ 8 ∷ 8 ∷ 6 ∷ 6 ∷
+        4 ∷ 4 ∷ 2 ∷ 2 ∷ 0 ∷ 0 ∷ []) (
         Walk.gathers ! (Walk.bare Ran-L.mir l₀ ∷ Walk.bare Y-text l₁ ∷ Walk.bare (tyInt w64) l₂ ∷ Walk.bare Y-output l₃ ∷ Walk.bare Y-store l₄ ∷
-        Walk.bare (tyArray Node-L.mir 2048) l₅ ∷ Walk.bare Node-L.mir l₆ ∷
-        Walk.bare (tyRef erased mut (pointee (Array Node-T.the-row 2048 .written))) l₇ ∷
-        Walk.bare (sliceTy (tyRef erased mut (pointee (Node-T.the-row .written)))) l₈ ∷
-        Walk.bare (tyRef erased mut (pointee ((UInt w8) .written))) l₉ ∷ Walk.bare (sliceTy (tyRef erased mut (pointee ((UInt w8) .written)))) l₁₀ ∷
-        Walk.bare (tyRef erased mut (pointee ((UInt w8) .written))) l₁₁ ∷
-        Walk.bare (sliceTy (tyRef erased mut (pointee ((UInt w8) .written)))) l₁₂ ∷ []) (‵ (flft κ₀ q₀) ∷ ‵ (flft κ₁ q₁) ∷ ‵ (flft κ₂ q₂) ∷
+        Walk.bare (tyArray Node-L.mir 2048) l₅ ∷ Walk.bare (tyArray (tyInt w8) 51456) l₆ ∷ Walk.bare Node-L.mir l₇ ∷
+        Walk.bare (tyRef erased mut (pointee (Array Node-T.the-row 2048 .written))) l₈ ∷
+        Walk.bare (sliceTy (tyRef erased mut (pointee (Node-T.the-row .written)))) l₉ ∷
+        Walk.bare (tyRef erased mut (pointee (Array (UInt w8) 51456 .written))) l₁₀ ∷
+        Walk.bare (sliceTy (tyRef erased mut (pointee ((UInt w8) .written)))) l₁₁ ∷
+        Walk.bare (tyRef erased mut (pointee ((UInt w8) .written))) l₁₂ ∷
+        Walk.bare (sliceTy (tyRef erased mut (pointee ((UInt w8) .written)))) l₁₃ ∷
+        Walk.bare (tyRef erased mut (pointee ((UInt w8) .written))) l₁₄ ∷
+        Walk.bare (sliceTy (tyRef erased mut (pointee ((UInt w8) .written)))) l₁₅ ∷ []) (‵ (flft κ₀ q₀) ∷ ‵ (flft κ₁ q₁) ∷ ‵ (flft κ₂ q₂) ∷
         ‵ (T-store .own store (sliceVal (store .ptr) (length (store .now)) ∷ [])) ∷ ‵ (T-output .own output (sliceVal (output .ptr)
         (length (output .now)) ∷ [])) ∷ ‵ (T-text .own text (sliceVal (text .ptr) (length (text .now)) ∷ [])) ∷ []) (λ Fd ed.
         Walk.allocated ! (Walk.after-result ! (
@@ -139,119 +144,148 @@ module _ {M : Type 1} (𝓤 : URA M) (H : Heap 𝓤) (A : Atoms 𝓤) (W : Given
         ((tt, tt, tt, tt, tt), tt) _ (known-make-node ((tt, tt, tt, tt, tt), tt)) (id⊢ 𝓤 (emp 𝓤)) (λ r ws. factI 𝓤 (Unit {0}) (emp 𝓤) tt)
         (Run.no-more !) (λ u1 r1 is1′ e1.
         Walk.tokens-out W ([]) ! (id⊢ 𝓤 _) (
-        Walk.lands-in ! (Walk.init-as ! 6 refl (LL.lawful Node-T.the-type Node-L.the-laws 𝓤 H A W .typed r1 _ is1′ .0)
+        Walk.lands-in ! (Walk.init-as ! 7 refl (LL.lawful Node-T.the-type Node-L.the-laws 𝓤 H A W .typed r1 _ is1′ .0)
         (ap only (LL.tells Node-T.the-type Node-L.the-laws r1 _ is1′))) (
         let is1 : Is Node-T.the-row r1 ((Node-L.lowered r1) ∷ []) = subst (λ (vs : List Val). Is Node-T.the-row r1 vs)
         (LL.tells Node-T.the-type Node-L.the-laws r1 _ is1′) is1′ in
         Walk.written-out ! (‵ (froom Ran-L.mir l₀ 0) ∷ ‵ (fat fullShare Y-text l₁ 0 (sliceVal (text .ptr) (length (text .now)))) ∷
         ‵ (fat fullShare (tyInt w64) l₂ 0 (vint w64 fuel)) ∷ ‵ (fat fullShare Y-output l₃ 0 (sliceVal (output .ptr) (length (output .now)))) ∷
         ‵ (fat fullShare Y-store l₄ 0 (sliceVal (store .ptr) (length (store .now)))) ∷ ‵ (froom (tyArray Node-L.mir 2048) l₅ 0) ∷
-        ‵ (fat fullShare Node-L.mir l₆ 0 (Node-L.lowered r1)) ∷ ‵ (froom (tyRef erased mut (pointee (Array Node-T.the-row 2048 .written))) l₇ 0) ∷
-        ‵ (froom (sliceTy (tyRef erased mut (pointee (Node-T.the-row .written)))) l₈ 0) ∷
-        ‵ (froom (tyRef erased mut (pointee ((UInt w8) .written))) l₉ 0) ∷
-        ‵ (froom (sliceTy (tyRef erased mut (pointee ((UInt w8) .written)))) l₁₀ 0) ∷
-        ‵ (froom (tyRef erased mut (pointee ((UInt w8) .written))) l₁₁ 0) ∷
-        ‵ (froom (sliceTy (tyRef erased mut (pointee ((UInt w8) .written)))) l₁₂ 0) ∷ ‵ Fd ∷ ‵ (flft κ₀ q₀) ∷ ‵ (flft κ₁ q₁) ∷ ‵ (flft κ₂ q₂) ∷
+        ‵ (froom (tyArray (tyInt w8) 51456) l₆ 0) ∷ ‵ (fat fullShare Node-L.mir l₇ 0 (Node-L.lowered r1)) ∷
+        ‵ (froom (tyRef erased mut (pointee (Array Node-T.the-row 2048 .written))) l₈ 0) ∷
+        ‵ (froom (sliceTy (tyRef erased mut (pointee (Node-T.the-row .written)))) l₉ 0) ∷
+        ‵ (froom (tyRef erased mut (pointee (Array (UInt w8) 51456 .written))) l₁₀ 0) ∷
+        ‵ (froom (sliceTy (tyRef erased mut (pointee ((UInt w8) .written)))) l₁₁ 0) ∷
+        ‵ (froom (tyRef erased mut (pointee ((UInt w8) .written))) l₁₂ 0) ∷
+        ‵ (froom (sliceTy (tyRef erased mut (pointee ((UInt w8) .written)))) l₁₃ 0) ∷
+        ‵ (froom (tyRef erased mut (pointee ((UInt w8) .written))) l₁₄ 0) ∷
+        ‵ (froom (sliceTy (tyRef erased mut (pointee ((UInt w8) .written)))) l₁₅ 0) ∷ ‵ Fd ∷ ‵ (flft κ₀ q₀) ∷ ‵ (flft κ₁ q₁) ∷ ‵ (flft κ₂ q₂) ∷
         ‵ (T-store .own store (sliceVal (store .ptr) (length (store .now)) ∷ [])) ∷ ‵ (T-output .own output (sliceVal (output .ptr)
         (length (output .now)) ∷ [])) ∷ ‵ (T-text .own text (sliceVal (text .ptr) (length (text .now)) ∷ [])) ∷ []) refl (
         Walk.use0 W ! (‵ (Node-T.the-row .own r1 ((Node-L.lowered r1) ∷ []))) (LL.makes Node-T.the-type Node-L.the-plain 𝓤 H A r1 _ is1) (
         Walk.use1 W ! (‵ (Array Node-T.the-row 2048 .own (replicate {A = Node} 2048 r1) (arrayVal (replicate 2048 (Node-L.lowered r1)) ∷ [])))
         (array-repeat 𝓤 H A W Node-T.the-row (LL.copy Node-T.the-type Node-L.the-copy 𝓤 H A W) 2048 r1 (Node-L.lowered r1)) (
         Walk.peek W ! (Array Node-T.the-row 2048) (replicate {A = Node} 2048 r1) (arrayVal (replicate 2048 (Node-L.lowered r1)) ∷ []) (λ isa5.
-        Walk.sets ! (Part.rep ! 2048 (Walk.local ! 7 refl))
+        Walk.sets ! (Part.rep ! 2048 (Walk.local ! 8 refl))
         (Run.init ! 6 refl (array-lawful 𝓤 H A W Node-T.the-row (LL.lawful Node-T.the-type Node-L.the-laws 𝓤 H A W) 2048 .typed (replicate {A = Node} 2048 r1) _ isa5 .0)) (
-        Walk.sets ! (Run.addr ! (Run.from ! (Run.stop !))) (Run.init ! 8 refl ((tt, tt))) (
-        Walk.sets ! (Part.agg ! (Run.and-then ! (Walk.local ! 8 refl) (Run.and-then ! (Walk.big-lit ! (record { fits = lit< tt }))
-        (Run.no-more !)))) (Walk.init-as ! 9 refl ((tt, (tt, (record { fits = lit< tt }, tt)))) (ap (λ (m : ℕ). sliceVal (l₅, 0) m)
+        Walk.use0 W ! (‵ ((UInt w8) .own 0 ((vint w8 0) ∷ []))) (uint-makes 𝓤 H A W w8 0 _ (refl, lit< tt)) (
+        Walk.use1 W ! (‵ (Array (UInt w8) 51456 .own (replicate {A = ℕ} 51456 0) (arrayVal (replicate 51456 (vint w8 0)) ∷ [])))
+        (array-repeat 𝓤 H A W (UInt w8) (uint-copy 𝓤 H A W w8) 51456 0 (vint w8 0)) (
+        Walk.peek W ! (Array (UInt w8) 51456) (replicate {A = ℕ} 51456 0) (arrayVal (replicate 51456 (vint w8 0)) ∷ []) (λ isa6.
+        Walk.sets ! (Part.rep ! 51456 (Run.lit ! tt)) (Run.init ! 8 refl (array-lawful 𝓤 H A W (UInt w8)
+        (uint-lawful 𝓤 H A W w8) 51456 .typed (replicate {A = ℕ} 51456 0) _ isa6 .0)) (
+        Walk.sets ! (Run.addr ! (Run.from ! (Run.stop !))) (Run.init ! 10 refl ((tt, tt))) (
+        Walk.sets ! (Part.agg ! (Run.and-then ! (Walk.local ! 10 refl) (Run.and-then ! (Walk.big-lit ! (record { fits = lit< tt }))
+        (Run.no-more !)))) (Walk.init-as ! 11 refl ((tt, (tt, (record { fits = lit< tt }, tt)))) (ap (λ (m : ℕ). sliceVal (l₅, 0) m)
         (sym (length-replicate {A = Node} 2048 r1)))) (
-        Walk.sets ! (Run.addr ! (Run.from ! (Run.fld ! refl (Run.hop ! (Part.look-in ! 4 (Part.sub ! 0 refl (Part.whole !))) (Run.stop !)))))
-        (Run.init ! 10 refl ((tt, tt))) (
-        Walk.sets ! (Part.agg ! (Run.and-then ! (Walk.local ! 10 refl) (Run.and-then ! (Walk.part ! 4 refl refl refl) (Run.no-more !))))
-        (Run.init ! 11 refl ((tt, (tt, (record { fits = is-output .0 .1 .0 }, tt))))) (
+        Walk.sets ! (Run.addr ! (Run.from ! (Run.stop !))) (Run.init ! 12 refl ((tt, tt))) (
+        Walk.sets ! (Part.agg ! (Run.and-then ! (Walk.local ! 12 refl) (Run.and-then ! (Walk.big-lit ! (record { fits = lit< tt }))
+        (Run.no-more !)))) (Walk.init-as ! 13 refl ((tt, (tt, (record { fits = lit< tt }, tt)))) (ap (λ (m : ℕ). sliceVal (l₆, 0) m)
+        (sym (length-replicate {A = ℕ} 51456 0)))) (
         Walk.sets ! (Run.addr ! (Run.from ! (Run.fld ! refl (Run.hop ! (Part.look-in ! 5 (Part.sub ! 0 refl (Part.whole !))) (Run.stop !)))))
-        (Run.init ! 12 refl ((tt, tt))) (
-        Walk.sets ! (Part.agg ! (Run.and-then ! (Walk.local ! 12 refl) (Run.and-then ! (Walk.part ! 5 refl refl refl) (Run.no-more !))))
-        (Run.init ! 13 refl ((tt, (tt, (record { fits = is-store .0 .1 .0 }, tt))))) (
-        -- [the array 5; the locals; their ends; κ₀; κ₁; κ₂; store; output; text]
-        -- call 2: run (text, fuel, the array 5, output, store)
-        Walk.move ! (6 ∷ 0 ∷ []) (
+        (Run.init ! 14 refl ((tt, tt))) (
+        Walk.sets ! (Part.agg ! (Run.and-then ! (Walk.local ! 14 refl) (Run.and-then ! (Walk.part ! 5 refl refl refl) (Run.no-more !))))
+        (Run.init ! 15 refl ((tt, (tt, (record { fits = is-output .0 .1 .0 }, tt))))) (
+        Walk.sets ! (Run.addr ! (Run.from ! (Run.fld ! refl (Run.hop ! (Part.look-in ! 6 (Part.sub ! 0 refl (Part.whole !))) (Run.stop !)))))
+        (Run.init ! 16 refl ((tt, tt))) (
+        Walk.sets ! (Part.agg ! (Run.and-then ! (Walk.local ! 16 refl) (Run.and-then ! (Walk.part ! 6 refl refl refl) (Run.no-more !))))
+        (Run.init ! 17 refl ((tt, (tt, (record { fits = is-store .0 .1 .0 }, tt))))) (
+        -- [the array 6; the array 5; the locals; their ends; κ₀; κ₁; κ₂; store; output; text]
+        -- call 2: run (text, fuel, the array 5, the array 6, output, store)
+        Walk.move ! (7 ∷ 1 ∷ []) (
         Arrays.lends W Node-T.the-row tt 2048 l₅ (named 1) (replicate {A = Node} 2048 r1) ! tt (subst (Slice.Room Node-T.the-row)
         (sym (length-replicate {A = Node} 2048 r1)) (lit< tt, lit< tt)) (λ ν1 δ1.
-        Walk.move ! (20 ∷ 17 ∷ []) (Again.lends W (UInt w8) κ₁ q₁ output (named 1) (named 2) (output .now) ! tt (λ ν2 δ2.
-        Walk.move ! (21 ∷ 20 ∷ []) (Again.lends W (UInt w8) κ₂ q₂ store (named 2) (named 3) (store .now) ! tt (λ ν3 δ3.
-        Walk.move ! (23 ∷ 6 ∷ 3 ∷ 0 ∷ []) (
+        Walk.move ! (9 ∷ 3 ∷ []) (
+        Arrays.lends W (UInt w8) tt 51456 l₆ (named 2) (replicate {A = ℕ} 51456 0) ! tt (subst (Slice.Room (UInt w8))
+        (sym (length-replicate {A = ℕ} 51456 0)) (lit< tt, lit< tt)) (λ ν2 δ2.
+        Walk.move ! (25 ∷ 22 ∷ []) (Again.lends W (UInt w8) κ₁ q₁ output (named 1) (named 3) (output .now) ! tt (λ ν3 δ3.
+        Walk.move ! (26 ∷ 25 ∷ []) (Again.lends W (UInt w8) κ₂ q₂ store (named 2) (named 4) (store .now) ! tt (λ ν4 δ4.
+        Walk.move ! (28 ∷ 9 ∷ 6 ∷ 3 ∷ 0 ∷ []) (
         Walk.gives W (Walk.copied (T-text .own text (v-text ∷ [])) (shr-slice-copy 𝓤 H A W (named 0) κ₀ (UInt w8) .twice text _) ∷
         Walk.made ((UInt w64) .own fuel ((vint w64 fuel) ∷ [])) (uint-makes 𝓤 H A W w64 fuel _ (refl, fits-fuel)) ∷ Walk.kept (MutSlice (named 1)
         (ν1 ∷ []) Node-T.the-row .own (record { ptr = (l₅, 0); name = δ1; now = (replicate {A = Node} 2048 r1) }) ((sliceVal (l₅, 0)
         (length (replicate {A = Node} 2048 r1))) ∷ [])) ∷ Walk.kept (MutSlice (named 2) (ν2 ∷ [])
-        (UInt w8) .own (record { ptr = (output .ptr); name = δ2; now = (output .now) }) ((sliceVal (output .ptr) (length (output .now))) ∷ [])) ∷
-        Walk.kept (MutSlice (named 3) (ν3 ∷ []) (UInt w8) .own (record { ptr = (store .ptr); name = δ3; now = (store .now) })
+        (UInt w8) .own (record { ptr = (l₆, 0); name = δ2; now = (replicate {A = ℕ} 51456 0) }) ((sliceVal (l₆, 0)
+        (length (replicate {A = ℕ} 51456 0))) ∷ [])) ∷ Walk.kept (MutSlice (named 3) (ν3 ∷ [])
+        (UInt w8) .own (record { ptr = (output .ptr); name = δ3; now = (output .now) }) ((sliceVal (output .ptr) (length (output .now))) ∷ [])) ∷
+        Walk.kept (MutSlice (named 4) (ν4 ∷ []) (UInt w8) .own (record { ptr = (store .ptr); name = δ4; now = (store .now) })
         ((sliceVal (store .ptr) (length (store .now))) ∷ [])) ∷ []) _ ! (
-        Walk.move ! (21 ∷ 7 ∷ 5 ∷ 3 ∷ []) (
-        Walk.tokens-in W ((κ₀, q₀) ∷ ((ν1 ∷ []), fullShare) ∷ ((ν2 ∷ []), fullShare) ∷ ((ν3 ∷ []), fullShare) ∷
-        []) _ ! (alive 𝓤 H A g-run.signature (κ₀, ((ν1 ∷ []), ((ν2 ∷ []), ((ν3 ∷ []), tt)))) (q₀, (fullShare, (fullShare, (fullShare, tt)))))
-        (id⊢ 𝓤 _) (
+        Walk.move ! (25 ∷ 9 ∷ 7 ∷ 5 ∷ 3 ∷ []) (
+        Walk.tokens-in W ((κ₀, q₀) ∷ ((ν1 ∷ []), fullShare) ∷ ((ν2 ∷ []), fullShare) ∷ ((ν3 ∷ []), fullShare) ∷ ((ν4 ∷ []), fullShare) ∷
+        []) _ ! (alive 𝓤 H A g-run.signature (κ₀, ((ν1 ∷ []), ((ν2 ∷ []), ((ν3 ∷ []), ((ν4 ∷ []), tt)))))
+        (q₀, (fullShare, (fullShare, (fullShare, (fullShare, tt)))))) (id⊢ 𝓤 _) (
         Walk.asksˡ W ! fm g-run.ended (g-run.clauses 𝓤 H A mem run)
-        (((κ₀, ((ν1 ∷ []), ((ν2 ∷ []), ((ν3 ∷ []), tt)))), (q₀, (fullShare, (fullShare, (fullShare, tt)))), tt, (text, (fuel, ((record { ptr = (l₅, 0); name = δ1; now = (replicate {A = Node} 2048 r1) }), ((record { ptr = (output .ptr); name = δ2; now = (output .now) }), ((record { ptr = (store .ptr); name = δ3; now = (store .now) }), tt))))), (v-text ∷ [], ((vint w64 fuel) ∷ [], ((sliceVal (l₅, 0) (length (replicate {A = Node} 2048 r1))) ∷ [], ((sliceVal (output .ptr) (length (output .now))) ∷ [], ((sliceVal (store .ptr) (length (store .now))) ∷ [], tt)))))), tt) _ (known-run (((κ₀, ((ν1 ∷ []), ((ν2 ∷ []), ((ν3 ∷ []), tt)))), (q₀, (fullShare, (fullShare, (fullShare, tt)))), tt, (text, (fuel, ((record { ptr = (l₅, 0); name = δ1; now = (replicate {A = Node} 2048 r1) }), ((record { ptr = (output .ptr); name = δ2; now = (output .now) }), ((record { ptr = (store .ptr); name = δ3; now = (store .now) }), tt))))), (v-text ∷ [], ((vint w64 fuel) ∷ [], ((sliceVal (l₅, 0) (length (replicate {A = Node} 2048 r1))) ∷ [], ((sliceVal (output .ptr) (length (output .now))) ∷ [], ((sliceVal (store .ptr) (length (store .now))) ∷ [], tt)))))), tt)) (id⊢ 𝓤 (emp 𝓤)) (λ r ws. Walk.hears-both 𝓤 _ _)
-        (Run.and-then ! (Walk.local ! 6 refl) (Run.and-then ! (Walk.local ! 7 refl) (Run.and-then ! (Walk.local ! 12 refl)
-        (Run.and-then ! (Walk.local ! 14 refl) (Run.and-then ! (Walk.local ! 16 refl) (Run.no-more !)))))) (λ u2 r2 ws2 is2′ e2.
-        Walk.returned W ((κ₀, q₀) ∷ ((ν1 ∷ []), fullShare) ∷ ((ν2 ∷ []), fullShare) ∷ ((ν3 ∷ []), fullShare) ∷ []) (Walk.gone _ ∷ Walk.gone _ ∷
-        Walk.final (finally Node-T.the-row δ1 (ws2 .1 .1 .0)) (length (ws2 .1 .1 .0)) (length (replicate {A = Node} 2048 r1)) ∷
-        Walk.final (finally (UInt w8) δ2 (ws2 .1 .1 .1 .0)) (length (ws2 .1 .1 .1 .0)) (length (output .now)) ∷
-        Walk.final (finally (UInt w8) δ3 (ws2 .1 .1 .1 .1 .0)) (length (ws2 .1 .1 .1 .1 .0)) (length (store .now)) ∷ []) ! (id⊢ 𝓤 _)
-        (λ len1 len2 len3.
-        Walk.move ! (4 ∷ 9 ∷ 2 ∷ []) (
+        (((κ₀, ((ν1 ∷ []), ((ν2 ∷ []), ((ν3 ∷ []), ((ν4 ∷ []), tt))))), (q₀, (fullShare, (fullShare, (fullShare, (fullShare, tt))))), tt, (text, (fuel, ((record { ptr = (l₅, 0); name = δ1; now = (replicate {A = Node} 2048 r1) }), ((record { ptr = (l₆, 0); name = δ2; now = (replicate {A = ℕ} 51456 0) }), ((record { ptr = (output .ptr); name = δ3; now = (output .now) }), ((record { ptr = (store .ptr); name = δ4; now = (store .now) }), tt)))))), (v-text ∷ [], ((vint w64 fuel) ∷ [], ((sliceVal (l₅, 0) (length (replicate {A = Node} 2048 r1))) ∷ [], ((sliceVal (l₆, 0) (length (replicate {A = ℕ} 51456 0))) ∷ [], ((sliceVal (output .ptr) (length (output .now))) ∷ [], ((sliceVal (store .ptr) (length (store .now))) ∷ [], tt))))))), tt) _ (known-run (((κ₀, ((ν1 ∷ []), ((ν2 ∷ []), ((ν3 ∷ []), ((ν4 ∷ []), tt))))), (q₀, (fullShare, (fullShare, (fullShare, (fullShare, tt))))), tt, (text, (fuel, ((record { ptr = (l₅, 0); name = δ1; now = (replicate {A = Node} 2048 r1) }), ((record { ptr = (l₆, 0); name = δ2; now = (replicate {A = ℕ} 51456 0) }), ((record { ptr = (output .ptr); name = δ3; now = (output .now) }), ((record { ptr = (store .ptr); name = δ4; now = (store .now) }), tt)))))), (v-text ∷ [], ((vint w64 fuel) ∷ [], ((sliceVal (l₅, 0) (length (replicate {A = Node} 2048 r1))) ∷ [], ((sliceVal (l₆, 0) (length (replicate {A = ℕ} 51456 0))) ∷ [], ((sliceVal (output .ptr) (length (output .now))) ∷ [], ((sliceVal (store .ptr) (length (store .now))) ∷ [], tt))))))), tt)) (id⊢ 𝓤 (emp 𝓤)) (λ r ws. Walk.hears-both 𝓤 _ _)
+        (Run.and-then ! (Walk.local ! 7 refl) (Run.and-then ! (Walk.local ! 8 refl) (Run.and-then ! (Walk.local ! 13 refl)
+        (Run.and-then ! (Walk.local ! 15 refl) (Run.and-then ! (Walk.local ! 17 refl) (Run.and-then ! (Walk.local ! 19 refl) (Run.no-more !)))))))
+        (λ u2 r2 ws2 is2′ e2.
+        Walk.returned W ((κ₀, q₀) ∷ ((ν1 ∷ []), fullShare) ∷ ((ν2 ∷ []), fullShare) ∷ ((ν3 ∷ []), fullShare) ∷ ((ν4 ∷ []), fullShare) ∷ [])
+        (Walk.gone _ ∷ Walk.gone _ ∷ Walk.final (finally Node-T.the-row δ1 (ws2 .1 .1 .0)) (length (ws2 .1 .1 .0))
+        (length (replicate {A = Node} 2048 r1)) ∷ Walk.final (finally (UInt w8) δ2 (ws2 .1 .1 .1 .0)) (length (ws2 .1 .1 .1 .0))
+        (length (replicate {A = ℕ} 51456 0)) ∷ Walk.final (finally (UInt w8) δ3 (ws2 .1 .1 .1 .1 .0)) (length (ws2 .1 .1 .1 .1 .0))
+        (length (output .now)) ∷ Walk.final (finally (UInt w8) δ4 (ws2 .1 .1 .1 .1 .1 .0)) (length (ws2 .1 .1 .1 .1 .1 .0)) (length (store .now)) ∷
+        []) ! (id⊢ 𝓤 _) (λ len1 len2 len3 len4.
+        Walk.move ! (5 ∷ 12 ∷ 3 ∷ []) (
         Arrays.backs W Node-T.the-row tt 2048 l₅ (named 1) (replicate {A = Node} 2048 r1) ! tt (ws2 .1 .1 .0) (length-replicate {A = Node} 2048 r1)
         (λ cell1.
-        Walk.move ! (5 ∷ 8 ∷ 3 ∷ 10 ∷ []) (
-        Again.backs W (UInt w8) κ₁ q₁ output (named 1) (named 2) (output .now) ! tt (ws2 .1 .1 .1 .0) (is-output .0 .1) len2 (
-        Walk.move ! (7 ∷ 8 ∷ 5 ∷ 10 ∷ []) (
-        Again.backs W (UInt w8) κ₂ q₂ store (named 2) (named 3) (store .now) ! tt (ws2 .1 .1 .1 .1 .0) (is-store .0 .1) len3 (
-        Walk.lands-in ! (Walk.init-as ! 10 refl (LL.lawful Ran-T.the-type Ran-L.the-laws 𝓤 H A W .typed r2 _ is2′ .0)
+        Walk.move ! (6 ∷ 11 ∷ 4 ∷ []) (
+        Arrays.backs W (UInt w8) tt 51456 l₆ (named 2) (replicate {A = ℕ} 51456 0) ! tt (ws2 .1 .1 .1 .0) (length-replicate {A = ℕ} 51456 0) (λ cell2.
+        Walk.move ! (7 ∷ 10 ∷ 5 ∷ 12 ∷ []) (
+        Again.backs W (UInt w8) κ₁ q₁ output (named 1) (named 3) (output .now) ! tt (ws2 .1 .1 .1 .1 .0) (is-output .0 .1) len3 (
+        Walk.move ! (9 ∷ 10 ∷ 7 ∷ 12 ∷ []) (
+        Again.backs W (UInt w8) κ₂ q₂ store (named 2) (named 4) (store .now) ! tt (ws2 .1 .1 .1 .1 .1 .0) (is-store .0 .1) len4 (
+        Walk.lands-in ! (Walk.init-as ! 12 refl (LL.lawful Ran-T.the-type Ran-L.the-laws 𝓤 H A W .typed r2 _ is2′ .0)
         (ap only (LL.tells Ran-T.the-type Ran-L.the-laws r2 _ is2′))) (
         let is2 : Is Ran-T.the-row r2 ((Ran-L.lowered r2) ∷ []) = subst (λ (vs : List Val). Is Ran-T.the-row r2 vs)
         (LL.tells Ran-T.the-type Ran-L.the-laws r2 _ is2′) is2′ in
-        Walk.written-out ! (‵ (T-store .own (at-last store (ws2 .1 .1 .1 .1 .0)) (sliceVal (store .ptr) (length (ws2 .1 .1 .1 .1 .0)) ∷ [])) ∷
-        ‵ (flft κ₂ q₂) ∷ ‵ (fat fullShare Y-store l₄ 0 (sliceVal (store .ptr) (length (ws2 .1 .1 .1 .1 .0)))) ∷
-        ‵ (T-output .own (at-last output (ws2 .1 .1 .1 .0)) (sliceVal (output .ptr) (length (ws2 .1 .1 .1 .0)) ∷ [])) ∷ ‵ (flft κ₁ q₁) ∷
-        ‵ (fat fullShare Y-output l₃ 0 (sliceVal (output .ptr) (length (ws2 .1 .1 .1 .0)))) ∷
+        Walk.written-out ! (‵ (T-store .own (at-last store (ws2 .1 .1 .1 .1 .1 .0)) (sliceVal (store .ptr) (length (ws2 .1 .1 .1 .1 .1 .0)) ∷ [])) ∷
+        ‵ (flft κ₂ q₂) ∷ ‵ (fat fullShare Y-store l₄ 0 (sliceVal (store .ptr) (length (ws2 .1 .1 .1 .1 .1 .0)))) ∷
+        ‵ (T-output .own (at-last output (ws2 .1 .1 .1 .1 .0)) (sliceVal (output .ptr) (length (ws2 .1 .1 .1 .1 .0)) ∷ [])) ∷ ‵ (flft κ₁ q₁) ∷
+        ‵ (fat fullShare Y-output l₃ 0 (sliceVal (output .ptr) (length (ws2 .1 .1 .1 .1 .0)))) ∷
+        ‵ (fat fullShare (tyArray (tyInt w8) 51456) l₆ 0 cell2) ∷ ‵ (Array (UInt w8) 51456 .own (ws2 .1 .1 .1 .0) (cell2 ∷ [])) ∷
         ‵ (fat fullShare (tyArray Node-L.mir 2048) l₅ 0 cell1) ∷ ‵ (Array Node-T.the-row 2048 .own (ws2 .1 .1 .0) (cell1 ∷ [])) ∷ ‵ (flft κ₀ q₀) ∷
         ‵ (T-text .own text (sliceVal (text .ptr) (length (text .now)) ∷ [])) ∷ ‵ (fat fullShare Ran-L.mir l₀ 0 (Ran-L.lowered r2)) ∷
         ‵ (fat fullShare Y-text l₁ 0 (sliceVal (text .ptr) (length (text .now)))) ∷ ‵ (fat fullShare (tyInt w64) l₂ 0 (vint w64 fuel)) ∷
-        ‵ (fat fullShare Node-L.mir l₆ 0 (Node-L.lowered r1)) ∷
-        ‵ (fat fullShare (tyRef erased mut (pointee (Array Node-T.the-row 2048 .written))) l₇ 0 (vptr l₅ 0)) ∷
-        ‵ (fat fullShare (sliceTy (tyRef erased mut (pointee (Node-T.the-row .written)))) l₈ 0 (sliceVal (l₅, 0)
-        (length (replicate {A = Node} 2048 r1)))) ∷ ‵ (fat fullShare (tyRef erased mut (pointee ((UInt w8) .written))) l₉ 0 (vptr (output .ptr .0)
-        (output .ptr .1))) ∷ ‵ (fat fullShare (sliceTy (tyRef erased mut (pointee ((UInt w8) .written)))) l₁₀ 0 (sliceVal (output .ptr)
-        (length (output .now)))) ∷ ‵ (fat fullShare (tyRef erased mut (pointee ((UInt w8) .written))) l₁₁ 0 (vptr (store .ptr .0)
-        (store .ptr .1))) ∷ ‵ (fat fullShare (sliceTy (tyRef erased mut (pointee ((UInt w8) .written)))) l₁₂ 0 (sliceVal (store .ptr)
+        ‵ (fat fullShare Node-L.mir l₇ 0 (Node-L.lowered r1)) ∷
+        ‵ (fat fullShare (tyRef erased mut (pointee (Array Node-T.the-row 2048 .written))) l₈ 0 (vptr l₅ 0)) ∷
+        ‵ (fat fullShare (sliceTy (tyRef erased mut (pointee (Node-T.the-row .written)))) l₉ 0 (sliceVal (l₅, 0)
+        (length (replicate {A = Node} 2048 r1)))) ∷
+        ‵ (fat fullShare (tyRef erased mut (pointee (Array (UInt w8) 51456 .written))) l₁₀ 0 (vptr l₆ 0)) ∷
+        ‵ (fat fullShare (sliceTy (tyRef erased mut (pointee ((UInt w8) .written)))) l₁₁ 0 (sliceVal (l₆, 0)
+        (length (replicate {A = ℕ} 51456 0)))) ∷ ‵ (fat fullShare (tyRef erased mut (pointee ((UInt w8) .written))) l₁₂ 0 (vptr (output .ptr .0)
+        (output .ptr .1))) ∷ ‵ (fat fullShare (sliceTy (tyRef erased mut (pointee ((UInt w8) .written)))) l₁₃ 0 (sliceVal (output .ptr)
+        (length (output .now)))) ∷ ‵ (fat fullShare (tyRef erased mut (pointee ((UInt w8) .written))) l₁₄ 0 (vptr (store .ptr .0)
+        (store .ptr .1))) ∷ ‵ (fat fullShare (sliceTy (tyRef erased mut (pointee ((UInt w8) .written)))) l₁₅ 0 (sliceVal (store .ptr)
         (length (store .now)))) ∷ ‵ Fd ∷ []) refl (
-        Walk.returns-by ! Post refl (Run.look ! 10 refl) (Walk.move ! (10 ∷ 10 ∷ 10 ∷ 5 ∷ 2 ∷ 4 ∷ 7 ∷ 7 ∷ 7 ∷ 7 ∷ 7 ∷ 7 ∷ 7 ∷ 7 ∷ []) (
+        Walk.returns-by ! Post refl (Run.look ! 12 refl) (Walk.move ! (12 ∷ 12 ∷ 12 ∷ 5 ∷ 2 ∷ 6 ∷ 4 ∷ 8 ∷ 8 ∷ 8 ∷ 8 ∷ 8 ∷ 8 ∷ 8 ∷ 8 ∷ 8 ∷ 8 ∷ []) (
         Walk.frees-gathered ! (Walk.full Ran-L.mir l₀ (Ran-L.lowered r2) ∷ Walk.full Y-text l₁ (sliceVal (text .ptr) (length (text .now))) ∷
-        Walk.full (tyInt w64) l₂ (vint w64 fuel) ∷ Walk.full Y-output l₃ (sliceVal (output .ptr) (length (ws2 .1 .1 .1 .0))) ∷
-        Walk.full Y-store l₄ (sliceVal (store .ptr) (length (ws2 .1 .1 .1 .1 .0))) ∷ Walk.full (tyArray Node-L.mir 2048) l₅ cell1 ∷
-        Walk.full Node-L.mir l₆ (Node-L.lowered r1) ∷ Walk.full (tyRef erased mut (pointee (Array Node-T.the-row 2048 .written))) l₇ (vptr l₅ 0) ∷
-        Walk.full (sliceTy (tyRef erased mut (pointee (Node-T.the-row .written)))) l₈ (sliceVal (l₅, 0) (length (replicate {A = Node} 2048 r1))) ∷
-        Walk.full (tyRef erased mut (pointee ((UInt w8) .written))) l₉ (vptr (output .ptr .0) (output .ptr .1)) ∷
-        Walk.full (sliceTy (tyRef erased mut (pointee ((UInt w8) .written)))) l₁₀ (sliceVal (output .ptr) (length (output .now))) ∷
-        Walk.full (tyRef erased mut (pointee ((UInt w8) .written))) l₁₁ (vptr (store .ptr .0) (store .ptr .1)) ∷
-        Walk.full (sliceTy (tyRef erased mut (pointee ((UInt w8) .written)))) l₁₂ (sliceVal (store .ptr) (length (store .now))) ∷
-        []) Fd ed (‵ (T-store .own (at-last store (ws2 .1 .1 .1 .1 .0)) (sliceVal (store .ptr) (length (ws2 .1 .1 .1 .1 .0)) ∷ [])) ∷
-        ‵ (flft κ₂ q₂) ∷ ‵ (T-output .own (at-last output (ws2 .1 .1 .1 .0)) (sliceVal (output .ptr) (length (ws2 .1 .1 .1 .0)) ∷ [])) ∷
-        ‵ (flft κ₁ q₁) ∷ ‵ (Array Node-T.the-row 2048 .own (ws2 .1 .1 .0) (cell1 ∷ [])) ∷ ‵ (flft κ₀ q₀) ∷ ‵ (T-text .own text (sliceVal (text .ptr)
-        (length (text .now)) ∷ [])) ∷ []) (
+        Walk.full (tyInt w64) l₂ (vint w64 fuel) ∷ Walk.full Y-output l₃ (sliceVal (output .ptr) (length (ws2 .1 .1 .1 .1 .0))) ∷
+        Walk.full Y-store l₄ (sliceVal (store .ptr) (length (ws2 .1 .1 .1 .1 .1 .0))) ∷ Walk.full (tyArray Node-L.mir 2048) l₅ cell1 ∷
+        Walk.full (tyArray (tyInt w8) 51456) l₆ cell2 ∷ Walk.full Node-L.mir l₇ (Node-L.lowered r1) ∷
+        Walk.full (tyRef erased mut (pointee (Array Node-T.the-row 2048 .written))) l₈ (vptr l₅ 0) ∷
+        Walk.full (sliceTy (tyRef erased mut (pointee (Node-T.the-row .written)))) l₉ (sliceVal (l₅, 0) (length (replicate {A = Node} 2048 r1))) ∷
+        Walk.full (tyRef erased mut (pointee (Array (UInt w8) 51456 .written))) l₁₀ (vptr l₆ 0) ∷
+        Walk.full (sliceTy (tyRef erased mut (pointee ((UInt w8) .written)))) l₁₁ (sliceVal (l₆, 0) (length (replicate {A = ℕ} 51456 0))) ∷
+        Walk.full (tyRef erased mut (pointee ((UInt w8) .written))) l₁₂ (vptr (output .ptr .0) (output .ptr .1)) ∷
+        Walk.full (sliceTy (tyRef erased mut (pointee ((UInt w8) .written)))) l₁₃ (sliceVal (output .ptr) (length (output .now))) ∷
+        Walk.full (tyRef erased mut (pointee ((UInt w8) .written))) l₁₄ (vptr (store .ptr .0) (store .ptr .1)) ∷
+        Walk.full (sliceTy (tyRef erased mut (pointee ((UInt w8) .written)))) l₁₅ (sliceVal (store .ptr) (length (store .now))) ∷
+        []) Fd ed (‵ (T-store .own (at-last store (ws2 .1 .1 .1 .1 .1 .0)) (sliceVal (store .ptr) (length (ws2 .1 .1 .1 .1 .1 .0)) ∷ [])) ∷
+        ‵ (flft κ₂ q₂) ∷ ‵ (T-output .own (at-last output (ws2 .1 .1 .1 .1 .0)) (sliceVal (output .ptr) (length (ws2 .1 .1 .1 .1 .0)) ∷ [])) ∷
+        ‵ (flft κ₁ q₁) ∷ ‵ (Array (UInt w8) 51456 .own (ws2 .1 .1 .1 .0) (cell2 ∷ [])) ∷ ‵ (Array Node-T.the-row 2048 .own (ws2 .1 .1 .0) (cell1 ∷
+        [])) ∷ ‵ (flft κ₀ q₀) ∷ ‵ (T-text .own text (sliceVal (text .ptr) (length (text .now)) ∷ [])) ∷ []) (
         Walk.move ! (2 ∷ 0 ∷ []) (
-        Walk.gives W (Walk.nothing ∷ Walk.nothing ∷ Walk.turned (T-output .own (at-last output (ws2 .1 .1 .1 .0)) (sliceVal (output .ptr)
-        (length (ws2 .1 .1 .1 .0)) ∷ [])) (finally (UInt w8) (output .name) (ws2 .1 .1 .1 .0))
-        (Walk.ended-slice 𝓤 H A W (named 1) κ₁ (UInt w8) output (ws2 .1 .1 .1 .0) _) ∷
-        Walk.turned (T-store .own (at-last store (ws2 .1 .1 .1 .1 .0)) (sliceVal (store .ptr) (length (ws2 .1 .1 .1 .1 .0)) ∷ []))
-        (finally (UInt w8) (store .name) (ws2 .1 .1 .1 .1 .0)) (Walk.ended-slice 𝓤 H A W (named 2) κ₂ (UInt w8) store (ws2 .1 .1 .1 .1 .0) _) ∷
-        []) _ ! (
-        Walk.move ! (4 ∷ 2 ∷ 1 ∷ []) (
+        Walk.gives W (Walk.nothing ∷ Walk.nothing ∷ Walk.turned (T-output .own (at-last output (ws2 .1 .1 .1 .1 .0)) (sliceVal (output .ptr)
+        (length (ws2 .1 .1 .1 .1 .0)) ∷ [])) (finally (UInt w8) (output .name) (ws2 .1 .1 .1 .1 .0))
+        (Walk.ended-slice 𝓤 H A W (named 1) κ₁ (UInt w8) output (ws2 .1 .1 .1 .1 .0) _) ∷
+        Walk.turned (T-store .own (at-last store (ws2 .1 .1 .1 .1 .1 .0)) (sliceVal (store .ptr) (length (ws2 .1 .1 .1 .1 .1 .0)) ∷ []))
+        (finally (UInt w8) (store .name) (ws2 .1 .1 .1 .1 .1 .0))
+        (Walk.ended-slice 𝓤 H A W (named 2) κ₂ (UInt w8) store (ws2 .1 .1 .1 .1 .1 .0) _) ∷ []) _ ! (
+        Walk.move ! (5 ∷ 2 ∷ 1 ∷ []) (
         Walk.tokens-in W ((κ₀, q₀) ∷ (κ₁, q₁) ∷ (κ₂, q₂) ∷ []) _ ! (alive 𝓤 H A f-run.signature (κ₀, (κ₁, (κ₂, tt))) (q₀, (q₁, (q₂, tt)))) (id⊢ 𝓤 _) (
         Walk.use0 W ! (‵ (Ran-T.the-row .own r2 ((Ran-L.lowered r2) ∷ []))) (LL.makes Ran-T.the-type Ran-L.the-plain 𝓤 H A r2 _ is2) (
         Walk.keep ! (1 ∷ 1 ∷ 0 ∷ []) (
-        Kit.by ! (Walk.leave-by 𝓤 H A W f-run.ended (f-run.clauses 𝓤 H A mem run) stayed-run bound (Ran-L.lowered r2) r2 (tt, (tt, ((ws2 .1 .1 .1 .0), ((ws2 .1 .1 .1 .1 .0), tt)))) (tt, (tt, ((len2 ∙ refl), ((len3 ∙ refl), tt)))) (Walk.says-both 𝓤 _ _ (e2 .0) (e2 .1)))))))))))))))))))))))))))))))))))))))))))))))))))))))))))))))))))))))))))
+        Kit.by ! (Walk.leave-by 𝓤 H A W f-run.ended (f-run.clauses 𝓤 H A mem run) stayed-run bound (Ran-L.lowered r2) r2 (tt, (tt, ((ws2 .1 .1 .1 .1 .0), ((ws2 .1 .1 .1 .1 .1 .0), tt)))) (tt, (tt, ((len3 ∙ refl), ((len4 ∙ refl), tt)))) (Walk.says-both 𝓤 _ _ (e2 .0) (e2 .1))))))))))))))))))))))))))))))))))))))))))))))))))))))))))))))))))))))))))))))))))))))))
 
 pub run-spec : {M : Type 1} → stated.statement M
 unfolding code.routine tablesOf

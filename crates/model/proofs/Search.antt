@@ -1,6 +1,6 @@
--- The law of the search: what it finds is a reading, the first of all, and it finds something where there is one.
--- The laws: rest-none, sound, complete, found-first, found-none; at the end search-brackets.
-use mathlib.Core.Path.{_≡_, refl, sym, _∙_, ap, subst, fun-ext}
+-- The search without marks, and its law: what it finds is a reading, the first of all, and it finds something where there is one. Unmarked shows
+-- that the search that marks dead places finds the same. The laws: onward-inv, rest-end, rest-byte, rest-piece, rest-none, sound, found-first, found-none.
+use mathlib.Core.Path.{_≡_, refl, sym, _∙_, ap, subst}
 use mathlib.Core.Bool.{Bool, true, false}
 use mathlib.Core.List.{List, [], _∷_, _++_, append-assoc}
 use mathlib.Core.Logic.{_⊎_, inl, inr, ⊎-elim}
@@ -8,18 +8,72 @@ use mathlib.Core.Option.{Option, none, some}
 use Prim.Native.Nat.{ℕ, zero, suc, _+_, _<_}
 use native.Mathlib.Omega.{arith}
 use lib.ListN.{length, length-append}
 use Rattle.model.specs.declared.Marks.{Marks}
 use Rattle.model.specs.Text.{Bytes}
 use Rattle.model.specs.Reading.{atom}
 use Rattle.model.specs.Fitting.{Balanced, empty}
 use Rattle.model.specs.Parts.{Elem, lit, hole, stop, ReadingPart, byte, piece, text, Good, elements, Earlier, end-piece, byte-piece, less-piece, later}
+use Rattle.model.specs.Places.{Found, endAt, withByte, pieceFound, withAtom}
 use Rattle.model.proofs.Choices.{false-not-true}
-use Rattle.atom.specs.Atoms.{brackets}
-use Rattle.atom.proofs.Atoms.{atom-brackets}
-use Rattle.atom.proofs.Rows.{none-some, Atom, atom-sound, Headed, atom-complete}
-use Rattle.nodes.specs.Templates.{walk}
-use Rattle.nodes.proofs.Templates.{onward-inv}
-use Rattle.fit.specs.Search.{Found, endAt, withByte, pieceFound, withAtom, orElse, atChild, byByte, byPiece, pastAtom, byAtom, search}
+use Rattle.model.proofs.Atoms.{none-some, Atom, atom-sound, Headed, atom-complete}
+
+-- ---- the search
+
+abbrev pub orElse : Option Found → Option Found → Option Found
+orElse none y = y
+orElse (some f) y = some f
+
+-- at a child, where there is one: 0 is none
+abbrev pub atChild : (ℕ → Option Found) → ℕ → Option Found
+atChild f zero = none
+atChild f (suc j) = f (suc j)
+
+-- past an atom, where there is one
+abbrev pub pastAtom : (Bytes → Option Found) → Option (Bytes × Bytes) → Option Found
+pastAtom f none = none
+pastAtom f (some r) = withAtom (r .0) (f (r .1))
+
+-- past the first atom of the line, if the node is a placeholder's
+abbrev pub byAtom : Marks → (Bytes → Option Found) → Bool → Bytes → Option Found
+byAtom m f true s = pastAtom f (atom m s)
+byAtom m f false s = none
+
+-- the tree: `kid` gives the child of a node for an element, 0 where there is none
+module _ (kid : ℕ → Elem → ℕ) where
+  -- to the child for the next byte, or for the template's end
+  abbrev pub byByte : (ℕ → Bytes → Option Found) → ℕ → Bytes → Option Found
+  byByte f i [] = endAt (kid i stop)
+  byByte f i (b ∷ s) = withByte b (atChild (λ j. f j s) (kid i (lit b)))
+
+  -- to the placeholder's child
+  abbrev pub byPiece : (ℕ → Bytes → Option Found) → ℕ → Bytes → Option Found
+  byPiece f i s = pieceFound (atChild (λ j. f j s) (kid i hole))
+
+-- and `holey` says whether a node is a placeholder's. The first number is fuel
+module _ (m : Marks) (kid : ℕ → Elem → ℕ) (holey : ℕ → Bool) where
+  unfoldable pub search : ℕ → ℕ → Bytes → Option Found
+  search zero i s = none
+  search (suc n) i s =
+      let third = byAtom m (search n i) (holey i) s in
+      let second = orElse (byPiece kid (search n) i s) third in
+      orElse (byByte kid (search n) i s) second
+
+-- ---- where elements lead
+
+-- on from a child, where there is one: 0 is none
+abbrev pub onward : (ℕ → ℕ) → ℕ → ℕ
+onward f zero = zero
+onward f (suc j) = f (suc j)
+
+-- the node to which elements lead from the node i, 0 where there is none
+abbrev pub walk : (ℕ → Elem → ℕ) → ℕ → List Elem → ℕ
+walk kid i [] = i
+walk kid i (e ∷ es) = onward (λ j. walk kid j es) (kid i e)
+
+-- a walk goes on only from a child
+pub onward-inv : (g : ℕ → ℕ) (k j : ℕ) → onward g k ≡ suc j → (m : ℕ) × (k ≡ suc m) × (g (suc m) ≡ suc j)
+onward-inv g zero j e = absurd (omega arith)
+onward-inv g (suc m) j e = (m, refl, e)
 
 -- ---- what is found against a reading
 
@@ -95,8 +149,17 @@ ahead-byte b o f e =
     let (g, _, h) = byte-inv b o f e in
     subst Ahead h (refl, λ p r. byte-piece b p (g .parts) r)
 
--- where a piece starts, none is open
-rest-piece : (o : Option Found) (f : Found) → pieceFound o ≡ some f → f .rest ≡ []
+-- none is open at an end or a byte
+pub rest-end : (k : ℕ) (f : Found) → endAt k ≡ some f → f .rest ≡ []
+unfolding Ahead
+rest-end k f e = ahead-end k f e .0
+
+pub rest-byte : (b : ℕ) (o : Option Found) (f : Found) → withByte b o ≡ some f → f .rest ≡ []
+unfolding Ahead
+rest-byte b o f e = ahead-byte b o f e .0
+
+-- nor where a piece starts
+pub rest-piece : (o : Option Found) (f : Found) → pieceFound o ≡ some f → f .rest ≡ []
 rest-piece o f e =
     let (g, _, h) = piece-inv o f e in
     subst (λ (x : Found). x .rest ≡ []) h refl
@@ -324,17 +387,3 @@ module _ (m : Marks) (differ : ¬ (m .left ≡ m .right)) (kid : ℕ → Elem �
   pub found-none : (n i : ℕ) (s : Bytes) → rank i + length s < n → search m kid holey n i s ≡ none
       → (o : List ReadingPart) (j : ℕ) → text o ≡ s → Good m o → ¬ (walk kid i (elements o) ≡ suc j)
   found-none n i s lt e o j x g w = none-some (sym e ∙ finds n i s o j lt x g w .1)
-
--- ---- the search goes by the brackets alone
-
-module _ (m : Marks) (kid : ℕ → Elem → ℕ) (holey : ℕ → Bool) where
-  atom-by : (F : Bytes → Option Found) (t : Bool) (s : Bytes) → byAtom (brackets (m .left) (m .right)) F t s ≡ byAtom m F t s
-  atom-by F true s = ap (pastAtom F) (atom-brackets m s)
-  atom-by F false s = refl
-
-  pub search-brackets : (n : ℕ) → search (brackets (m .left) (m .right)) kid holey n ≡ search m kid holey n
-  unfolding search
-  search-brackets zero = fun-ext (λ i. fun-ext (λ s. refl))
-  search-brackets (suc n) = fun-ext (λ i. fun-ext (λ s.
-      ap (λ (F : ℕ → Bytes → Option Found). orElse (byByte kid F i s) (orElse (byPiece kid F i s) (byAtom (brackets (m .left) (m .right)) (F i) (holey i) s))) (search-brackets n)
-      ∙ ap (λ (o : Option Found). orElse (byByte kid (search m kid holey n) i s) (orElse (byPiece kid (search m kid holey n) i s) o)) (atom-by (search m kid holey n i) (holey i) s)))

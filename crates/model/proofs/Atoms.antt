@@ -1,20 +1,80 @@
--- Atoms against balanced rows: an atom in front of a balanced row makes one, and a balanced row that isn't empty starts with an atom.
--- The laws: atom-sound, atom-complete.
-use mathlib.Core.Path.{_≡_, refl, sym, _∙_, ap}
-use mathlib.Core.Bool.{Bool, true, false}
+-- Atoms by their first byte, and against balanced rows: an atom in front of a balanced row makes one, and a balanced row that isn't empty
+-- starts with an atom. The laws: group-left, group-other, group-right, group-last, atom-right, atom-other, atom-left, atom-sound, atom-complete.
+use mathlib.Core.Path.{_≡_, refl, sym, _∙_, ap, ap₂}
+use mathlib.Core.Bool.{Bool, true, false, _&&_}
 use mathlib.Core.List.{[], _∷_, _++_, append-assoc}
 use mathlib.Core.Logic.{_⊎_, inl, inr}
 use mathlib.Core.Option.{Option, none, some}
-use Prim.Native.Nat.{ℕ, zero, suc, _<_}
+use Prim.Native.Nat.{ℕ, zero, suc, _-_, _<_}
 use native.Mathlib.Omega.{arith}
-use lib.Dec.{eqb}
+use lib.Dec.{eqb, eqb·suc-zero}
 use lib.ListN.{length}
+use borrow.Author.Tests.{eq-eqb, ne-eqb}
 use Rattle.model.specs.declared.Marks.{Marks}
 use Rattle.model.specs.Text.{Bytes}
 use Rattle.model.specs.Reading.{group, atom}
 use Rattle.model.specs.Fitting.{Balanced, empty, byte-then, group-then}
 use Rattle.model.proofs.Chosen.{Tested, alike, apart, tested}
-use Rattle.atom.proofs.Atoms.{after, after-after, group-left, group-right, group-other, group-last, atom-right, atom-left, atom-other}
+
+-- the bytes p in front of what is found
+abbrev pub after : Bytes → Option (Bytes × Bytes) → Option (Bytes × Bytes)
+after p o = elim o [ none ↦ none | some r ↦ some (p ++ r .0, r .1) ]
+
+-- what was passed goes in front at once or in two steps
+pub after-after : (p q : Bytes) (o : Option (Bytes × Bytes)) → after p (after q o) ≡ after (p ++ q) o
+after-after p q none = refl
+after-after p q (some r) = ap (λ (l : Bytes). some (l, r .1)) (sym (append-assoc p q (r .0)))
+
+module _ (m : Marks) where
+  -- ---- a group, by its first byte
+
+  -- with what the tests say: is b a left bracket, is it a right one, is no bracket open inside
+  abbrev tests : ℕ → ℕ → Bytes → Bool → Bool → Bool → Option (Bytes × Bytes)
+  tests d b s l r z =
+      let d′ : ℕ = elim l as (λ b. ℕ) [ true ↦ suc d | false ↦ elim r as (λ b. ℕ) [ true ↦ d - 1 | false ↦ d ] ] in
+      elim (r && z) [ true ↦ some (b ∷ [], s) | false ↦ after (b ∷ []) (group m d′ s) ]
+
+  -- a group goes by these tests
+  by-tests : (d b : ℕ) (s : Bytes) (l r z : Bool) → eqb b (m .left) ≡ l → eqb b (m .right) ≡ r → eqb d 0 ≡ z → group m d (b ∷ s) ≡ tests d b s l r z
+  unfolding group
+  by-tests d b s l r z e f g = ap₂ (λ (x y : Bool). tests d b s x y (eqb d 0)) e f ∙ ap (tests d b s l r) g
+
+  -- a left bracket opens one more
+  pub group-left : (d b : ℕ) (s : Bytes) → b ≡ m .left → ¬ (b ≡ m .right) → group m d (b ∷ s) ≡ after (b ∷ []) (group m (suc d) s)
+  group-left d b s l r = by-tests d b s true false (eqb d 0) (eq-eqb b (m .left) l) (ne-eqb b (m .right) r) refl
+
+  -- a byte that is no bracket leaves the count
+  pub group-other : (d b : ℕ) (s : Bytes) → ¬ (b ≡ m .left) → ¬ (b ≡ m .right) → group m d (b ∷ s) ≡ after (b ∷ []) (group m d s)
+  group-other d b s l r = by-tests d b s false false (eqb d 0) (ne-eqb b (m .left) l) (ne-eqb b (m .right) r) refl
+
+  -- a right bracket closes one
+  pub group-right : (d b : ℕ) (s : Bytes) → ¬ (b ≡ m .left) → b ≡ m .right → group m (suc d) (b ∷ s) ≡ after (b ∷ []) (group m d s)
+  group-right d b s l r =
+      let z : suc d - 1 ≡ d = omega arith in
+      by-tests (suc d) b s false true false (ne-eqb b (m .left) l) (eq-eqb b (m .right) r) (eqb·suc-zero d) ∙ ap (λ (k : ℕ). after (b ∷ []) (group m k s)) z
+
+  -- or the group itself
+  pub group-last : (b : ℕ) (s : Bytes) → b ≡ m .right → group m 0 (b ∷ s) ≡ some (b ∷ [], s)
+  group-last b s r = by-tests 0 b s (eqb b (m .left)) true true refl (eq-eqb b (m .right) r) refl
+
+  -- ---- an atom, by its first byte
+
+  -- a right bracket is no atom
+  pub atom-right : (b : ℕ) (s : Bytes) → b ≡ m .right → atom m (b ∷ s) ≡ none
+  unfolding atom
+  atom-right b s r = rw (eq-eqb b (m .right) r, atom) refl
+
+  -- a byte that is no bracket is one
+  pub atom-other : (b : ℕ) (s : Bytes) → ¬ (b ≡ m .left) → ¬ (b ≡ m .right) → atom m (b ∷ s) ≡ some (b ∷ [], s)
+  unfolding atom
+  atom-other b s l r = rw (ne-eqb b (m .right) r, ne-eqb b (m .left) l, atom) refl
+
+  -- a left bracket starts one
+  pub atom-left : (b : ℕ) (s : Bytes) → b ≡ m .left → ¬ (b ≡ m .right) → atom m (b ∷ s) ≡ after (b ∷ []) (group m 0 s)
+  unfolding atom
+  atom-left b s l r = rw (ne-eqb b (m .right) r, eq-eqb b (m .left) l, atom) refl
+
+-- ---- against balanced rows
 
 -- nothing is not something
 pub none-some : {A B : Type 0} {a : A} → _≡_ {A = Option A} none (some a) → B
