@@ -2,11 +2,11 @@
  *
  * Link with target/staticlib/libapi.a (x86-64 Linux), which `rt staticlib api` writes. The calls keep nothing between one and
  * the next, allocate nothing, and may run in several threads at once. A check and a fit need 128 KB of stack, a run 256 KB;
- * the deepest search that was found takes 70 KB, and a run with it 168 KB.
+ * the deepest search that was found takes 70 KB, and a run with it 170 KB.
  *
  * An array is passed as a pointer and a count of elements. No pointer may be NULL, not even with a count of 0. The arrays
- * that a call writes to, the node row, the row of dead places, output and store, overlap neither each other nor the text or
- * line. Nothing else is asked: every content and every count has its answer.
+ * that a call writes to, the node row, the row of dead places, both outputs and the store, overlap neither each other nor the
+ * text or line. Nothing else is asked: every content and every count has its answer.
  */
 #ifndef STAGE2_H
 #define STAGE2_H
@@ -66,7 +66,8 @@ typedef struct {
     uint64_t number; /* 0 where the run is done, else what ended it: 11 to 21; or 1 to 9 where no run began */
     uint64_t line;   /* the last input line read, before any the section's last line. 1 to 9: the line of the fault */
     uint64_t events; /* how many lines were offered and code lines begun */
-    uint64_t output; /* how many bytes of the output are written */
+    uint64_t output; /* how many bytes of the output are written, which is channel 3 */
+    uint64_t second; /* how many bytes of the second output are written, which is channel 4 */
     uint64_t store;  /* how many bytes of the store are written */
 } stage2_ran;
 
@@ -82,16 +83,19 @@ stage2_fitted stage2_fit(const uint8_t *text, size_t text_count,
                          uint8_t *dead, size_t dead_count,
                          const uint8_t *line, size_t line_count);
 
-/* Expands the input lines of a text, with at most so many events. The first bytes of the output are what is written; those of
- * the store are a line of the stored names, byte 0 between them, then a line for each text. All other bytes of both stay as
- * they were, and for numbers 1 to 9 all bytes do. With a fuel that is not 1 to STAGE2_FUEL, fewer than STAGE2_NODES nodes, a
- * row of dead places below STAGE2_DEAD or a store below STAGE2_STORE the number is 1. The output may have any count. A text
+/* Expands the input lines of a text, with at most so many events. The first bytes of the output are what is written to channel
+ * 3, lines without a reading among them, and those of the second output what is written to channel 4; those of the store are a
+ * line of the stored names, byte 0 between them, then a line for each text. All other bytes of the three stay as they were, and
+ * for numbers 1 to 9 all bytes do. With a fuel that is not 1 to STAGE2_FUEL, fewer than STAGE2_NODES nodes, a row of dead
+ * places below STAGE2_DEAD or a store below STAGE2_STORE the number is 1. Each output may have any count: 13 says that one of
+ * them lacks room for a line, and a text that writes nothing to channel 4 needs no second output but a pointer and 0. A text
  * need not be UTF-8: only where code counts, values or takes apart characters do malformed bytes end the run, with 21. */
 stage2_ran stage2_run(const uint8_t *text, size_t text_count,
                       uint64_t fuel,
                       stage2_node *nodes, size_t nodes_count,
                       uint8_t *dead, size_t dead_count,
                       uint8_t *output, size_t output_count,
+                      uint8_t *second, size_t second_count,
                       uint8_t *store, size_t store_count);
 
 #ifdef __cplusplus

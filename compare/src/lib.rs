@@ -36,6 +36,7 @@ struct RawRan {
     line: u64,
     events: u64,
     output: u64,
+    second: u64,
     store: u64,
 }
 
@@ -62,6 +63,8 @@ extern "C" {
         dead_count: usize,
         output: *mut u8,
         output_count: usize,
+        second: *mut u8,
+        second_count: usize,
         store: *mut u8,
         store_count: usize,
     ) -> RawRan;
@@ -90,13 +93,14 @@ pub fn fit(text: &[u8], nodes: &mut [Node], dead: &mut [u8], line: &[u8]) -> Fit
     Fitted { number: raw.number, line: raw.line, start: raw.start, length: raw.length, places: raw.places }
 }
 
-/// Runs a text.
+/// Runs a text. `output` is channel 3, `second` channel 4.
 pub fn run(
     text: &[u8],
     fuel: u64,
     nodes: &mut [Node],
     dead: &mut [u8],
     output: &mut [u8],
+    second: &mut [u8],
     store: &mut [u8],
 ) -> Ran {
     let raw = unsafe {
@@ -110,9 +114,18 @@ pub fn run(
             dead.len(),
             output.as_mut_ptr(),
             output.len(),
+            second.as_mut_ptr(),
+            second.len(),
             store.as_mut_ptr(),
             store.len(),
         )
     };
-    Ran { number: raw.number, line: raw.line, events: raw.events, output: raw.output, store: raw.store }
+    Ran {
+        number: raw.number,
+        line: raw.line,
+        events: raw.events,
+        output: raw.output,
+        second: raw.second,
+        store: raw.store,
+    }
 }

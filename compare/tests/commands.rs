@@ -1,6 +1,9 @@
 //! The proved programs and the command `./expand` as they are called: on files
 //! that are missing, folders, pipes and files without an end, with too many
-//! arguments, and where standard output takes nothing.
+//! arguments, with a file for channel 4, and where standard output or that file
+//! takes nothing.
+
+mod files;
 
 use std::fs::{self, OpenOptions};
 use std::io::Write;
@@ -8,16 +11,18 @@ use std::path::{Path, PathBuf};
 use std::process::{Command, Output, Stdio};
 use std::thread;
 
-use stage2_reference::programs;
+use files::root;
+use stage2_reference::programs::{self, OUTPUT_ROOM};
 
 const TEXT: &[u8] = b"$!$!0 (+-*/)\nA!$\n!10\n!F0$\n$$\nAB$\n";
 
 /// A text that ends with a number other than 0.
 const FAULT: &[u8] = b"$!$!0 (+-*/)\nA!$\n!14\n$$\nx\nA5/0\n";
 
-fn root() -> PathBuf {
-    Path::new(env!("CARGO_MANIFEST_DIR")).join("..").canonicalize().unwrap()
-}
+/// Texts that write a line to each output: one is done, one ends with 15 after
+/// both.
+const BOTH: &[u8] = b"$!$!0 (+-*/)\nA$\nstyle!F14\n$$\nA\nplain\n";
+const BOTH_FAULT: &[u8] = b"$!$!0 (+-*/)\nA!$\nstyle!F14\nplain!F1\n!14\n$$\nA5/0\n";
 
 fn program(name: &str) -> PathBuf {
     root().join("target/bin").join(name)
@@ -87,7 +92,7 @@ fn pipe(name: &str, bytes: &'static [u8]) -> String {
 #[test]
 fn expand_takes_a_file_or_standard_input() {
     let text = file("commands.text", FAULT);
-    let expected = programs::expand(FAULT);
+    let expected = programs::expand(FAULT, 0).printed;
     for path in [program("expand"), command()] {
         for output in [called(&path, &[&text]), called_with(&path, &[], FAULT)] {
             assert_eq!(output.stdout, expected);
@@ -108,7 +113,8 @@ fn expand_says_what_is_wrong() {
         assert_eq!(said(&command(), &[bad]), format!("expand: {bad} cannot be read\n"));
         assert_eq!(called(&command(), &[bad]).status.code(), Some(102));
     }
-    let usage = "expand: give the file of a text, or nothing to expand standard input\n";
+    let usage = "expand: give the file of a text, or nothing to expand standard input; \
+        then -4 and a file for channel 4, or nothing\n";
     assert_eq!(said(&program("expand"), &[&text, &text]), usage);
     assert_eq!(said(&program("expand"), &["--help"]), usage);
     assert_eq!(called(&command(), &[&text, &text]).status.code(), Some(100));
@@ -124,6 +130,83 @@ fn expand_says_what_is_wrong() {
     let unread = redirected(&program("expand"), &[], "<&-");
     assert!(unread.stdout.is_empty());
     assert_eq!(unread.stderr, b"expand: standard input cannot be read\n");
+}
+
+/// Calls with a file for channel 4 that is not there before, or holds something.
+#[test]
+fn expand_writes_channel_4_to_its_file() {
+    let second = scratch("channel.second");
+    for (bytes, status) in [(BOTH, 0), (BOTH_FAULT, 15), (TEXT, 0), (FAULT, 15), (b"", 3)] {
+        let (text, expected) = (file("channel.text", bytes), programs::expand(bytes, OUTPUT_ROOM));
+        for path in [program("expand"), command()] {
+            let _ = fs::remove_file(&second);
+            for (arguments, input) in
+                [(vec![&text[..], "-4", &second], &b""[..]), (vec!["-4", &second], bytes)]
+            {
+                let output = called_with(&path, &arguments, input);
+                assert_eq!(output.stdout, expected.printed, "{arguments:?}");
+                assert_eq!(fs::read(&second).unwrap(), expected.second, "{arguments:?}");
+                assert!(output.stderr.is_empty(), "{arguments:?}");
+                fs::write(&second, [b'x'; 100]).unwrap();
+            }
+        }
+        assert_eq!(called(&command(), &[&text, "-4", &second]).status.code(), Some(status));
+    }
+    assert_eq!(programs::expand(BOTH, OUTPUT_ROOM).second, b"style\n");
+    assert_eq!(programs::expand(BOTH_FAULT, OUTPUT_ROOM).second, b"style\n");
+}
+
+#[test]
+fn channel_4_has_no_room_without_its_file() {
+    let text = file("no-room.text", BOTH);
+    for path in [program("expand"), command()] {
+        assert_eq!(called(&path, &[&text]).stdout, b"END 13 5 2\n");
+        assert_eq!(called_with(&path, &[], BOTH).stdout, b"END 13 5 2\n");
+    }
+    assert_eq!(called(&command(), &[&text]).status.code(), Some(13));
+}
+
+/// Nothing is printed, for nothing is run before the file can be written.
+#[test]
+fn a_file_for_channel_4_that_cannot_be_written_is_told() {
+    let text = file("unwritten.text", BOTH);
+    for bad in ["/", "/no such folder/styles", ""] {
+        let message = format!("expand: {bad} cannot be written\n");
+        for path in [program("expand"), command()] {
+            assert_eq!(said(&path, &[&text, "-4", bad]), message);
+        }
+        assert_eq!(called(&command(), &[&text, "-4", bad]).status.code(), Some(106));
+    }
+    // It can be opened, and takes no byte.
+    for path in [program("expand"), command()] {
+        let output = called(&path, &[&text, "-4", "/dev/full"]);
+        assert_eq!(output.stderr, b"expand: /dev/full cannot be written\n");
+    }
+    assert_eq!(called(&command(), &[&text, "-4", "/dev/full"]).status.code(), Some(106));
+}
+
+/// A call that is wrong leaves the file for channel 4 as it is.
+#[test]
+fn a_wrong_call_writes_no_file() {
+    let (text, second) = (file("wrong-second.text", BOTH), file("wrong.second", b"kept"));
+    let unread = ["no such file", "-4", &second];
+    for path in [program("expand"), command()] {
+        assert_eq!(said(&path, &unread), "expand: no such file cannot be read\n");
+        let wrong: [&[&str]; 5] = [
+            &["-4"],
+            &[&text, "-4"],
+            &[&text, &text, "-4", &second],
+            &[&text, "-4", &second, &text],
+            &[&text, "-4", &second, "-4", &second],
+        ];
+        for arguments in wrong {
+            assert!(said(&path, arguments).starts_with("expand: "), "{arguments:?}");
+            let status = called(&command(), arguments).status.code();
+            assert_eq!(status, Some(100), "{arguments:?}");
+        }
+    }
+    assert_eq!(called(&command(), &unread).status.code(), Some(102));
+    assert_eq!(fs::read(&second).unwrap(), b"kept");
 }
 
 #[test]

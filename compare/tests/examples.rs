@@ -1,51 +1,24 @@
 //! The examples and the documents that speak of them: every example through the
 //! proved program, and every line that the guide shows in one of the examples.
 
+mod files;
+
 use std::collections::BTreeSet;
-use std::ffi::OsStr;
-use std::fs;
-use std::path::{Path, PathBuf};
-use std::process::{Command, Stdio};
+use std::path::PathBuf;
 
-fn root() -> PathBuf {
-    Path::new(env!("CARGO_MANIFEST_DIR")).join("..")
-}
-
-fn read(path: &Path) -> Vec<u8> {
-    fs::read(path).unwrap_or_else(|_| panic!("{} cannot be read", path.display()))
-}
+use files::{assert_expanded, expanded, files, read, root};
 
 /// The texts of a folder below examples/, in order of their names.
 fn texts(folder: &str) -> Vec<PathBuf> {
-    let folder = root().join("examples").join(folder);
-    let mut texts: Vec<PathBuf> = fs::read_dir(folder).unwrap().map(|entry| entry.unwrap().path()).collect();
-    texts.retain(|path| path.extension() == Some(OsStr::new("text")));
-    texts.sort();
-    texts
-}
-
-/// What the program `expand` writes for a text, and the exit status of the command.
-fn expanded(command: &str, text: &Path) -> (Vec<u8>, i32) {
-    let output = Command::new(root().join(command))
-        .stdin(Stdio::from(fs::File::open(text).unwrap()))
-        .output()
-        .unwrap_or_else(|_| panic!("{command} cannot be run: run `rt check expand` first"));
-    (output.stdout, output.status.code().unwrap())
+    files(&root().join("examples").join(folder), "text")
 }
 
 #[test]
 fn every_example() {
     let all: Vec<PathBuf> = ["", "guide", "numbers"].iter().flat_map(|folder| texts(folder)).collect();
     assert!(all.len() >= 30);
-    for text in all {
-        let (written, _) = expanded("target/bin/expand", &text);
-        assert_eq!(
-            String::from_utf8_lossy(&written),
-            String::from_utf8_lossy(&read(&text.with_extension("out"))),
-            "{}",
-            text.display()
-        );
-    }
+    assert!(all.iter().any(|text| text.with_extension("second").is_file()), "no example has two outputs");
+    all.iter().for_each(|text| assert_expanded(text));
 }
 
 /// The command's exit status is the number, which is the example's name.
@@ -53,8 +26,7 @@ fn every_example() {
 fn numbers_are_exit_statuses() {
     for text in texts("numbers") {
         let name: i32 = text.file_stem().unwrap().to_str().unwrap().parse().unwrap();
-        let (_, status) = expanded("expand", &text);
-        assert_eq!(status, name, "{}", text.display());
+        assert_eq!(expanded("expand", &text).status.code(), Some(name), "{}", text.display());
     }
 }
 
@@ -71,13 +43,15 @@ fn every_number_has_an_example() {
     assert_eq!(rows.iter().filter(|number| **number != 1).copied().collect::<BTreeSet<u32>>(), named);
 }
 
-/// Every indented line of the guide stands in an example, or in what it writes.
+/// Every indented line of the guide stands in an example, or in what it writes to
+/// one of its outputs.
 #[test]
 fn the_guide_shows_examples() {
     let guide = String::from_utf8(read(&root().join("docs/TEMPLATES.md"))).unwrap();
     let mut known = BTreeSet::new();
     for text in texts("guide") {
-        for file in [text.clone(), text.with_extension("out")] {
+        let second = Some(text.with_extension("second")).filter(|file| file.is_file());
+        for file in [text.clone(), text.with_extension("out")].into_iter().chain(second) {
             known.extend(String::from_utf8(read(&file)).unwrap().lines().map(str::to_string));
         }
     }

@@ -178,7 +178,7 @@ fn time_of_run(text: &[u8], lines: &[u8]) -> Duration {
     let mut least = Duration::MAX;
     for _ in 0..5 {
         let start = Instant::now();
-        let ran = run(text, FUEL_LIMIT, nodes, dead, &mut output, &mut store);
+        let ran = run(text, FUEL_LIMIT, nodes, dead, &mut output, &mut [], &mut store);
         least = least.min(start.elapsed());
         assert_eq!((ran.number, ran.events), (0, 100));
         assert!(&output[..ran.output as usize] == lines);

@@ -1,79 +1,28 @@
 //! The proved programs on the vectors, and against the reference on long texts
 //! and lines. What they say of files and arguments is in `commands.rs`.
 
+mod files;
+
 use std::ffi::OsStr;
-use std::fs::{self, File};
 use std::path::{Path, PathBuf};
-use std::process::{Command, Stdio};
 
-use stage2_reference::programs;
-
-fn root() -> PathBuf {
-    Path::new(env!("CARGO_MANIFEST_DIR")).join("..")
-}
+use files::{answer, assert_expanded, expanded, expanded_with_second, files, read, root, Scratch};
+use stage2_reference::programs::{self, OUTPUT_ROOM};
 
 fn vectors() -> PathBuf {
     root().join("vectors")
 }
 
-fn read(path: &Path) -> Vec<u8> {
-    fs::read(path).unwrap_or_else(|_| panic!("{} cannot be read", path.display()))
-}
-
-/// The files of a folder with an ending, in order of their names.
-fn files(folder: &Path, ending: &str) -> Vec<PathBuf> {
-    let mut files: Vec<PathBuf> = fs::read_dir(folder).unwrap().map(|entry| entry.unwrap().path()).collect();
-    files.retain(|file| file.extension() == Some(OsStr::new(ending)));
-    files.sort();
-    files
-}
-
 /// What a program prints when it is called in the folder of the vectors.
 fn printed<S: AsRef<OsStr>>(program: &str, arguments: &[S]) -> String {
-    let path = root().join("target/bin").join(program);
-    let output = Command::new(&path)
-        .args(arguments)
-        .current_dir(vectors())
-        .output()
-        .unwrap_or_else(|_| panic!("{} cannot be run: run `rt check {program}` first", path.display()));
+    let path = format!("target/bin/{program}");
+    let output = answer(&path, |command| command.args(arguments).current_dir(vectors()));
     assert!(output.status.success(), "{program} did not end well");
     assert!(output.stderr.is_empty(), "{program} wrote to standard error");
     String::from_utf8(output.stdout).unwrap()
 }
 
-/// What `expand` prints with a file as its standard input.
-fn expanded(input: &Path) -> Vec<u8> {
-    let path = root().join("target/bin/expand");
-    let file = File::open(input).unwrap_or_else(|_| panic!("{} cannot be opened", input.display()));
-    let output = Command::new(&path)
-        .stdin(Stdio::from(file))
-        .output()
-        .unwrap_or_else(|_| panic!("{} cannot be run: run `rt check expand` first", path.display()));
-    assert!(output.status.success(), "expand did not end well");
-    assert!(output.stderr.is_empty(), "expand wrote to standard error");
-    output.stdout
-}
-
-/// A file for a test, which is removed with this.
-struct Scratch(PathBuf);
-
-impl Scratch {
-    fn new(name: &str, bytes: &[u8]) -> Scratch {
-        let path = Path::new(env!("CARGO_TARGET_TMPDIR")).join(name);
-        fs::write(&path, bytes).unwrap();
-        Scratch(path)
-    }
-
-    fn name(&self) -> &str {
-        self.0.to_str().unwrap()
-    }
-}
-
-impl Drop for Scratch {
-    fn drop(&mut self) {
-        let _ = fs::remove_file(&self.0);
-    }
-}
+const EXPAND: &str = "target/bin/expand";
 
 #[test]
 fn check_vectors() {
@@ -130,12 +79,11 @@ fn many_lines() {
 
 #[test]
 fn run_vectors() {
-    for (folder, least) in [("run", 200), ("published", 30)] {
-        let texts = files(&vectors().join(folder), "text");
-        assert!(texts.len() >= least);
-        for text in texts {
-            assert!(expanded(&text) == read(&text.with_extension("out")), "{}", text.display());
-        }
+    for (folder, least) in [("run", 300), ("published", 30)] {
+        let folder = vectors().join(folder);
+        let texts = files(&folder, "text");
+        assert!(texts.len() >= least && files(&folder, "second").len() >= 10);
+        texts.iter().for_each(|text| assert_expanded(text));
     }
 }
 
@@ -145,11 +93,31 @@ fn long_texts_expanded() {
     for length in [0, long.len(), 65_535, 65_536, 65_537, 200_000] {
         long.resize(length, b'\n');
         let text = Scratch::new("expanded.text", &long);
-        assert!(expanded(Path::new(text.name())) == programs::expand(&long), "length {length}");
+        assert!(
+            expanded(EXPAND, text.path()).stdout == programs::expand(&long, 0).printed,
+            "length {length}"
+        );
+        let (output, second) = expanded_with_second(EXPAND, text.path());
+        let expected = programs::expand(&long, OUTPUT_ROOM);
+        assert!(output.stdout == expected.printed && second == expected.second, "length {length}");
+    }
+}
+
+/// Lines of 16 bytes, so many for each channel; 4,096 of them fill a room.
+#[test]
+fn both_outputs_up_to_the_last_byte() {
+    for (first, second) in [(4_096, 4_096), (4_097, 4_096), (4_096, 4_097), (0, 4_096), (0, 4_097)] {
+        let body = format!("{first}!F7\nchannel 3: line!F1\n!F8\n{second}!F7\nchannel 4: line!F14\n!F8\n");
+        let bytes = format!("$!$!0 (+-*/)\nGO$\n{body}$$\nGO\n").into_bytes();
+        let text = Scratch::new("both.text", &bytes);
+        let (output, written) = expanded_with_second(EXPAND, text.path());
+        let expected = programs::expand(&bytes, OUTPUT_ROOM);
+        assert_eq!(expected.second.len(), if first > 4_096 { 0 } else { 65_536 }, "{first} {second}");
+        assert!(output.stdout == expected.printed && written == expected.second, "{first} {second}");
     }
 }
 
 #[test]
 fn nothing_on_standard_input() {
-    assert_eq!(expanded(Path::new("/dev/null")), b"END 3 1 0\n");
+    assert_eq!(expanded(EXPAND, Path::new("/dev/null")).stdout, b"END 3 1 0\n");
 }

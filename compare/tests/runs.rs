@@ -7,7 +7,8 @@ use std::path::{Path, PathBuf};
 use std::sync::LazyLock;
 
 use common::{
-    answered, any_dead, for_places_texts, for_texts, for_value_texts, shown, Numbers, Rows, LONGEST_DEAD,
+    answered, any_dead, for_output_texts, for_places_texts, for_texts, for_value_texts, shown, Numbers, Rows,
+    LONGEST_DEAD,
 };
 use stage2_compare::run;
 use stage2_reference::generate::{Generator, Size};
@@ -19,27 +20,39 @@ struct Rooms {
     nodes: usize,
     dead: usize,
     output: usize,
+    second: usize,
     store: usize,
 }
 
 impl Rooms {
+    fn with_outputs(output: usize, second: usize) -> Rooms {
+        Rooms { nodes: NODE_ROW, dead: DEAD_ROW, output, second, store: STORE_ROOM }
+    }
+
+    /// For texts that write to channel 3 alone, which shall need no other room.
     fn with_output(output: usize) -> Rooms {
-        Rooms { nodes: NODE_ROW, dead: DEAD_ROW, output, store: STORE_ROOM }
+        Rooms::with_outputs(output, 0)
     }
 }
 
-/// A run's answer, with every byte of output and store.
+/// A run's answer, with every byte of both outputs and the store.
 #[derive(Debug, PartialEq, Eq)]
 struct Left {
     ran: Ran,
     output: Vec<u8>,
+    second: Vec<u8>,
     store: Vec<u8>,
 }
 
 impl Left {
-    /// What the run wrote to the output.
-    fn written(&self) -> &[u8] {
-        &self.output[..self.ran.output as usize]
+    /// What the run wrote to each output.
+    fn written(&self) -> [&[u8]; 2] {
+        [&self.output[..self.ran.output as usize], &self.second[..self.ran.second as usize]]
+    }
+
+    /// Whether each output goes on where that of an earlier run ended.
+    fn continues(&self, earlier: &Left) -> bool {
+        self.written().iter().zip(earlier.written()).all(|(whole, start)| whole.starts_with(start))
     }
 }
 
@@ -51,25 +64,39 @@ fn pattern(length: usize) -> Vec<u8> {
     PATTERN[..length].to_vec()
 }
 
-/// Runs a text. Output and store hold a pattern before, and what lies beyond
-/// the lengths in the answer must still be that.
+/// Runs a text by `run`, with patterns in both outputs and the store.
+fn left_by(run: impl FnOnce(&mut [u8], &mut [u8], &mut [u8]) -> Ran, rooms: Rooms) -> Left {
+    let (mut output, mut second) = (pattern(rooms.output), pattern(rooms.second));
+    let mut store = pattern(rooms.store);
+    let ran = run(&mut output, &mut second, &mut store);
+    Left { ran, output, second, store }
+}
+
+/// Runs a text. What lies beyond the lengths in the answer must still be the
+/// pattern.
 fn run_proved(text: &[u8], fuel: u64, rooms: Rooms, rows: &mut Rows) -> Left {
-    let (mut output, mut store) = (pattern(rooms.output), pattern(rooms.store));
     let (nodes, dead) = rows.lend(rooms.nodes, rooms.dead);
-    let ran = run(text, fuel, nodes, dead, &mut output, &mut store);
-    let unchanged =
-        |bytes: &[u8], length: u64| bytes[length as usize..] == PATTERN[length as usize..bytes.len()];
-    assert!(unchanged(&output, ran.output), "output, fuel {fuel}, {rooms:?}: {}", shown(text));
-    assert!(unchanged(&store, ran.store), "store, fuel {fuel}, {rooms:?}: {}", shown(text));
-    Left { ran, output, store }
+    let left = left_by(|output, second, store| run(text, fuel, nodes, dead, output, second, store), rooms);
+    let ran = left.ran;
+    for (what, bytes, length) in [
+        ("output", &left.output, ran.output),
+        ("second output", &left.second, ran.second),
+        ("store", &left.store, ran.store),
+    ] {
+        let unchanged = bytes[length as usize..] == PATTERN[length as usize..bytes.len()];
+        assert!(unchanged, "{what}, fuel {fuel}, {rooms:?}: {}", shown(text));
+    }
+    left
 }
 
 /// Compares both runs of a text; gives what they left.
 fn compare(text: &[u8], fuel: u64, rooms: Rooms, rows: &mut Rows) -> Left {
     let left = run_proved(text, fuel, rooms, rows);
-    let (mut output, mut store) = (pattern(rooms.output), pattern(rooms.store));
-    let ran = reference::run(text, fuel, rooms.nodes, rooms.dead, &mut output, &mut store);
-    let expected = Left { ran, output, store };
+    let Rooms { nodes, dead, .. } = rooms;
+    let by_reference = |output: &mut [u8], second: &mut [u8], store: &mut [u8]| {
+        reference::run(text, fuel, nodes, dead, output, second, store)
+    };
+    let expected = left_by(by_reference, rooms);
     // The bytes are not printed: there are many.
     assert_eq!(left.ran, expected.ran, "fuel {fuel}, {rooms:?}: {}", shown(text));
     assert!(left == expected, "bytes, fuel {fuel}, {rooms:?}: {}", shown(text));
@@ -82,6 +109,7 @@ fn any_rooms(generator: &mut Generator, turn: u64) -> Rooms {
         nodes: if turn.is_multiple_of(50) { NODE_ROW - 1 } else { NODE_ROW + (turn % 3) as usize * 400 },
         dead: any_dead(turn),
         output: generator.room(),
+        second: generator.room(),
         store: if turn % 50 == 1 { STORE_ROOM - 1 } else { STORE_ROOM + (turn % 2) as usize * 100 },
     }
 }
@@ -119,32 +147,94 @@ fn compare_places(size: Size, expected: &[u64]) {
     trial.numbers.assert_met(expected);
 }
 
+/// The same for texts about outputs, and then each with rooms of just what it
+/// writes, and with a byte less in one of them.
+fn compare_outputs(size: Size, expected: &[u64]) {
+    let mut trial = Trial::new();
+    let (mut outputs, mut seconds) = (0, 0);
+    for_output_texts(size, |generator, text| {
+        trial.compare(generator, text);
+        let [output, second] = compare_edges(text, generator.fuel().clamp(1, 500), &mut trial.rows);
+        outputs += u64::from(output > 0);
+        seconds += u64::from(second > 0);
+    });
+    trial.numbers.assert_met(expected);
+    let texts = trial.turn;
+    println!("of {texts} texts {outputs} wrote to channel 3, {seconds} to channel 4");
+    assert!(texts < 1_000 || outputs * 4 > texts && seconds * 5 > texts, "{outputs} {seconds}");
+}
+
+/// Rooms of just what a text writes are enough, and one that is a byte shorter is
+/// full. Gives the two lengths.
+fn compare_edges(text: &[u8], fuel: u64, rows: &mut Rows) -> [usize; 2] {
+    let whole = compare(text, fuel, Rooms::with_outputs(8_192, 8_192), rows);
+    let [output, second] = whole.written().map(<[u8]>::len);
+    let just = compare(text, fuel, Rooms::with_outputs(output, second), rows);
+    assert!(just.ran == whole.ran && just.written() == whole.written(), "{output} {second}: {}", shown(text));
+    let mut assert_full = |output: usize, second: usize| {
+        let left = compare(text, fuel, Rooms::with_outputs(output, second), rows);
+        assert_eq!(left.ran.number, 13, "{output} {second}: {}", shown(text));
+        assert!(whole.continues(&left), "{output} {second}: {}", shown(text));
+    };
+    if output > 0 {
+        assert_full(output - 1, second);
+    }
+    if second > 0 {
+        assert_full(output, second - 1);
+    }
+    [output, second]
+}
+
 /// Random texts with fuels that lie close together: 1, one event too few, just
-/// enough, and more. More fuel changes nothing of a run that ended, and only
-/// adds to the output of a spent one.
-fn compare_fuels(size: Size) {
-    let mut rows = Rows::least();
-    for_texts(size, |generator, text| {
-        let rooms = Rooms::with_output(generator.room());
+/// enough, and more.
+struct Fuels {
+    rows: Rows,
+    texts: u64,
+    /// How many spent runs wrote more with more fuel, to each output.
+    grown: [u64; 2],
+}
+
+impl Fuels {
+    fn new() -> Fuels {
+        Fuels { rows: Rows::least(), texts: 0, grown: [0; 2] }
+    }
+
+    /// More fuel changes nothing of a run that ended, and only adds to the outputs
+    /// of a spent one.
+    fn compare(&mut self, generator: &mut Generator, text: &[u8]) {
+        let rooms = Rooms::with_outputs(generator.room(), generator.room());
         let less = generator.fuel().clamp(1, 2_000);
         let more = less + generator.fuel().clamp(1, 2_000);
-        let (first, second) = (compare(text, less, rooms, &mut rows), compare(text, more, rooms, &mut rows));
+        let mut run = |fuel| compare(text, fuel, rooms, &mut self.rows);
+        let (first, then) = (run(less), run(more));
         if first.ran.number == 20 {
             assert_eq!(first.ran.events, less, "{}", shown(text));
-            assert!(second.written().starts_with(first.written()), "{}", shown(text));
+            assert!(then.continues(&first), "fuels {less} and {more}: {}", shown(text));
+            self.grown[0] += u64::from(then.ran.output > first.ran.output);
+            self.grown[1] += u64::from(then.ran.second > first.ran.second);
         } else {
-            assert!(first == second, "fuels {less} and {more}: {}", shown(text));
+            assert!(first == then, "fuels {less} and {more}: {}", shown(text));
         }
-        let events = second.ran.events;
-        if events > 0 && second.ran.number != 20 {
-            assert!(compare(text, events, rooms, &mut rows) == second, "fuel {events}: {}", shown(text));
+        let events = then.ran.events;
+        if events > 0 && then.ran.number != 20 {
+            assert!(run(events) == then, "fuel {events}: {}", shown(text));
         }
         if events > 1 {
-            let short = compare(text, events - 1, rooms, &mut rows);
+            let short = run(events - 1);
             assert_eq!((short.ran.number, short.ran.events), (20, events - 1), "{}", shown(text));
         }
-        compare(text, 1, rooms, &mut rows);
-    });
+        run(1);
+        self.texts += 1;
+    }
+}
+
+fn compare_fuels(size: Size) {
+    let mut fuels = Fuels::new();
+    for_texts(size, |generator, text| fuels.compare(generator, text));
+    for_output_texts(size, |generator, text| fuels.compare(generator, text));
+    let Fuels { texts, grown, .. } = fuels;
+    println!("{grown:?} of {texts} wrote more to each output with more fuel");
+    assert!(texts < 1_000 || grown.iter().all(|&count| count * 100 > texts), "{grown:?} of {texts}");
 }
 
 /// Bytes on both sides of the ends of the ranges in RFC 3629, section 4.
@@ -218,16 +308,55 @@ fn greatest_texts() -> Vec<PathBuf> {
 const SESSION: &[u8] = b"$!$!0 (+-*/)\nNAME !$\n!10!F1$\n$\nNAME !&amp;!$\nNAME !10&!20$\n$$\n\
     NAME Kern &amp; Co$\nplain$\n";
 
-/// Compares runs of the session, which writes 16 bytes.
+/// Writes 11 bytes to channel 3, and 8 to channel 4: by function 1 and by a copy.
+const BOTH: &[u8] = b"$!$!0 (+-*/)\nNAME !$\n!10!F1$\n.!10!F14$\n$\nCSS !$\n!F24$\n$$\n\
+    NAME Kern$\nCSS END$\na$\nEND$\nplain$\n";
+
+/// Compares runs of a text for both outputs. No room of an output gives 1.
 fn compare_rooms(rooms: Rooms, rows: &mut Rows) {
-    let left = compare(SESSION, FUEL_LIMIT, rooms, rows);
+    let left = compare(BOTH, FUEL_LIMIT, rooms, rows);
     let legal = rooms.nodes >= 2_048 && rooms.dead >= 51_456 && rooms.store >= 8_704;
-    let number = match rooms.output {
+    let number = match (rooms.output, rooms.second) {
         _ if !legal => 1,
-        0..16 => 13,
-        _ => 0,
+        (11.., 8..) => 0,
+        _ => 13,
     };
     assert_eq!(left.ran.number, number, "{rooms:?}");
+}
+
+/// Input lines for copies that E and EF stop: lines that stop both, one or none,
+/// empty ones, one that would be a call, and such as are at the limit and past it.
+fn copied_lines() -> Vec<String> {
+    let long = |start: &str, length| format!("{start:x<length$}\n");
+    let mut lines = ["", "E", "EF", "a", "a$EF", "$EF", "CE"].map(|line| format!("{line}\n")).to_vec();
+    lines.extend([long("", 200), long("", 201), long("E", 201), long("EF", 201)]);
+    lines
+}
+
+/// All inputs of at most three of these lines.
+fn copied_inputs() -> Vec<String> {
+    let mut inputs = vec![String::new()];
+    let mut longest = inputs.clone();
+    for _ in 0..3 {
+        let lines = copied_lines();
+        longest =
+            longest.iter().flat_map(|input| lines.iter().map(move |line| format!("{input}{line}"))).collect();
+        inputs.extend_from_slice(&longest);
+    }
+    inputs
+}
+
+/// Compares runs of all these inputs behind a call, in rooms that have enough for
+/// all lines, for the short ones, and for just one long one.
+fn compare_copies(code: &str, rows: &mut Rows) {
+    for input in copied_inputs() {
+        for stop in ["E", "EF", ""] {
+            let text = format!("$!$!0 (+-*/)\nC!$\n{code}\n.!F14\n$$\nC{stop}\n{input}");
+            for room in [1_000, 5, 203] {
+                compare(text.as_bytes(), 100, Rooms::with_outputs(room, room), rows);
+            }
+        }
+    }
 }
 
 /// Stores a name, and would make more passes than any fuel allows.
@@ -257,8 +386,8 @@ fn fuels_of_large_texts() {
 fn fuels_at_the_limits() {
     let mut rows = Rows::least();
     for fuel in [0, 1, 2, 4, 5, 6, 999_999, FUEL_LIMIT, FUEL_LIMIT + 1, 1 << 32, u64::MAX] {
-        for text in [SESSION, ENDLESS, b""] {
-            let left = compare(text, fuel, Rooms::with_output(1_000), &mut rows);
+        for text in [SESSION, BOTH, ENDLESS, b""] {
+            let left = compare(text, fuel, Rooms::with_outputs(1_000, 1_000), &mut rows);
             let legal = (1..=FUEL_LIMIT).contains(&fuel);
             assert_eq!(left.ran.number == 1, !legal, "fuel {fuel}");
             if text == ENDLESS && legal {
@@ -274,8 +403,10 @@ fn rooms_of_every_kind() {
     for nodes in [0, 2_047, 2_048, 2_049, 65_535, 65_536, 70_000] {
         for dead in [0, 51_455, 51_456, 51_457, 70_000] {
             for store in [0, 8_703, 8_704, 8_705, 70_000] {
-                for output in [0, 9, 10, 15, 16, 65_536, 70_000] {
-                    compare_rooms(Rooms { nodes, dead, output, store }, &mut rows);
+                for output in [0, 4, 5, 10, 11, 70_000] {
+                    for second in [0, 5, 6, 7, 8, 70_000] {
+                        compare_rooms(Rooms { nodes, dead, output, second, store }, &mut rows);
+                    }
                 }
             }
         }
@@ -327,6 +458,39 @@ fn small_texts_about_places() {
 #[test]
 fn large_texts_about_places() {
     compare_places(Size::Large, &[0, 1, 5, 6, 11, 12, 13, 14, 20]);
+}
+
+#[test]
+fn small_texts_about_outputs() {
+    compare_outputs(Size::Small, &[0, 1, 7, 11, 13, 20]);
+}
+
+#[test]
+fn large_texts_about_outputs() {
+    compare_outputs(Size::Large, &[0, 1, 7, 11, 13, 18, 20]);
+}
+
+#[test]
+fn copies_of_every_kind() {
+    let mut rows = Rows::least();
+    for code in ["!F2", "!F23", "!F24", "!F20", "!F2 4", "2!F7\n!F24\n!F8"] {
+        compare_copies(code, &mut rows);
+    }
+}
+
+/// Function 1, in a line and with a layout, and function 2 before every byte.
+#[test]
+fn digits_of_every_kind() {
+    let mut rows = Rows::least();
+    // No byte 0 and no end of the line.
+    for byte in (1..=255).filter(|byte| ![b'\n', b'$'].contains(byte)) {
+        for code in [&b"x!F1"[..], b"!F1", b"!F2", b"x!F2"] {
+            let text = [b"$!$!0 (+-*/)\nC!$\n", code, &[byte], b"\n1.1\n$$\nCE\na\nE\n"].concat();
+            let number = compare(&text, 100, Rooms::with_outputs(100, 100), &mut rows).ran.number;
+            let malformed = b"1256789".contains(&byte) || code == b"x!F2";
+            assert_eq!(number, if malformed { 7 } else { 0 }, "{}", shown(&text));
+        }
+    }
 }
 
 #[test]

@@ -66,17 +66,17 @@ fn longest(hole: &str) -> String {
     format!("Z{}Z", (hole.to_string() + &"Z".repeat(21)).repeat(9))
 }
 
-/// Twelve calls in one another. The innermost offers its parameter, which the
-/// search may follow to the end of the longest templates, without a placeholder
-/// and with nine, or through a piece that grows by an atom at a time behind eight
-/// that are empty, and then takes its value.
+/// Twelve calls in one another. The innermost writes to channel 4 and copies lines
+/// to it. Then it offers its parameter, which the search may follow to the end of
+/// the longest templates, without a placeholder and with nine, or through a piece
+/// that grows by an atom at a time behind eight that are empty, and takes its value.
 fn nested(parameters: &[&str]) -> String {
     let templates = ["Z".repeat(200), longest("!"), "!Y".to_string(), "!!!!!!!!!Y".to_string()];
     let calls: String =
         ('A'..'L').map(|name| format!("{name}!$\n{}!10\n$\n", (name as u8 + 1) as char)).collect();
     let input: String = parameters.iter().map(|parameter| format!("A{parameter}\n")).collect();
     let section = templates.map(|template| template + "$\n$\n").concat();
-    format!("$!$!0 (+-*/)\n{section}{calls}L!$\nZ!10\n!14!F1\n$$\n{input}")
+    format!("$!$!0 (+-*/)\n{section}{calls}L!$\n!F14\n1\n!F24\nZ!10\n!14!F1\n$$\n{input}")
 }
 
 /// Lines that search as deep as can be: by bytes, by atoms, and by both with a
@@ -102,15 +102,18 @@ fn a_run_takes_no_more_than_the_header_says() {
     parameters.extend([brackets, "5".to_string()]);
     let mut most = 0;
     for parameter in parameters {
-        let text = nested(&[&parameter]);
+        let text = nested(&[&parameter]) + "copied\n";
         let (mut rows, mut output, mut store) = (Rows::least(), vec![0; 65_536], vec![0; STORE_ROOM]);
+        let mut second = output.clone();
         let (nodes, dead) = rows.lend(NODE_ROW, DEAD_ROW);
         let mut ran = None;
         let taken = stack_of(&mut || {
-            ran = Some(run(text.as_bytes(), FUEL_LIMIT, nodes, dead, &mut output, &mut store));
+            ran = Some(run(text.as_bytes(), FUEL_LIMIT, nodes, dead, &mut output, &mut second, &mut store));
         });
         println!("{taken} bytes of stack: {ran:?}");
         assert!(ran.unwrap().events > 20, "the calls are not nested: {ran:?}");
+        let written = format!("{}\ncopied\n", &parameter[..1]);
+        assert!(second.starts_with(written.as_bytes()), "nothing is written to channel 4: {ran:?}");
         most = most.max(taken);
     }
     assert!(most <= RUN_STACK, "{most} bytes of stack");

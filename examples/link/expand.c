@@ -1,4 +1,4 @@
-/* Expands one text with the library, and prints the output, the answer and the stored names.
+/* Expands one text with the library, and prints both outputs, the answer and the stored names.
  *
  *     rt staticlib api
  *     cc -Iinclude examples/link/expand.c target/staticlib/libapi.a -o expand_c
@@ -11,6 +11,7 @@
 static stage2_node nodes[STAGE2_NODES];
 static uint8_t dead[STAGE2_DEAD];
 static uint8_t output[65536];
+static uint8_t second[65536];
 static uint8_t store[STAGE2_STORE];
 
 int main(void) {
@@ -24,11 +25,15 @@ int main(void) {
         "family!16$\n"
         "!F3$\n"
         "!20!F13$\n"
+        "h1 { font-family: !20; }!F14$\n"
         "$$\n"
         "NAME Kern &amp; Co$\n";
-    stage2_ran ran = stage2_run((const uint8_t *)text, strlen(text), 1000000, nodes, STAGE2_NODES,
-                                dead, sizeof dead, output, sizeof output, store, sizeof store);
+    stage2_ran ran = stage2_run((const uint8_t *)text, strlen(text), 1000000, nodes, STAGE2_NODES, dead, sizeof dead,
+                                output, sizeof output, second, sizeof second, store, sizeof store);
+    puts("channel 3:");
     fwrite(output, 1, ran.output, stdout);
+    puts("channel 4:");
+    fwrite(second, 1, ran.second, stdout);
     printf("number %d, line %d, events %d\n", (int)ran.number, (int)ran.line, (int)ran.events);
     fwrite(store, 1, ran.store, stdout);
     return 0;

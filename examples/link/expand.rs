@@ -1,4 +1,4 @@
-//! Expands one text with the library, and prints the output, the answer and the stored names.
+//! Expands one text with the library, and prints both outputs, the answer and the stored names.
 //!
 //!     rt staticlib api
 //!     rustc -O -L target/staticlib -l static=api examples/link/expand.rs -o expand_rust
@@ -11,6 +11,7 @@ struct Ran {
     line: u64,
     events: u64,
     output: u64,
+    second: u64,
     store: u64,
 }
 
@@ -37,16 +38,25 @@ extern "C" {
         dead_count: usize,
         output: *mut u8,
         output_count: usize,
+        second: *mut u8,
+        second_count: usize,
         store: *mut u8,
         store_count: usize,
     ) -> Ran;
 }
 
-/// Runs a text; gives the answer, the output and the store's listing.
-fn run(text: &[u8], fuel: u64) -> (Ran, Vec<u8>, Vec<u8>) {
+/// What a run leaves: its answer, both outputs and the store's listing.
+struct Left {
+    ran: Ran,
+    output: Vec<u8>,
+    second: Vec<u8>,
+    store: Vec<u8>,
+}
+
+fn run(text: &[u8], fuel: u64) -> Left {
     let mut nodes = vec![Node::default(); 2048];
     let mut dead = vec![0; 51456];
-    let (mut output, mut store) = (vec![0; 65536], vec![0; 8704]);
+    let (mut output, mut second, mut store) = (vec![0; 65536], vec![0; 65536], vec![0; 8704]);
     // Every slice is passed with its own length, and the mutable ones don't overlap.
     let ran = unsafe {
         stage2_run(
@@ -59,19 +69,28 @@ fn run(text: &[u8], fuel: u64) -> (Ran, Vec<u8>, Vec<u8>) {
             dead.len(),
             output.as_mut_ptr(),
             output.len(),
+            second.as_mut_ptr(),
+            second.len(),
             store.as_mut_ptr(),
             store.len(),
         )
     };
     output.truncate(ran.output as usize);
+    second.truncate(ran.second as usize);
     store.truncate(ran.store as usize);
-    (ran, output, store)
+    Left { ran, output, second, store }
 }
 
 fn main() {
-    let text = b"$!$!0 (+-*/)\nNAME !&amp;!$\nNAME !10&!20$\n$\nNAME !$\n!10!26$\nfamily!16$\n!F3$\n!20!F13$\n$$\nNAME Kern &amp; Co$\n";
-    let (ran, output, store) = run(text, 1_000_000);
+    let text = b"$!$!0 (+-*/)\n\
+        NAME !&amp;!$\nNAME !10&!20$\n$\n\
+        NAME !$\n!10!26$\nfamily!16$\n!F3$\n!20!F13$\nh1 { font-family: !20; }!F14$\n$$\n\
+        NAME Kern &amp; Co$\n";
+    let Left { ran, output, second, store } = run(text, 1_000_000);
+    println!("channel 3:");
     stdout().write_all(&output).unwrap();
+    println!("channel 4:");
+    stdout().write_all(&second).unwrap();
     println!("number {}, line {}, events {}", ran.number, ran.line, ran.events);
     stdout().write_all(&store).unwrap();
 }

@@ -41,10 +41,10 @@ pub enum Ending<'a> {
     Again,
     /// eF0: the end of the run.
     Stop,
-    /// eF1 on channel 3, with the layout if the line owns one.
-    Write { layout: Option<&'a [u8]> },
-    /// eF1 on channel 0, whose lines are dropped.
-    Drop,
+    /// eF1: the built line is written, or the layout if the line owns one.
+    Write { channel: Channel, layout: Option<&'a [u8]> },
+    /// eF2: the following input lines are copied.
+    Copy(Channel),
     /// eF3: parameter 2 is stored under parameter 1.
     Store,
     /// eF4: a skip by parameter 1.
@@ -55,6 +55,17 @@ pub enum Ending<'a> {
     SkipValue(Comparison),
     /// eF9: the end of the body.
     Return,
+}
+
+/// Where functions 1 and 2 write to.
+#[derive(Clone, Copy, Debug, PartialEq, Eq)]
+pub enum Channel {
+    /// Channel 0, whose lines are dropped.
+    Nowhere,
+    /// Channel 3, the output.
+    Output,
+    /// Channel 4, the second output.
+    Second,
 }
 
 /// What function 6 asks of the values of parameters 1 and 2.
@@ -104,7 +115,7 @@ pub fn parse<'a>(content: &'a [u8], marks: &Marks) -> Result<Parsed<'a>, Malform
         match step(coded, begins_line, marks)? {
             Step::Add(part) => parts.push(part),
             Step::End(ending) => {
-                let writes = matches!(ending, Ending::Write { .. } | Ending::Drop);
+                let writes = matches!(ending, Ending::Write { .. });
                 return Ok(Parsed { parts, ending, owns_layout: begins_line && writes });
             }
         }
@@ -158,11 +169,8 @@ fn function_ending<'a>(
     }
     match function {
         b'0' => Ok(Ending::Stop),
-        b'1' => match rest.first() {
-            Some(b'0') => Ok(Ending::Drop),
-            Some(digit) if digit.is_ascii_digit() && *digit != b'3' => Err(Malformed),
-            _ => Ok(Ending::Write { layout: None }),
-        },
+        b'1' => Ok(Ending::Write { channel: channel(rest)?, layout: None }),
+        b'2' => channel(rest).map(Ending::Copy),
         b'3' => Ok(Ending::Store),
         b'4' => Ok(Ending::Skip),
         b'5' => match rest.first() {
@@ -176,6 +184,17 @@ fn function_ending<'a>(
         b'8' => Ok(Ending::Again),
         b'9' => Ok(Ending::Return),
         _ => Err(Malformed),
+    }
+}
+
+/// Reads the digit directly after functions 1 and 2; without one it is channel 3.
+fn channel(suffix: &[u8]) -> Result<Channel, Malformed> {
+    match suffix.first() {
+        Some(b'0') => Ok(Channel::Nowhere),
+        Some(b'3') => Ok(Channel::Output),
+        Some(b'4') => Ok(Channel::Second),
+        Some(digit) if digit.is_ascii_digit() => Err(Malformed),
+        _ => Ok(Channel::Output),
     }
 }
 
@@ -208,7 +227,7 @@ mod tests {
                 let listed = match (a, b) {
                     (b'0', k) => k.is_ascii_digit(),
                     (b'1'..=b'9', c) => (b'0'..=b'8').contains(&c),
-                    (b'F', f) => b"0134789".contains(&f),
+                    (b'F', f) => b"01234789".contains(&f),
                     _ => false,
                 };
                 assert_eq!(ending(&[b'!', a, b]).is_some(), listed, "{a} {b}");
@@ -222,6 +241,10 @@ mod tests {
             (&b"A!F0"[..], false),
             (b"A!F1", true),
             (b"A!F10", true),
+            (b"A!F14", true),
+            (b"A!F2", false),
+            (b"A!F24", false),
+            (b"!10!F2", false),
             (b"A!F3", false),
             (b"A!F4", false),
             (b"A!F50", false),
@@ -237,11 +260,6 @@ mod tests {
 
     #[test]
     fn suffixes() {
-        assert_eq!(ending(b"!F1"), Some(Ending::Write { layout: None }));
-        assert_eq!(ending(b"!F13"), Some(Ending::Write { layout: None }));
-        assert_eq!(ending(b"!F1 4"), Some(Ending::Write { layout: None }));
-        assert_eq!(ending(b"!F10"), Some(Ending::Drop));
-        assert_eq!(ending(b"!F14"), None);
         assert_eq!(ending(b"!F50"), Some(Ending::SkipText { equal: true }));
         assert_eq!(ending(b"!F51"), Some(Ending::SkipText { equal: false }));
         assert_eq!(ending(b"!F5"), None);
@@ -253,11 +271,57 @@ mod tests {
         assert_eq!(ending(b"A!27,;"), Some(Ending::Each { parameter: 1, delimiters: b",;" }));
     }
 
+    /// The channel of function 1, which must be that of function 2, by what follows.
+    fn channel_before(suffix: &[u8]) -> Option<Channel> {
+        let written = match ending(&[b"!F1", suffix].concat()) {
+            Some(Ending::Write { channel, layout: None }) => Some(channel),
+            None => None,
+            other => panic!("{other:?}"),
+        };
+        let copied = ending(&[b"!F2", suffix].concat()) == written.map(Ending::Copy);
+        assert!(copied, "{}", suffix.escape_ascii());
+        written
+    }
+
+    #[test]
+    fn channels() {
+        assert_eq!(channel_before(b""), Some(Channel::Output));
+        for byte in 0..=255 {
+            let expected = match byte {
+                b'0' => Some(Channel::Nowhere),
+                b'4' => Some(Channel::Second),
+                b'1' | b'2' | b'5'..=b'9' => None,
+                _ => Some(Channel::Output),
+            };
+            assert_eq!(channel_before(&[byte]), expected, "{byte}");
+            // The second byte is no code, whatever it is.
+            for second in *b"04 !F" {
+                assert_eq!(channel_before(&[byte, second]), expected, "{byte} {second}");
+            }
+        }
+    }
+
+    #[test]
+    fn only_function_1_at_the_beginning_owns_a_layout() {
+        for (content, owns) in [
+            (&b"!F1"[..], true),
+            (b"!F10", true),
+            (b"!F14", true),
+            (b"A!F14", false),
+            (b"!F2", false),
+            (b"!F24", false),
+        ] {
+            assert_eq!(parse(content, &marks()).unwrap().owns_layout, owns, "{}", content.escape_ascii());
+        }
+    }
+
     #[test]
     fn nothing_after_an_ending_is_code() {
+        let written = Ending::Write { channel: Channel::Output, layout: None };
         assert_eq!(ending(b"A!16!!"), Some(Ending::Assign(0)));
         assert_eq!(ending(b"!F9!"), Some(Ending::Return));
-        assert_eq!(ending(b"A!F1!F!"), Some(Ending::Write { layout: None }));
+        assert_eq!(ending(b"!F24!"), Some(Ending::Copy(Channel::Second)));
+        assert_eq!(ending(b"A!F1!F!"), Some(written));
     }
 
     #[test]

@@ -1,7 +1,7 @@
 //! An independent implementation of document 01, STAGE2 for name tables and
-//! export, with requests 1 (UTF-8), 2 (values of 64 bits) and 3 (places) of
-//! document 02. It is written from the documents alone so that others can be
-//! compared with it.
+//! export, with requests 1 (UTF-8), 2 (values of 64 bits), 3 (places) and 4 (two
+//! outputs, and input lines copied to them) of document 02. It is written from
+//! the documents alone so that others can be compared with it.
 //!
 //! The public calls are [`check`], [`fit`] and [`run`]. Each takes the text
 //! itself.
@@ -12,6 +12,7 @@ pub mod generate;
 mod load;
 mod machine;
 mod number;
+mod output;
 pub mod programs;
 mod search;
 mod store;
@@ -53,13 +54,15 @@ pub struct Fitted {
     pub places: u64,
 }
 
-/// What a run gives; `output` and `store` are lengths.
+/// What a run gives; `output` (channel 3), `second` (channel 4) and `store` are
+/// lengths.
 #[derive(Clone, Copy, Debug, Default, PartialEq, Eq)]
 pub struct Ran {
     pub number: u64,
     pub line: u64,
     pub events: u64,
     pub output: u64,
+    pub second: u64,
     pub store: u64,
 }
 
@@ -103,21 +106,30 @@ pub fn most_places(text: &[u8], line: &[u8]) -> Option<u64> {
     Some((program.tree.size() * (line.len() + 1)) as u64)
 }
 
-/// Expands a text's input lines with at most `fuel` events. Bytes of `output`
-/// and `store` beyond the lengths in the result stay as they were.
-pub fn run(text: &[u8], fuel: u64, nodes: usize, dead: usize, output: &mut [u8], store: &mut [u8]) -> Ran {
+/// Expands a text's input lines with at most `fuel` events. Bytes of `output`,
+/// `second` and `store` beyond the lengths in the result stay as they were.
+pub fn run(
+    text: &[u8],
+    fuel: u64,
+    nodes: usize,
+    dead: usize,
+    output: &mut [u8],
+    second: &mut [u8],
+    store: &mut [u8],
+) -> Ran {
     if !(1..=FUEL_LIMIT).contains(&fuel) || dead < DEAD_ROW || store.len() < STORE_ROOM {
         return Ran { number: Number::Rooms.into(), ..Ran::default() };
     }
     match load::load(text, nodes) {
         Err(refusal) => Ran { number: refusal.number.into(), line: refusal.line, ..Ran::default() },
         Ok(program) => {
-            let outcome = machine::expand(&program, fuel, output);
+            let outcome = machine::expand(&program, fuel, output, second);
             Ran {
                 number: outcome.number.into(),
                 line: outcome.line,
                 events: outcome.events,
                 output: outcome.output as u64,
+                second: outcome.second as u64,
                 store: outcome.store.list(store) as u64,
             }
         }

@@ -195,7 +195,7 @@ impl<'a> Section<'a> {
 
     /// Gives the last line of the body its layout.
     fn layout(&mut self, content: &'a [u8]) {
-        if let Some(Ending::Write { layout }) = self.body().last_mut().map(|owner| &mut owner.ending) {
+        if let Some(Ending::Write { layout, .. }) = self.body().last_mut().map(|owner| &mut owner.ending) {
             *layout = Some(content);
         }
         self.due = Due::Code;

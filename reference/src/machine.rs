@@ -1,9 +1,10 @@
 //! The machine that expands the input lines of a loaded text.
 
 use crate::atoms::Atoms;
-use crate::code::{CodeLine, Comparison, Conversion, Ending, Part};
+use crate::code::{Channel, CodeLine, Comparison, Conversion, Ending, Part};
 use crate::load::{Macro, Program};
 use crate::number::Number;
+use crate::output::Output;
 use crate::search::{self, Reading};
 use crate::store::Store;
 use crate::text::{self, LINE_LIMIT};
@@ -22,18 +23,21 @@ pub struct Outcome {
     pub events: u64,
     /// Bytes written to the output.
     pub output: usize,
+    /// Bytes written to the second output.
+    pub second: usize,
     pub store: Store,
 }
 
-/// Expands all input lines, writing to `output`.
-pub fn expand(program: &Program, fuel: u64, output: &mut [u8]) -> Outcome {
-    let mut machine = Machine::new(program, fuel, output);
+/// Expands all input lines, writing channel 3 to `output` and channel 4 to `second`.
+pub fn expand(program: &Program, fuel: u64, output: &mut [u8], second: &mut [u8]) -> Outcome {
+    let mut machine = Machine::new(program, fuel, output, second);
     let number = machine.run();
     Outcome {
         number,
         line: machine.line,
         events: machine.events,
-        output: machine.written,
+        output: machine.output.length(),
+        second: machine.second.length(),
         store: machine.store,
     }
 }
@@ -53,8 +57,8 @@ struct Machine<'p, 'o> {
     /// The last number that ed2 stored.
     last_number: u64,
     store: Store,
-    output: &'o mut [u8],
-    written: usize,
+    output: Output<'o>,
+    second: Output<'o>,
 }
 
 /// An open call.
@@ -156,7 +160,12 @@ impl Call<'_> {
 type Step = Result<(), Number>;
 
 impl<'p, 'o> Machine<'p, 'o> {
-    fn new(program: &'p Program<'p>, fuel: u64, output: &'o mut [u8]) -> Machine<'p, 'o> {
+    fn new(
+        program: &'p Program<'p>,
+        fuel: u64,
+        output: &'o mut [u8],
+        second: &'o mut [u8],
+    ) -> Machine<'p, 'o> {
         Machine {
             program,
             fuel,
@@ -167,8 +176,8 @@ impl<'p, 'o> Machine<'p, 'o> {
             last_call: 0,
             last_number: 0,
             store: Store::default(),
-            output,
-            written: 0,
+            output: Output::to(output),
+            second: Output::to(second),
         }
     }
 
@@ -204,18 +213,16 @@ impl<'p, 'o> Machine<'p, 'o> {
     }
 
     fn read_input(&mut self) -> Step {
-        let line = self.next_input().ok_or(Number::Done)?;
-        let content = text::content(line, self.program.marks.source_end);
-        if content.len() > LINE_LIMIT {
-            return Err(Number::LongInput);
-        }
+        let content = self.next_input().ok_or(Number::Done)?;
+        measure(content)?;
         self.offer(content)
     }
 
+    /// Reads the next input line, of which only the content counts.
     fn next_input(&mut self) -> Option<&'p [u8]> {
         let line = self.input.next()?;
         self.line += 1;
-        Some(line)
+        Some(text::content(line, self.program.marks.source_end))
     }
 
     /// Opens a call for the line's first reading, or writes the line.
@@ -223,7 +230,7 @@ impl<'p, 'o> Machine<'p, 'o> {
         self.spend()?;
         match search::fit(&self.program.tree, line, &self.program.marks).reading {
             Some(reading) => self.open_call(line, &reading),
-            None => self.write(line),
+            None => self.output.write(line),
         }
     }
 
@@ -244,15 +251,31 @@ impl<'p, 'o> Machine<'p, 'o> {
         Ok(())
     }
 
-    /// Writes a line and byte 10 to the output, or nothing of them.
-    fn write(&mut self, line: &[u8]) -> Step {
-        let end = self.written + line.len();
-        if end >= self.output.len() {
-            return Err(Number::OutputFull);
+    fn write(&mut self, channel: Channel, line: &[u8]) -> Step {
+        match channel {
+            Channel::Nowhere => Ok(()),
+            Channel::Output => self.output.write(line),
+            Channel::Second => self.second.write(line),
         }
-        self.output[self.written..end].copy_from_slice(line);
-        self.output[end] = b'\n';
-        self.written = end + 1;
+    }
+
+    /// Copies input lines until one begins with parameter 1, which is dropped, or
+    /// none is left. An empty parameter, with which every line begins, reads none.
+    fn copy_input(&mut self, channel: Channel) -> Step {
+        let stop = self.parameter(0).to_vec();
+        if stop.is_empty() {
+            return Ok(());
+        }
+        while let Some(content) = self.next_input() {
+            if content.starts_with(&stop) {
+                break;
+            }
+            // A dropped line isn't measured.
+            if channel != Channel::Nowhere {
+                measure(content)?;
+                self.write(channel, content)?;
+            }
+        }
         Ok(())
     }
 
@@ -350,12 +373,12 @@ impl<'p, 'o> Machine<'p, 'o> {
             Ending::Times { past } => self.begin_times(past, &built),
             Ending::Again => self.next_pass(),
             Ending::Stop => Err(Number::Done),
-            Ending::Write { layout: None } => self.write(&built),
-            Ending::Write { layout: Some(layout) } => {
+            Ending::Write { channel, layout: None } => self.write(channel, &built),
+            Ending::Write { channel, layout: Some(layout) } => {
                 let line = self.laid_out(layout);
-                self.write(&line)
+                self.write(channel, &line)
             }
-            Ending::Drop => Ok(()),
+            Ending::Copy(channel) => self.copy_input(channel),
             Ending::Store => {
                 let parameters = &self.calls.last().expect("a code line has its call").parameters;
                 self.store.put(&parameters[0], &parameters[1])
@@ -494,6 +517,14 @@ impl<'p, 'o> Machine<'p, 'o> {
         }
         Ok(())
     }
+}
+
+/// An input line that is offered or copied must not be too long.
+fn measure(content: &[u8]) -> Step {
+    if content.len() > LINE_LIMIT {
+        return Err(Number::LongInput);
+    }
+    Ok(())
 }
 
 /// Adds bytes to a line being built.

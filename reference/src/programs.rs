@@ -3,18 +3,29 @@
 use crate::text::lines;
 use crate::{check, fit, run, Fitted, DEAD_ROW, FUEL_LIMIT, NODE_ROW, STORE_ROOM};
 
-/// Bytes of output that `expand` has room for.
+/// Bytes of output that `expand` has room for; of the second one too, where it is
+/// asked for.
 pub const OUTPUT_ROOM: usize = 65_536;
 
-/// The output of `expand` for a text: what the run writes, then its end.
-pub fn expand(text: &[u8]) -> Vec<u8> {
-    let mut output = vec![0; OUTPUT_ROOM];
+/// What `expand` writes.
+pub struct Expanded {
+    /// To standard output: the run's output, then its end.
+    pub printed: Vec<u8>,
+    /// To the file for channel 4.
+    pub second: Vec<u8>,
+}
+
+/// Expands a text. Channel 4 has no room unless `second_room` gives it one.
+pub fn expand(text: &[u8], second_room: usize) -> Expanded {
+    let mut printed = vec![0; OUTPUT_ROOM];
+    let mut second = vec![0; second_room];
     let mut store = vec![0; STORE_ROOM];
-    let ran = run(text, FUEL_LIMIT, NODE_ROW, DEAD_ROW, &mut output, &mut store);
-    output.truncate(ran.output as usize);
+    let ran = run(text, FUEL_LIMIT, NODE_ROW, DEAD_ROW, &mut printed, &mut second, &mut store);
+    printed.truncate(ran.output as usize);
+    second.truncate(ran.second as usize);
     let end = format!("END {} {} {}\n", ran.number, ran.line, ran.events);
-    output.extend_from_slice(end.as_bytes());
-    output
+    printed.extend_from_slice(end.as_bytes());
+    Expanded { printed, second }
 }
 
 /// The line of `check_text` for one file.

@@ -47,7 +47,7 @@ fn run_row(body: &str, row: &[u8]) -> Left {
 fn assert_left(body: &str, row: &[u8], number: u64, events: u64, output: &str) {
     let left = run_row(body, row);
     let line = 4 + body.lines().count() as u64;
-    let expected = Ran { number, line, events, output: output.len() as u64, store: 1 };
+    let expected = Ran { number, line, events, output: output.len() as u64, second: 0, store: 1 };
     assert_eq!(left.ran, expected, "{body:?} {row:02X?}");
     assert_eq!(left.output, output.as_bytes(), "{body:?} {row:02X?}");
 }

@@ -20,12 +20,12 @@ struct Rooms {
 const LEAST: Rooms = Rooms { nodes: NODE_ROW, dead: DEAD_ROW, store: STORE_ROOM };
 
 fn run_with(text: &[u8], fuel: u64, rooms: Rooms) -> Ran {
-    let mut output = pattern(100);
+    let (mut output, mut second) = (pattern(100), pattern(100));
     let mut store = pattern(rooms.store);
-    let untouched = (output.clone(), store.clone());
-    let ran = run(text, fuel, rooms.nodes, rooms.dead, &mut output, &mut store);
+    let untouched = (output.clone(), second.clone(), store.clone());
+    let ran = run(text, fuel, rooms.nodes, rooms.dead, &mut output, &mut second, &mut store);
     if (1..=9).contains(&ran.number) {
-        assert_eq!((output, store), untouched);
+        assert_eq!((output, second, store), untouched);
         assert_eq!(ran, Ran { number: ran.number, line: ran.line, ..Ran::default() });
     }
     ran

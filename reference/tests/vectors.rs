@@ -4,9 +4,9 @@ use std::ffi::OsStr;
 use std::fs;
 use std::io::Write;
 use std::path::{Path, PathBuf};
-use std::process::{Command, Stdio};
+use std::process::{Command, Output, Stdio};
 
-use stage2_reference::programs;
+use stage2_reference::programs::{self, OUTPUT_ROOM};
 
 fn vectors() -> PathBuf {
     Path::new(env!("CARGO_MANIFEST_DIR")).join("../vectors")
@@ -30,21 +30,35 @@ fn shown(bytes: &[u8]) -> String {
 }
 
 /// Compares every text of a folder with the output beside it; gives the number.
+/// Where there is a second output too, channel 4 has its room.
 fn compare_runs(folder: &Path) -> usize {
     let texts = files(folder, "text");
+    let seconds = files(folder, "second");
     for path in &texts {
-        let expected = read(&path.with_extension("out"));
-        let got = programs::expand(&read(path));
-        assert_eq!(shown(&got), shown(&expected), "{}", path.display());
-        assert_eq!(got, expected, "{}", path.display());
+        let second = path.with_extension("second");
+        let has_second = seconds.contains(&second);
+        let got = programs::expand(&read(path), if has_second { OUTPUT_ROOM } else { 0 });
+        assert_bytes(&got.printed, &path.with_extension("out"));
+        if has_second {
+            assert_bytes(&got.second, &second);
+        }
     }
     assert_eq!(texts.len(), files(folder, "out").len(), "an output without its text");
+    assert!(seconds.iter().all(|path| texts.contains(&path.with_extension("text"))), "{seconds:?}");
+    assert!(seconds.len() >= 10, "few second outputs");
     texts.len()
+}
+
+/// Compares bytes with those of a file.
+fn assert_bytes(got: &[u8], path: &Path) {
+    let expected = read(path);
+    assert_eq!(shown(got), shown(&expected), "{}", path.display());
+    assert_eq!(got, expected, "{}", path.display());
 }
 
 #[test]
 fn run_vectors() {
-    assert!(compare_runs(&vectors().join("run")) >= 200);
+    assert!(compare_runs(&vectors().join("run")) >= 300);
 }
 
 #[test]
@@ -93,8 +107,8 @@ fn fit_vectors() {
     }
 }
 
-/// What a program writes to standard output, given arguments and input.
-fn output_of(program: &str, arguments: &[&str], input: &[u8]) -> Vec<u8> {
+/// What a program answers, given arguments and input.
+fn called(program: &str, arguments: &[&str], input: &[u8]) -> Output {
     let mut child = Command::new(program)
         .args(arguments)
         .current_dir(vectors())
@@ -103,18 +117,59 @@ fn output_of(program: &str, arguments: &[&str], input: &[u8]) -> Vec<u8> {
         .stderr(Stdio::piped())
         .spawn()
         .expect("the program starts");
-    child.stdin.take().unwrap().write_all(input).unwrap();
-    let output = child.wait_with_output().unwrap();
+    // A program that has no use for its input may have closed it.
+    let _ = child.stdin.take().unwrap().write_all(input);
+    child.wait_with_output().unwrap()
+}
+
+/// What a program writes to standard output, given arguments and input.
+fn output_of(program: &str, arguments: &[&str], input: &[u8]) -> Vec<u8> {
+    let output = called(program, arguments, input);
     assert!(output.stderr.is_empty(), "{}", shown(&output.stderr));
     output.stdout
 }
+
+const EXPAND: &str = env!("CARGO_BIN_EXE_expand");
+
+/// Writes a line to each output.
+const BOTH: &[u8] = b"$!$!0 (+-*/)\nA$\nstyle!F14\n$$\nA\nplain\n";
 
 #[test]
 fn program_expand() {
     for name in ["session", "marks-letters-and-high-bytes", "number-02-text-65537", "limit-output-65536"] {
         let path = vectors().join("run").join(name).with_extension("text");
-        let got = output_of(env!("CARGO_BIN_EXE_expand"), &[], &read(&path));
-        assert_eq!(shown(&got), shown(&read(&path.with_extension("out"))), "{name}");
+        let expected = shown(&read(&path.with_extension("out")));
+        assert_eq!(shown(&output_of(EXPAND, &[], &read(&path))), expected, "{name}");
+        assert_eq!(shown(&output_of(EXPAND, &[path.to_str().unwrap()], b"")), expected, "{name}");
+    }
+}
+
+/// What `expand` says on standard error, where it prints nothing.
+fn expand_says(arguments: &[&str]) -> String {
+    let output = called(EXPAND, arguments, BOTH);
+    assert!(!output.status.success() && output.stdout.is_empty(), "{arguments:?}");
+    shown(&output.stderr)
+}
+
+#[test]
+fn program_expand_with_a_second_file() {
+    let folder = Path::new(env!("CARGO_TARGET_TMPDIR"));
+    let (text, second) = (folder.join("both.text"), folder.join("both.second"));
+    fs::write(&text, BOTH).unwrap();
+    let (text, name) = (text.to_str().unwrap(), second.to_str().unwrap());
+    for arguments in [&["-4", name][..], &[text, "-4", name]] {
+        fs::write(&second, "longer than what is written").unwrap();
+        assert_eq!(shown(&output_of(EXPAND, arguments, BOTH)), "plain\nEND 0 6 3\n", "{arguments:?}");
+        assert_eq!(shown(&read(&second)), "style\n", "{arguments:?}");
+    }
+    // Without the file channel 4 has no room.
+    assert_eq!(shown(&output_of(EXPAND, &[text], b"")), "END 13 5 2\n");
+    let unwritten = folder.join("absent/second");
+    let unwritten = unwritten.to_str().unwrap();
+    assert_eq!(expand_says(&[text, "-4", unwritten]), format!("expand: {unwritten} cannot be written\n"));
+    assert_eq!(expand_says(&["absent", "-4", name]), "expand: absent cannot be read\n");
+    for arguments in [&["-4"][..], &[text, "-4"], &[text, text], &[text, text, "-4", name]] {
+        assert!(expand_says(arguments).starts_with("expand: give one file, or none"), "{arguments:?}");
     }
 }
 

@@ -23,7 +23,8 @@ fn main() {
     let mut print = |case: &str, text: &str, loading: Option<Times>| print(&mut lent, case, text, loading);
     print("1,000,000 events: passes of an iteration", &passes(), None);
     print("1,000,000 events: calls in an iteration", &calls(), None);
-    print("900 order lines through name templates", &orders(), None);
+    print("900 order lines through name templates", &orders(""), None);
+    print("900 order lines to two outputs", &orders("4"), None);
     print("100,000 expressions with names and brackets", &expressions(), None);
     let loading = print("three templates, no line", &short(0), None);
     print("three templates, 10,000 short lines", &short(10_000), Some(loading));
@@ -58,10 +59,11 @@ fn calls() -> String {
 }
 
 /// An export of 900 lines: names with an entity to replace, styles that are
-/// numbered, and lines that are no call.
-fn orders() -> String {
-    let section =
-        "NAME !$\n!10!F1\n$\nNAME !&amp;!$\nNAME !10&!20\n$\nSTYLE ! WEIGHT !$\n!12 !10 !24!F1\n$$\n";
+/// numbered, which go to a channel, and lines that are no call.
+fn orders(channel: &str) -> String {
+    let section = format!(
+        "NAME !$\n!10!F1\n$\nNAME !&amp;!$\nNAME !10&!20\n$\nSTYLE ! WEIGHT !$\n!12 !10 !24!F1{channel}\n$$\n"
+    );
     let lines: String = (0..300)
         .map(|at| {
             let weight = at % 9 * 100 + 100;
@@ -128,21 +130,29 @@ struct Lent {
     nodes: Vec<Node>,
     dead: Vec<u8>,
     output: Vec<u8>,
+    second: Vec<u8>,
     store: Vec<u8>,
 }
 
 impl Lent {
     fn new() -> Lent {
-        let nodes = vec![Node::default(); NODE_ROW];
-        Lent { nodes, dead: vec![0; DEAD_ROW], output: vec![0; 65_536], store: vec![0; STORE_ROOM] }
+        Lent {
+            nodes: vec![Node::default(); NODE_ROW],
+            dead: vec![0; DEAD_ROW],
+            output: vec![0; 65_536],
+            second: vec![0; 65_536],
+            store: vec![0; STORE_ROOM],
+        }
     }
 
     fn run_proved(&mut self, text: &[u8]) -> Ran {
-        run(text, FUEL_LIMIT, &mut self.nodes, &mut self.dead, &mut self.output, &mut self.store)
+        let Lent { nodes, dead, output, second, store } = self;
+        run(text, FUEL_LIMIT, nodes, dead, output, second, store)
     }
 
     fn run_reference(&mut self, text: &[u8]) -> Ran {
-        reference::run(text, FUEL_LIMIT, NODE_ROW, DEAD_ROW, &mut self.output, &mut self.store)
+        let Lent { output, second, store, .. } = self;
+        reference::run(text, FUEL_LIMIT, NODE_ROW, DEAD_ROW, output, second, store)
     }
 }
 

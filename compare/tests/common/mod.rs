@@ -46,6 +46,11 @@ pub fn for_places_texts(size: Size, test: impl FnMut(&mut Generator, &[u8])) {
     for_made(&format!("{size:?}, places"), |generator| generator.places_text(size), test);
 }
 
+/// Calls `test` with random texts about outputs, of a size.
+pub fn for_output_texts(size: Size, test: impl FnMut(&mut Generator, &[u8])) {
+    for_made(&format!("{size:?}, outputs"), |generator| generator.output_text(size), test);
+}
+
 /// Calls `test` with the texts that `make` makes, and prints the seed.
 fn for_made(
     kind: &str,

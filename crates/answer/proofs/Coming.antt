@@ -7,7 +7,7 @@ use Prim.Native.Nat.{ℕ}
 use native.Mathlib.Omega.{arith}
 use Rattle.model.specs.declared.Marks.{Marks}
 use Rattle.model.specs.Text.{Bytes}
-use Rattle.model.specs.Machine.{Step, continues, halts, stateWith, stepped}
+use Rattle.model.specs.Machine.{Step, continues, halts, stateWith, stepped, Outputs}
 use Rattle.model.proofs.Choices.{false-not-true}
 use Rattle.state.specs.declared.State.{State}
 use Rattle.state.specs.State.{sharedOf, stateOf, Sound}
@@ -16,7 +16,7 @@ use Rattle.call.specs.Call.{laid, frameOf, Placed}
 use Rattle.answer.specs.declared.Answer.{Answer}
 use Rattle.answer.specs.Answers.{noCall, goesOn, endsWith, GoesOrEnds, settle, nextAt, nextOf}
 use Rattle.answer.specs.Kept.{Comes}
-use Rattle.answer.proofs.Following.{extends-none, stays-same}
+use Rattle.answer.proofs.Following.{both-none, stays-same}
 
 -- ---- by a flag
 
@@ -34,10 +34,10 @@ pub none-placed : {text : Bytes} {c : Head} {nums : List ℕ} {bytes : Bytes} �
 none-placed q = record { number = omega arith; next = omega arith; depth = omega arith; nums = q .nums; bytes = q .bytes; iterations = λ i h. absurd (omega arith) }
 
 -- the same of an equal step
-pub comes-as : {m : Marks} {text : Bytes} {p p′ : Step} {s : State} {o b : Bytes} {r : Answer} {nums : List ℕ} {bytes o′ memory′ : Bytes} → p′ ≡ p → Comes m text p s o b r nums bytes o′ memory′
+pub comes-as : {m : Marks} {text : Bytes} {p p′ : Step} {s : State} {o : Outputs} {b : Bytes} {r : Answer} {nums : List ℕ} {bytes : Bytes} {o′ : Outputs} {memory′ : Bytes} → p′ ≡ p → Comes m text p s o b r nums bytes o′ memory′
     → Comes m text p′ s o b r nums bytes o′ memory′
-comes-as {m} {text} {r = r} {o′ = o′} {memory′ = memory′} e h = record {
-  same = λ fs. ap (λ (q : Step). settle (stepped m fs q (stateOf text none fs (r .state) o′ memory′))) e ∙ h .same fs;
+comes-as {m} {text} {s = s} {o′ = o′} {memory′ = memory′} e h = record {
+  same = λ fs. ap (λ (q : Step). settle (stepped m fs q (stateOf text none fs s o′ memory′))) e ∙ h .same fs;
   sound = h .sound;
   placed = h .placed;
   short = h .short;
@@ -45,7 +45,7 @@ comes-as {m} {text} {r = r} {o′ = o′} {memory′ = memory′} e h = record {
   extends = h .extends;
 }
 
-module _ {m : Marks} {text : Bytes} {c : Head} {nums : List ℕ} {bytes : Bytes} {s : State} {o memory b : Bytes} {p : Step} {r : Answer} (h : Sound s o memory) (q : Placed text (laid c nums bytes)) where
+module _ {m : Marks} {text : Bytes} {c : Head} {nums : List ℕ} {bytes : Bytes} {s : State} {o : Outputs} {memory b : Bytes} {p : Step} {r : Answer} (h : Sound text s o memory) (q : Placed text (laid c nums bytes)) where
   -- the call goes on, in the state as it is
   pub came-on : r ≡ goesOn c s → p ≡ continues (frameOf m text (laid c nums bytes)) (sharedOf s o memory) → Comes m text p s o b r nums bytes o memory
   unfolding settle nextAt nextOf stepped stateWith
@@ -55,7 +55,7 @@ module _ {m : Marks} {text : Bytes} {c : Head} {nums : List ℕ} {bytes : Bytes}
     placed = q;
     short = omega arith;
     stays = stays-same s;
-    extends = extends-none (h .written);
+    extends = both-none h;
   }))
 
   -- the run ends
@@ -67,7 +67,7 @@ module _ {m : Marks} {text : Bytes} {c : Head} {nums : List ℕ} {bytes : Bytes}
     placed = none-placed q;
     short = omega arith;
     stays = stays-same s;
-    extends = extends-none (h .written);
+    extends = both-none h;
   }))
 
   -- by a flag

@@ -3,14 +3,14 @@ use mathlib.Core.Path.{_≡_, refl, sym, ap, _∙_}
 use mathlib.Core.Bool.{true, false}
 use mathlib.Core.Option.{none, some}
 use mathlib.Core.List.{List, [], _∷_}
-use Prim.Native.Nat.{ℕ, _+_, min}
+use Prim.Native.Nat.{ℕ, _+_, _≤_, min}
 use native.Mathlib.Omega.{arith}
 use lib.ListN.{length, take, drop}
 use Rattle.model.specs.declared.Marks.{Marks}
 use Rattle.model.specs.Text.{Bytes, lines}
 use Rattle.model.specs.Load.{Loaded}
 use Rattle.model.specs.Machine as Machine
-use Rattle.model.specs.Machine.{Frame, Shared, Step, continues, offers, skips, leaves, halts, resumeAt, Next, running, ended, stateWith, Passed, landed, beyond, badLanding, passOver, skipFrom, skipIn, stepped, outcome}
+use Rattle.model.specs.Machine.{Frame, Shared, Step, continues, offers, skips, leaves, copies, halts, resumeAt, Next, running, ended, stateWith, Passed, landed, beyond, badLanding, passOver, skipFrom, skipIn, stepped, outcome, Outputs, Rooms}
 use Rattle.model.specs.Sizes.{Nested, FramesOk}
 use Rattle.model.proofs.Fuel.{after-ended}
 use Rattle.model.proofs.Frames.{NextOk, skipIn-nested}
@@ -41,18 +41,19 @@ module _ (m : Marks) where
   stepped-same fs gs (offers l f w) v s = refl
   stepped-same fs gs (skips n f w) v s = skip-same n (f ∷ fs) gs w v s
   stepped-same fs gs (leaves w) v s = refl
+  stepped-same fs gs (copies room ch f w) v s = refl
   stepped-same fs gs (halts k w) v s = refl
 
   module _ (text : Bytes) (s s′ : State) (at : s′ .at ≡ s .at) (line : s′ .line ≡ s .line) (calls : s′ .calls ≡ s .calls) (events : s′ .events ≡ s .events) where
     -- what a code line comes to, seen from the state after it
-    pub stepped-at : (fs gs : List Frame) (p : Step) (o w o′ w′ : Bytes) → stepped m fs p (stateOf text none gs s o w) ≡ stepped m fs p (stateOf text none fs s′ o′ w′)
+    pub stepped-at : (fs gs : List Frame) (p : Step) (o : Outputs) (w : Bytes) (o′ : Outputs) (w′ : Bytes) → stepped m fs p (stateOf text none gs s o w) ≡ stepped m fs p (stateOf text none fs s′ o′ w′)
     unfolding stateWith
     stepped-at fs gs p o w o′ w′ =
         stepped-same fs fs p (sharedOf s′ o′ w′) (stateOf text none gs s o w)
         ∙ (λ i. stepped m fs p (record { input = lines (drop (sym at i) text); line = sym line i; pending = none; frames = fs; calls = sym calls i; shared = sharedOf s′ o′ w′; events = sym events i }))
 
   -- nothing is skipped
-  pub skip-none : (text : Bytes) (fs : List Frame) (s : State) (o w : Bytes) → settle (skipIn m 0 fs (sharedOf s o w) (stateOf text none fs s o w)) ≡ running (stateOf text none fs s o w)
+  pub skip-none : (text : Bytes) (fs : List Frame) (s : State) (o : Outputs) (w : Bytes) → settle (skipIn m 0 fs (sharedOf s o w) (stateOf text none fs s o w)) ≡ running (stateOf text none fs s o w)
   unfolding settle skipIn skipFrom passOver stateWith resumeAt
   skip-none text [] s o w =
       let z : s .line + min 0 (length (lines (drop (s .at) text))) ≡ s .line = omega arith in
@@ -62,12 +63,12 @@ module _ (m : Marks) where
 -- ---- runs that have ended
 
 -- the run ends with a number
-pub halts-with : (fuel room : ℕ) (t : Loaded) (text : Bytes) (k : ℕ) (fs : List Frame) (s : State) (o w : Bytes) → comesTo fuel room t (ended k (stateOf text none fs s o w)) ≡ resultAfter (endsWith k s) o w
+pub halts-with : (fuel : ℕ) (room : Rooms) (t : Loaded) (text : Bytes) (k : ℕ) (fs : List Frame) (s : State) (o : Outputs) (w : Bytes) → comesTo fuel room t (ended k (stateOf text none fs s o w)) ≡ resultAfter (endsWith k s) o w
 unfolding outcome Machine.resultOf
 halts-with fuel room t text k fs s o w = ap outcome (after-ended fuel room t k (stateOf text none fs s o w))
 
 -- what is settled comes to the same
-pub settle-same : (fuel room : ℕ) (t : Loaded) (x : Next) → comesTo fuel room t x ≡ comesTo fuel room t (settle x)
+pub settle-same : (fuel : ℕ) (room : Rooms) (t : Loaded) (x : Next) → comesTo fuel room t x ≡ comesTo fuel room t (settle x)
 unfolding settle outcome Machine.resultOf stateWith
 settle-same fuel room t (running s) = refl
 settle-same fuel room t (ended k s) = ap outcome (after-ended fuel room t k s) ∙ sym (ap outcome (after-ended fuel room t k (stateWith s none [] (s .shared))))
@@ -79,7 +80,7 @@ settle-nested m (ended k s) h = tt
 
 -- ---- an answer by its turn
 
-module _ (m : Marks) (text : Bytes) (r : Answer) (fs : List Frame) (nums : List ℕ) (bytes line o w : Bytes) where
+module _ (m : Marks) (text : Bytes) (r : Answer) (fs : List Frame) (nums : List ℕ) (bytes line : Bytes) (o : Outputs) (w : Bytes) where
   -- what the answer comes to, with another turn
   abbrev turned : Turn → Next
   turned z = nextAt m text fs z (r .call) (r .state) nums bytes line o w
@@ -125,7 +126,7 @@ module _ (m : Marks) (text : Bytes) (r : Answer) (fs : List Frame) (nums : List 
       by (Halts k) e f = false-not-true (sym f)
 
   -- the run ends
-  pub next-ends : isEnd (turn r) ≡ true → (fuel room : ℕ) (t : Loaded) → comesTo fuel room t (nextOf m text fs r nums bytes line o w) ≡ resultAfter r o w
+  pub next-ends : isEnd (turn r) ≡ true → (fuel : ℕ) (room : Rooms) (t : Loaded) → comesTo fuel room t (nextOf m text fs r nums bytes line o w) ≡ resultAfter r o w
   unfolding nextOf nextAt
   next-ends e fuel room t = by (turn r) e
     where
@@ -178,6 +179,13 @@ module _ (m : Marks) (text : Bytes) (r : Answer) (fs : List Frame) (nums : List 
       by (Offers n) h e = h .0
       by (Back n) h e = false-not-true (sym e)
       by (Halts k) h e = false-not-true (sym e)
+
+-- where no line is offered none is too long
+pub unoffered-short : (z : Turn) → isOffer z ≡ false → offeredLength z ≤ 200
+unoffered-short Continues e = omega arith
+unoffered-short (Offers n) e = false-not-true (sym e)
+unoffered-short (Back n) e = omega arith
+unoffered-short (Halts k) e = omega arith
 
 -- a call that offers a line is not left
 pub offer-open : (z : Turn) → isOffer z ≡ true → isLeft z ≡ false

@@ -4,12 +4,12 @@ use mathlib.Core.Bool.{Bool, true, false}
 use mathlib.Core.Option.{none, some}
 use mathlib.Core.List.{List, [], _∷_}
 use Prim.Native.Nat.{ℕ, zero, suc}
-use lib.ListN.{take}
+use lib.ListN.{length, take}
 use Rattle.model.specs.declared.Marks.{Marks}
 use Rattle.model.specs.Text.{Bytes}
 use Rattle.model.specs.Store.{listing}
 use Rattle.model.specs.Load.{Loaded}
-use Rattle.model.specs.Machine.{Frame, Next, running, ended, stateWith, skipIn, after, Result, outcome}
+use Rattle.model.specs.Machine.{Rooms, rooms, Outputs, outputs, Frame, Next, running, ended, stateWith, skipIn, after, Result, outcome}
 use Rattle.store.specs.Memory.{held}
 use Rattle.state.specs.declared.State.{State}
 use Rattle.state.specs.State.{sharedOf, stateOf}
@@ -111,29 +111,33 @@ settle (ended k s) = ended k (stateWith s none [] (s .shared))
 
 -- the expansion after a turn, with the callers fs. Where the call goes on, at once or after an offer, it has this head, these numbers and
 -- bytes, and `line` is what it built
-unfoldable pub nextAt : Marks → Bytes → (fs : List Frame) → Turn → Head → State → (nums : List ℕ) (bytes line output memory : Bytes) → Next
+unfoldable pub nextAt : Marks → Bytes → (fs : List Frame) → Turn → Head → State → (nums : List ℕ) (bytes line : Bytes) → Outputs → (memory : Bytes) → Next
 nextAt m text fs Continues c s nums bytes line o w = running (stateOf text none (frameOf m text (laid c nums bytes) ∷ fs) s o w)
 nextAt m text fs (Offers n) c s nums bytes line o w = running (stateOf text (some (take n line)) (frameOf m text (laid c nums bytes) ∷ fs) s o w)
 nextAt m text fs (Back n) c s nums bytes line o w = settle (skipIn m n fs (sharedOf s o w) (stateOf text none fs s o w))
 nextAt m text fs (Halts k) c s nums bytes line o w = ended k (stateOf text none [] s o w)
 
 -- and after an answer
-unfoldable pub nextOf : Marks → Bytes → (fs : List Frame) → Answer → (nums : List ℕ) (bytes line output memory : Bytes) → Next
+unfoldable pub nextOf : Marks → Bytes → (fs : List Frame) → Answer → (nums : List ℕ) (bytes line : Bytes) → Outputs → (memory : Bytes) → Next
 nextOf m text fs r nums bytes line o w = nextAt m text fs (turn r) (r .call) (r .state) nums bytes line o w
 
+-- the rooms that two lent slices are
+abbrev pub roomsOf : Outputs → Rooms
+roomsOf o = rooms (length (o .first)) (length (o .second))
+
 -- what the expansion comes to from there, with this fuel
-abbrev pub comesTo : ℕ → ℕ → Loaded → Next → Result
+abbrev pub comesTo : ℕ → Rooms → Loaded → Next → Result
 comesTo fuel room t x = outcome (after fuel room t x)
 
 -- the result of a run that ends with a turn, or with an answer
-abbrev pub resultAt : Turn → State → (output memory : Bytes) → Result
+abbrev pub resultAt : Turn → State → Outputs → (memory : Bytes) → Result
 resultAt z s o w = record {
   number = endNumber z;
   line = s .line;
   events = s .events;
-  output = take (s .written) o;
+  output = outputs (take (s .written) (o .first)) (take (s .second) (o .second));
   store = listing (held (s .index .count) w);
 }
 
-abbrev pub resultAfter : Answer → (output memory : Bytes) → Result
+abbrev pub resultAfter : Answer → Outputs → (memory : Bytes) → Result
 resultAfter r o w = resultAt (turn r) (r .state) o w

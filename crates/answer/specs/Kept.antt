@@ -7,7 +7,7 @@ use lib.ListN.{length, take, drop}
 use Rattle.model.specs.Limits.{lineMost, fuelMost}
 use Rattle.model.specs.declared.Marks.{Marks}
 use Rattle.model.specs.Text.{Bytes}
-use Rattle.model.specs.Machine.{Frame, Step, stepped}
+use Rattle.model.specs.Machine.{Outputs, Frame, Step, stepped}
 use Rattle.model.specs.Sizes.{Nested}
 use Rattle.state.specs.declared.State.{State}
 use Rattle.state.specs.State.{Sound, stateOf}
@@ -16,13 +16,18 @@ use Rattle.call.specs.Call.{openedOf, Laid, laid, frameOf, Placed}
 use Rattle.answer.specs.declared.Answer.{Answer}
 use Rattle.answer.specs.Answers.{turn, offeredLength, settle, nextOf}
 
--- what was written stays, and so does what lies beyond what is written now
+-- what was written to an output stays, and so does what lies beyond what is written now
 pub record Extends (o : Bytes) (w : ℕ) (o′ : Bytes) (w′ : ℕ) : Type 0 where
   pub front : take w o′ ≡ take w o
   pub rest : drop w′ o′ ≡ drop w′ o
   pub long : length o′ ≡ length o
   pub more : w ≤ w′
   pub fits : w′ ≤ length o
+
+-- both outputs do
+pub record ExtendsBoth (o : Outputs) (s : State) (o′ : Outputs) (s′ : State) : Type 0 where
+  pub first : Extends (o .first) (s .written) (o′ .first) (s′ .written)
+  pub second : Extends (o .second) (s .second) (o′ .second) (s′ .second)
 
 -- what is asked of a call that is opened
 pub record Begun (m : Marks) (text : Bytes) (c : Call) : Type 0 where
@@ -37,33 +42,32 @@ pub record Open (m : Marks) (text : Bytes) (c : Laid) : Type 0 where
 
 -- ---- while a code line is carried out
 
--- what no code line changes
+-- what no code line changes, but that input lines may be read
 pub record Stays (s t : State) : Type 0 where
-  pub at : t .at ≡ s .at
-  pub line : t .line ≡ s .line
+  pub from : s .at ≤ t .at
   pub calls : t .calls ≡ s .calls
   pub events : t .events ≡ s .events
   pub fuel : t .fuel ≡ s .fuel
 
--- r is what the step p comes to.
---   s o                     state and output before it
+-- r is what the step p comes to from the state s. A step has what calls share with it, so that of the state before only input, line, calls and events
+-- count.
+--   s o                     state and outputs before it
 --   line                    the line that was built
---   nums bytes o′ memory′   the call's numbers and bytes, output and memory after it
-pub record Comes (m : Marks) (text : Bytes) (p : Step) (s : State) (o line : Bytes)
-    (r : Answer) (nums : List ℕ) (bytes o′ memory′ : Bytes) : Type 0 where
-  pub same : (fs : List Frame) → settle (stepped m fs p (stateOf text none fs (r .state) o′ memory′)) ≡ nextOf m text fs r nums bytes line o′ memory′
-  pub sound : Sound (r .state) o′ memory′
+--   nums bytes o′ memory′   the call's numbers and bytes, outputs and memory after it
+pub record Comes (m : Marks) (text : Bytes) (p : Step) (s : State) (o : Outputs) (line : Bytes)
+    (r : Answer) (nums : List ℕ) (bytes : Bytes) (o′ : Outputs) (memory′ : Bytes) : Type 0 where
+  pub same : (fs : List Frame) → settle (stepped m fs p (stateOf text none fs s o′ memory′)) ≡ nextOf m text fs r nums bytes line o′ memory′
+  pub sound : Sound text (r .state) o′ memory′
   pub placed : Placed text (laid (r .call) nums bytes)
   pub short : offeredLength (turn r) ≤ lineMost
   pub stays : Stays s (r .state)
-  pub extends : Extends o (s .written) o′ (r .state .written)
+  pub extends : ExtendsBoth o s o′ (r .state)
 
 -- ---- from one event to another
 
--- the state, output and memory that follow s and o
-pub record Follows (s : State) (o : Bytes) (s′ : State) (o′ memory′ : Bytes) : Type 0 where
-  pub sound : Sound s′ o′ memory′
-  pub at : s′ .at ≡ s .at
-  pub line : s′ .line ≡ s .line
+-- the state, outputs and memory that follow s and o
+pub record Follows (text : Bytes) (s : State) (o : Outputs) (s′ : State) (o′ : Outputs) (memory′ : Bytes) : Type 0 where
+  pub sound : Sound text s′ o′ memory′
+  pub from : s .at ≤ s′ .at
   pub fuel : s′ .fuel ≤ s .fuel
-  pub extends : Extends o (s .written) o′ (s′ .written)
+  pub extends : ExtendsBoth o s o′ s′

@@ -4,6 +4,7 @@ ghost use mathlib.Core.Bool.{false};
 ghost use Prim.Native.Nat.{_≤_};
 ghost use lib.ListN.{length};
 ghost use Rattle.model.specs.Load.{Loaded, loaded, load};
+ghost use Rattle.model.specs.Machine.{rooms};
 ghost use Rattle.model.specs.Results.{checkText, fitLine, illegal, runText};
 ghost use Rattle.model.specs.FirstReading.{FitsFirst};
 ghost use Rattle.model.specs.Runs.{Runs};
@@ -41,13 +42,16 @@ pub extern "C" fn stage2_run(
     nodes: &mut [Node],
     dead: &mut [u8],
     output: &mut [u8],
+    second: &mut [u8],
     store: &mut [u8],
 ) -> Ran
-    ensures { λ r. ⌜ Runs (runText fuel (length (now (nodes .entry))) (length (now (dead .entry))) (length (now (output .entry))) (length (now (store .entry))) (now (text .entry)))
-        (now (output .entry)) (now (store .entry)) r (now (output .exit)) (now (store .exit)) ⌝ }
+    ensures { λ r. ⌜ Runs (runText fuel (length (now (nodes .entry))) (length (now (dead .entry)))
+        (rooms (length (now (output .entry))) (length (now (second .entry)))) (length (now (store .entry))) (now (text .entry)))
+        (now (output .entry)) (now (second .entry)) (now (store .entry)) r (now (output .exit)) (now (second .exit)) (now (store .exit)) ⌝ }
     ensures { λ r. ⌜ ((t : Loaded) → load (now (text .entry)) ≡ loaded t
         → illegal fuel (length (now (nodes .entry))) (length (now (dead .entry))) (length (now (store .entry))) ≡ false
-        → FollowsExpansion t fuel (now (output .entry)) (now (store .entry)) r (now (output .exit)) (now (store .exit))) ⌝ }
+        → FollowsExpansion t fuel (now (output .entry)) (now (second .entry)) (now (store .entry)) r
+        (now (output .exit)) (now (second .exit)) (now (store .exit))) ⌝ }
 {
-    stage2::run(text, fuel, nodes, dead, output, store)
+    stage2::run(text, fuel, nodes, dead, output, second, store)
 }

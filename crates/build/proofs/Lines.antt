@@ -10,7 +10,7 @@ use Rattle.model.specs.declared.Marks.{Marks}
 use Rattle.model.specs.Text.{Bytes, part}
 use Rattle.model.specs.Code as Code
 use Rattle.model.specs.Code.{parse, effect, effectOf}
-use Rattle.model.specs.Machine.{Frame, Building, built, failed, build, finish, finishBuilt, carryOut}
+use Rattle.model.specs.Machine.{Frame, Building, built, failed, build, finish, finishBuilt, carryOut, Outputs}
 use Rattle.model.proofs.Choices.{when-true, when-false}
 use Rattle.model.proofs.Text.{part-front}
 use Rattle.store.specs.Memory.{Kept}
@@ -38,6 +38,7 @@ keeps-more k h = record {
   line = h .line ∙ k .line;
   calls = h .calls ∙ k .calls;
   written = h .written ∙ k .written;
+  second = h .second ∙ k .second;
   events = h .events ∙ k .events;
   fuel = h .fuel ∙ k .fuel;
 }
@@ -51,7 +52,7 @@ rest m f ps b = elim b [ built l w ↦ build m f ps l w | failed n w ↦ failed 
 
 -- the loop's invariant: the rest of the code line starts at i, and a answers what is built so far
 pub record Partly (m : Marks) (text : Bytes) (at to : ℕ) (c : Laid) (memory₀ : Bytes) (s : State) (line : Bytes) (a : Added) (i : ℕ) (first : Bool) (memory : Bytes) : Type 0 where
-  pub is : (o : Bytes)
+  pub is : (o : Outputs)
       → build m (frameOf m text c) (parse m true (part text at to) .parts) [] (sharedOf s o memory₀)
       ≡ rest m (frameOf m text c) (parse m first (part text i to) .parts) (addedStep line a (sharedOf (a .state) o memory))
   pub ahead : Ahead m text at to i first
@@ -86,7 +87,7 @@ module _ {m : Marks} {text : Bytes} {at to : ℕ} {c : Laid} {memory₀ : Bytes}
       })
 
   module _ {t : Token} (z : a .number ≡ 0) (g : ReadsToken m text i to first t) where
-    so-far : (o : Bytes) → build m (frameOf m text c) (parse m true (part text at to) .parts) [] (sharedOf s o memory₀)
+    so-far : (o : Outputs) → build m (frameOf m text c) (parse m true (part text at to) .parts) [] (sharedOf s o memory₀)
         ≡ build m (frameOf m text c) (parse m first (part text i to) .parts) (part line 0 (a .len)) (sharedOf (a .state) o memory)
     unfolding rest addedStep
     so-far o = h .is o ∙ ap (λ x. rest m (frameOf m text c) (parse m first (part text i to) .parts) x) (when-true _ _ (eq-eqb (a .number) 0 z))

@@ -10,7 +10,7 @@ use Rattle.model.specs.declared.Marks.{Marks}
 use Rattle.model.specs.declared.Conversion.{Conversion}
 use Rattle.model.specs.Text.{Bytes, part}
 use Rattle.model.specs.Code.{parse, effect, effectOf}
-use Rattle.model.specs.Machine.{Frame, Step, halts, addPart, finish, carryOut}
+use Rattle.model.specs.Machine.{Frame, Step, halts, addPart, finish, carryOut, Outputs, Rooms}
 use Rattle.state.specs.declared.State.{State}
 use Rattle.state.specs.State.{sharedOf}
 use Rattle.code.specs.declared.Part.{Part}
@@ -42,16 +42,16 @@ abbrev pub builtOf : Added → Ending → Built
 builtOf a k = record { number = a .number; len = a .len; ending = k; state = a .state }
 
 -- the code line's ending is done with the built line, or the number ends the run
-unfoldable pub builtStep : ℕ → Marks → Bytes → ℕ → Frame → (line : Bytes) → Built → (o memory : Bytes) → Step
+unfoldable pub builtStep : Rooms → Marks → Bytes → ℕ → Frame → (line : Bytes) → Built → (o : Outputs) (memory : Bytes) → Step
 builtStep room m text to f line r o memory =
     elim (eqb (r .number) 0) [
       | true ↦ finish room m (endingOf text to (r .ending)) (take (r .len) line) f (sharedOf (r .state) o memory)
       | false ↦ halts (r .number) (sharedOf (r .state) o memory)
     ]
 
--- r is what the code line from `at` up to `to` builds in the call c, whatever the output
+-- r is what the code line from `at` up to `to` builds in the call c, whatever the outputs
 pub record Builds (m : Marks) (text : Bytes) (at to : ℕ) (c : Laid) (memory : Bytes) (s : State) (line′ memory′ : Bytes) (r : Built) : Type 0 where
-  pub same : (room : ℕ) (o : Bytes) → carryOut room m (parse m true (part text at to)) (frameOf m text c) (sharedOf s o memory) ≡ builtStep room m text to (frameOf m text c) line′ r o memory′
+  pub same : (room : Rooms) (o : Outputs) → carryOut room m (parse m true (part text at to)) (frameOf m text c) (sharedOf s o memory) ≡ builtStep room m text to (frameOf m text c) line′ r o memory′
   pub keeps : Keeps s memory′ (r .state)
   pub room : length memory′ ≡ length memory
   pub short : r .len ≤ lineMost

@@ -6,12 +6,13 @@ use Prim.Native.Nat.{ℕ, _≤_, _<_}
 use native.Mathlib.Omega.{arith}
 use lib.ListN.{take}
 use Rattle.model.specs.declared.Marks.{Marks}
+use Rattle.model.specs.declared.Channel.{Channel}
 use Rattle.model.specs.declared.Comparison.{Comparison}
 use Rattle.model.specs.Text.{Bytes}
 use Rattle.model.specs.Code.{effectOf}
-use Rattle.model.specs.Machine.{offers, leaves, stateWith, finish, stepped}
+use Rattle.model.specs.Machine.{offers, leaves, stateWith, finish, stepped, Outputs}
 use Rattle.code.specs.declared.Ending.{Ending}
-use Rattle.code.specs.declared.Ending.the-variants.{Offer, Assign, Iterate, Stop, Write, Layout, Save, Skip, SkipText, SkipValue, Repeat, Again, Leave, Malformed}
+use Rattle.code.specs.declared.Ending.the-variants.{Offer, Assign, Iterate, Stop, Write, Layout, Copy, Save, Skip, SkipText, SkipValue, Repeat, Again, Leave, Malformed}
 use Rattle.code.specs.Tokens.{Parameter}
 use Rattle.state.specs.declared.State.{State}
 use Rattle.state.specs.State.{sharedOf, Sound}
@@ -20,10 +21,11 @@ use Rattle.call.specs.Call.{laid, frameOf, Placed}
 use Rattle.answer.specs.declared.Answer.{Answer}
 use Rattle.answer.specs.Answers.{goesOn, offersBuilt, goesBack, endsWith, settle, nextAt, nextOf}
 use Rattle.answer.specs.Kept.{Comes}
-use Rattle.answer.proofs.Following.{extends-none, stays-same}
+use Rattle.answer.proofs.Following.{both-none, stays-same}
 use Rattle.answer.proofs.Coming.{none-placed, came-on, came-end}
 use Rattle.answer.proofs.Expansion.{skip-none}
 use Rattle.finish.specs.Leaves.{Assigns, BeginsPasses, WritesTo, WritesLayoutLine, Saves, Repeats, PassesAgain}
+use Rattle.copying.specs.Copies.{ReadyToCopy, CopiesInput}
 use Rattle.skip.specs.Skips.{SkipsBy, SkipsText, SkipsValue}
 use Rattle.carry.specs.Carries.{ReadyToFinish, Finishes}
 
@@ -50,10 +52,13 @@ module _ {text : Bytes} {to : ℕ} {c : Head} {k : Ending} {line : Bytes} {n : �
   unfolding effectOf
   repeat-depth e = at-ending e .depth refl
 
+pub copy-ready : {text : Bytes} {s : State} {o : Outputs} {memory : Bytes} → Sound text s o memory → ReadyToCopy text s o
+copy-ready h = record { within = h .within; lines = h .lines; written = h .written; second = h .second }
+
 -- ---- what they come to
 
-module _ {m : Marks} {text : Bytes} {to : ℕ} {c : Head} {nums : List ℕ} {bytes : Bytes} {k : Ending} {line : Bytes} {n : ℕ} {s : State} {o memory : Bytes} {r : Answer} (h : Sound s o memory) (q : Placed text (laid c nums bytes)) where
-  ends-as : {j : Ending} {nums′ : List ℕ} {bytes′ o′ memory′ : Bytes} → k ≡ j → Finishes m text to (laid c nums bytes) j line n s o memory r nums′ bytes′ o′ memory′
+module _ {m : Marks} {text : Bytes} {to : ℕ} {c : Head} {nums : List ℕ} {bytes : Bytes} {k : Ending} {line : Bytes} {n : ℕ} {s : State} {o : Outputs} {memory : Bytes} {r : Answer} (h : Sound text s o memory) (q : Placed text (laid c nums bytes)) where
+  ends-as : {j : Ending} {nums′ : List ℕ} {bytes′ : Bytes} {o′ : Outputs} {memory′ : Bytes} → k ≡ j → Finishes m text to (laid c nums bytes) j line n s o memory r nums′ bytes′ o′ memory′
       → Finishes m text to (laid c nums bytes) k line n s o memory r nums′ bytes′ o′ memory′
   ends-as {nums′ = nums′} {bytes′ = bytes′} {o′ = o′} {memory′ = memory′} e f = subst (λ (j : Ending). Finishes m text to (laid c nums bytes) j line n s o memory r nums′ bytes′ o′ memory′) (sym e) f
 
@@ -69,13 +74,17 @@ module _ {m : Marks} {text : Bytes} {to : ℕ} {c : Head} {nums : List ℕ} {byt
   unfolding finish
   ends-stop e f = ends-as e (record { comes = came-end h q f refl })
 
-  pub ends-write : {ch : ℕ} {o′ : Bytes} → k ≡ Write ch → WritesTo ch c line n s o r o′ → Finishes m text to (laid c nums bytes) k line n s o memory r nums bytes o′ memory
+  pub ends-write : {ch : Channel} {o′ : Outputs} → k ≡ Write ch → WritesTo ch c line n s o r o′ → Finishes m text to (laid c nums bytes) k line n s o memory r nums bytes o′ memory
   unfolding finish
   ends-write e f = ends-as e (record { comes = f .comes m text memory line nums bytes q h })
 
-  pub ends-layout : {ch : ℕ} {o′ : Bytes} → k ≡ Layout ch → WritesLayoutLine m text ch (laid c nums bytes) s o r o′ → Finishes m text to (laid c nums bytes) k line n s o memory r nums bytes o′ memory
+  pub ends-layout : {ch : Channel} {o′ : Outputs} → k ≡ Layout ch → WritesLayoutLine m text ch (laid c nums bytes) s o r o′ → Finishes m text to (laid c nums bytes) k line n s o memory r nums bytes o′ memory
   unfolding finish
   ends-layout e f = ends-as e (record { comes = f .comes memory line h })
+
+  pub ends-copy : {ch : Channel} {o′ : Outputs} → k ≡ Copy ch → CopiesInput m text ch (laid c nums bytes) s o r o′ → Finishes m text to (laid c nums bytes) k line n s o memory r nums bytes o′ memory
+  unfolding finish
+  ends-copy e f = ends-as e (record { comes = f .comes memory line h })
 
   pub ends-save : {memory′ : Bytes} → k ≡ Save → Saves (laid c nums bytes) s memory r memory′ → Finishes m text to (laid c nums bytes) k line n s o memory r nums bytes o memory′
   unfolding finish
@@ -110,7 +119,7 @@ module _ {m : Marks} {text : Bytes} {to : ℕ} {c : Head} {nums : List ℕ} {byt
       placed = none-placed q;
       short = omega arith;
       stays = stays-same s;
-      extends = extends-none (h .written);
+      extends = both-none h;
     });
   })
 
@@ -122,5 +131,5 @@ module _ {m : Marks} {text : Bytes} {to : ℕ} {c : Head} {nums : List ℕ} {byt
   unfolding finish settle nextAt nextOf stepped stateWith
   ends-offer y e f = ends-as e (record {
     comes = subst (λ (x : Answer). Comes m text (offers (take n line) (frameOf m text (laid c nums bytes)) (sharedOf s o memory)) s o line x nums bytes o memory) (sym f)
-        (record { same = λ fs. refl; sound = h; placed = q; short = y .short; stays = stays-same s; extends = extends-none (h .written) });
+        (record { same = λ fs. refl; sound = h; placed = q; short = y .short; stays = stays-same s; extends = both-none h });
   })

@@ -12,20 +12,20 @@ use Rattle.model.specs.Text.{Bytes, lines}
 use Rattle.model.specs.Code.{parse}
 use Rattle.model.specs.Load.{Loaded}
 use Rattle.model.specs.Machine as Machine
-use Rattle.model.specs.Machine.{Frame, resumeAt, carryOut, running, stateWith, stepped, outcome}
+use Rattle.model.specs.Machine.{Frame, resumeAt, carryOut, running, stateWith, stepped, outcome, Outputs, Rooms}
 use Rattle.model.proofs.Steps as Steps
 use Rattle.state.specs.declared.State.{State}
 use Rattle.state.specs.State.{sharedOf, stateOf, countedEvent}
 use Rattle.answer.specs.Answers.{endsWith, comesTo, resultAfter}
 
-module _ (text : Bytes) (s : State) (o w : Bytes) where
+module _ (text : Bytes) (s : State) (o : Outputs) (w : Bytes) where
   -- an event is counted
   pub counted-is : (pending : Option Bytes) (fs : List Frame) → Machine.counted (stateOf text pending fs s o w) ≡ stateOf text none fs (countedEvent s) o w
   unfolding Machine.counted
   counted-is pending fs =
       ap (λ (n : ℕ). record { input = lines (drop (s .at) text); line = s .line; pending = none; frames = fs; calls = s .calls; shared = sharedOf s o w; events = n }) (sym (add-one (s .events)))
 
-  module _ (room : ℕ) (t : Loaded) (f : Frame) (fs : List Frame) where
+  module _ (room : Rooms) (t : Loaded) (f : Frame) (fs : List Frame) where
     -- a finished call closes
     pub closes : f .next ≡ [] → comesTo (s .fuel) room t (running (stateOf text none (f ∷ fs) s o w)) ≡ comesTo (s .fuel) room t (running (stateOf text none fs s o w))
     unfolding stateWith

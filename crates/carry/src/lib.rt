@@ -8,6 +8,7 @@ use build::build_line;
 use call::Head;
 use call::move_to;
 use code::Ending;
+use copying::copy_input;
 use finish::assign;
 use finish::begin_passes;
 use finish::pass_again;
@@ -28,6 +29,7 @@ ghost use lib.ListN.{length};
 ghost use Rattle.model.specs.declared.Effect.the-variants.{Opens};
 ghost use Rattle.model.specs.Text.{part};
 ghost use Rattle.model.specs.Code.{effect};
+ghost use Rattle.model.specs.Machine.{outputs};
 ghost use Rattle.state.specs.State.{Sound};
 ghost use Rattle.call.specs.Call.{laid, Placed};
 ghost use Rattle.answer.specs.Kept.{Open};
@@ -48,14 +50,15 @@ fn finish_code(
     line: &[u8],
     n: usize,
     output: &mut [u8],
+    second: &mut [u8],
     memory: &mut [u8],
     s: State,
 ) -> Answer
-    requires { ⌜ Sound s (now output) (now memory) ⌝ }
+    requires { ⌜ Sound (now text) s (outputs (now output) (now second)) (now memory) ⌝ }
     requires { ⌜ Placed (now text) (laid call (now nums) (now params)) × ReadyToFinish (now text) to call ending (now line) n ⌝ }
     ensures { λ r. ⌜ Finishes m (now (text .entry)) to (laid call (now (nums .entry)) (now (params .entry))) ending
-        (now (line .entry)) n s (now (output .entry)) (now (memory .entry)) r
-        (now (nums .exit)) (now (params .exit)) (now (output .exit)) (now (memory .exit)) ⌝ }
+        (now (line .entry)) n s (outputs (now (output .entry)) (now (second .entry))) (now (memory .entry)) r
+        (now (nums .exit)) (now (params .exit)) (outputs (now (output .exit)) (now (second .exit))) (now (memory .exit)) ⌝ }
 {
     match ending {
         Ending::Offer => offer_built(n, call, s),
@@ -74,8 +77,9 @@ fn finish_code(
             s,
         ),
         Ending::Stop => end_with(0, s),
-        Ending::Write(ch) => write_to(ch, call, line, n, output, s),
-        Ending::Layout(ch) => write_layout_line(m, text, ch, call, nums, params, output, s),
+        Ending::Write(ch) => write_to(ch, call, line, n, output, second, s),
+        Ending::Layout(ch) => write_layout_line(m, text, ch, call, nums, params, output, second, s),
+        Ending::Copy(ch) => copy_input(m, text, ch, call, nums, params, output, second, s),
         Ending::Save => save(call, nums, params, memory, s),
         Ending::Skip => {
             let c = call;
@@ -104,15 +108,16 @@ fn carry(
     params: &mut [u8],
     line: &mut [u8],
     output: &mut [u8],
+    second: &mut [u8],
     memory: &mut [u8],
     s: State,
 ) -> Answer
     requires { ⌜ (at ≤ to) × (to ≤ length (now text)) × (length (now line) ≡ lineMost) ⌝ }
-    requires { ⌜ Sound s (now output) (now memory) × Placed (now text) (laid call (now nums) (now params)) ⌝ }
+    requires { ⌜ Sound (now text) s (outputs (now output) (now second)) (now memory) × Placed (now text) (laid call (now nums) (now params)) ⌝ }
     requires { ⌜ (effect m (part (now text) at to) ≡ Opens → call .depth < nestingMost) ⌝ }
     ensures { λ r. ⌜ Carries m (now (text .entry)) at to (laid call (now (nums .entry)) (now (params .entry))) s
-        (now (output .entry)) (now (memory .entry)) (now (line .exit)) r
-        (now (nums .exit)) (now (params .exit)) (now (output .exit)) (now (memory .exit)) ⌝ }
+        (outputs (now (output .entry)) (now (second .entry))) (now (memory .entry)) (now (line .exit)) r
+        (now (nums .exit)) (now (params .exit)) (outputs (now (output .exit)) (now (second .exit))) (now (memory .exit)) ⌝ }
 {
     let b = build_line(m, text, at, to, call, nums, params, line, memory, s);
     let state = b.state;
@@ -132,6 +137,7 @@ fn carry(
         line,
         n,
         output,
+        second,
         memory,
         state,
     )
@@ -147,13 +153,14 @@ pub fn step(
     params: &mut [u8],
     built: &mut [u8],
     output: &mut [u8],
+    second: &mut [u8],
     memory: &mut [u8],
 ) -> Answer
-    requires { ⌜ Sound (a .state) (now output) (now memory) × Open m (now text) (laid (a .call) (now nums) (now params))
+    requires { ⌜ Sound (now text) (a .state) (outputs (now output) (now second)) (now memory) × Open m (now text) (laid (a .call) (now nums) (now params))
         × (length (now built) ≡ lineMost) ⌝ }
     ensures { λ r. ⌜ Steps m (now (text .entry)) (laid (a .call) (now (nums .entry)) (now (params .entry))) (a .state)
-        (now (output .entry)) (now (memory .entry)) (now (built .exit)) r
-        (now (nums .exit)) (now (params .exit)) (now (output .exit)) (now (memory .exit)) ⌝ }
+        (outputs (now (output .entry)) (now (second .entry))) (now (memory .entry)) (now (built .exit)) r
+        (now (nums .exit)) (now (params .exit)) (outputs (now (output .exit)) (now (second .exit))) (now (memory .exit)) ⌝ }
 {
     let call = a.call;
     let s = a.state;
@@ -177,6 +184,7 @@ pub fn step(
         params,
         built,
         output,
+        second,
         memory,
         counted,
     )

@@ -1,7 +1,7 @@
 -- Laws of code lines: what the model says of a line's first bytes, by their tests.
 use mathlib.Core.Path.{_≡_, refl, sym, ap, _∙_}
 use mathlib.Core.Bool.{Bool, true, false, not, _&&_, _||_, cond}
-use mathlib.Core.Option.{none, some}
+use mathlib.Core.Option.{Option, none, some}
 use mathlib.Core.List.{[], _∷_}
 use Prim.Native.Nat.{ℕ, _+_, _-_, _≤_, _<_}
 use borrow.Author.Tests.{le-leb, lt-leb, eq-eqb, ne-eqb}
@@ -10,6 +10,8 @@ use lib.ListN.{length, getD}
 use Rattle.model.specs.Text.{Bytes, part, isDigit}
 use Rattle.model.specs.Code as Code
 use Rattle.model.specs.declared.Marks.{Marks}
+use Rattle.model.specs.declared.Channel.{Channel}
+use Rattle.model.specs.declared.Channel.the-variants.{Nowhere, First, Second}
 use Rattle.model.specs.declared.Comparison.the-variants.{Equal, Unequal, Less, Greater}
 use Rattle.model.specs.declared.Conversion.{Conversion}
 use Rattle.model.specs.declared.Conversion.the-variants.{Itself, StoredText, Symbol, LatestDelimiter, ExpressionValue, Length, CodePoint}
@@ -17,10 +19,11 @@ use Rattle.model.proofs.Text.{part-empty, part-first}
 use Rattle.model.proofs.Theorems.{names-conversion}
 use Rattle.code.specs.declared.Named.{Named}
 use Rattle.code.specs.declared.Named.the-variants.{Is, Nothing}
+use Rattle.code.specs.declared.Routed.{Routed}
 use Rattle.code.specs.declared.Ending.{Ending}
 use Rattle.code.specs.declared.Token.{Token}
 use Rattle.code.specs.declared.Token.the-variants.{Ends}
-use Rattle.code.specs.Tokens.{endingOf, namedOf, Ranged, NamesConversion, Says, Forms}
+use Rattle.code.specs.Tokens.{endingOf, namedOf, routedOf, Ranged, NamesConversion, ReadsChannel, Says, Forms}
 
 -- what `search` is handed where a function goes by the tests of its definition
 pub ruleset chain = (le-leb, lt-leb, eq-eqb, ne-eqb)
@@ -44,12 +47,21 @@ module _ {text : Bytes} {at to : ℕ} where
   pub forms-ends : {k : Code.Ending} {r : Ending} → Says text at to k r → Forms text at to (Code.ends k) (Ends r)
   forms-ends s = record { is = ap Code.ends (s .is); ranged = s .ranged }
 
-  pub forms-none : (f : Bytes → Code.Form) {g : Code.Form} {r : Token} → to ≤ at → f [] ≡ g → Forms text at to g r → Forms text at to (f (part text at to)) r
-  forms-none f h e s = forms-as (ap f (part-empty text at to h) ∙ e) s
+  -- the channel that is read there
+  pub channel-none : {r : Routed} → to ≤ at → Code.channelOf [] ≡ routedOf r → ReadsChannel text at to r
+  channel-none h e = record { is = sym (ap Code.channelOf (part-empty text at to h) ∙ e) }
 
-  pub forms-first : (f : Bytes → Code.Form) {g h : Code.Form} {r : Token} → at < to → to ≤ length text → f (getD text at 0 ∷ part text (at + 1) to) ≡ g → g ≡ h
-      → Forms text at to h r → Forms text at to (f (part text at to)) r
-  forms-first f l k e d s = forms-as (ap f (part-first text at to l k) ∙ e ∙ d) s
+  pub channel-first : {r : Routed} → at < to → to ≤ length text → Code.channelOf (getD text at 0 ∷ part text (at + 1) to) ≡ routedOf r → ReadsChannel text at to r
+  channel-first h l e = record { is = sym (ap Code.channelOf (part-first text at to h l) ∙ e) }
+
+  pub channel-digit : (x : ℕ) {r : Routed} → at < to → to ≤ length text → getD text at 0 ≡ x → Code.channelOf (x ∷ part text (at + 1) to) ≡ routedOf r
+      → ReadsChannel text at to r
+  channel-digit x h l d e = channel-first h l (ap (λ i. Code.channelOf (i ∷ part text (at + 1) to)) d ∙ e)
+
+  -- what F1 or F2 says on the channel that was read
+  pub says-on : (f : Option Channel → Code.Ending) {n : Routed} {r : Ending} → ReadsChannel text at to n → Says text at to (f (routedOf n)) r
+      → Says text at to (f (Code.channelOf (part text at to))) r
+  says-on f c s = says-as (ap f (sym (c .is))) s
 
 -- ---- the model's definitions, by their tests
 
@@ -57,14 +69,10 @@ choice : {A : Type 0} (q : Bool) {x x′ y y′ : A} → x ≡ x′ → y ≡ y�
 choice true e f = e
 choice false e f = f
 
-pub writing-by : (first : Bool) (ch : ℕ) → Code.writing first ch ≡ cond first (Code.ends (Code.layout ch)) (Code.ends (Code.write ch))
-unfolding Code.writing
-writing-by first ch = choice first refl refl
-
-pub channel-by : (first : Bool) (x : ℕ) (s : Bytes)
-    → Code.channel first (x ∷ s) ≡ cond (eqb x 48) (Code.writing first 0) (cond (eqb x 51 || not (leb 48 x && leb x 57)) (Code.writing first 3) (Code.ends Code.malformed))
-unfolding Code.channel isDigit
-channel-by first x s = choice (eqb x 48) refl (choice (eqb x 51 || not (leb 48 x && leb x 57)) refl refl)
+pub channel-by : (x : ℕ) (s : Bytes)
+    → Code.channelOf (x ∷ s) ≡ cond (eqb x 48) (some Nowhere) (cond (eqb x 52) (some Second) (cond (eqb x 51 || not (leb 48 x && leb x 57)) (some First) none))
+unfolding Code.channelOf isDigit
+channel-by x s = choice (eqb x 48) refl (choice (eqb x 52) refl (choice (eqb x 51 || not (leb 48 x && leb x 57)) refl refl))
 
 pub text-by : (x : ℕ) (s : Bytes) → Code.textTest (x ∷ s) ≡ cond (eqb x 48) (Code.skipText true) (cond (eqb x 49) (Code.skipText false) Code.malformed)
 unfolding Code.textTest
@@ -78,15 +86,17 @@ value-by m x s = choice (eqb x 48) refl (choice (eqb x 49) refl (choice (eqb x (
 
 pub line-by : (m : Marks) (b : ℕ) (s : Bytes)
     → Code.lineFunction m b s
-    ≡ cond (eqb b 48) Code.stop (cond (eqb b 51) Code.save (cond (eqb b 52) Code.skip (cond (eqb b 53) (Code.textTest s)
-    (cond (eqb b 54) (Code.valueTest m s) (cond (eqb b 56) Code.again (cond (eqb b 57) Code.leave Code.malformed))))))
+    ≡ cond (eqb b 48) Code.stop (cond (eqb b 50) (Code.copying (Code.channelOf s)) (cond (eqb b 51) Code.save (cond (eqb b 52) Code.skip
+    (cond (eqb b 53) (Code.textTest s) (cond (eqb b 54) (Code.valueTest m s) (cond (eqb b 56) Code.again (cond (eqb b 57) Code.leave Code.malformed)))))))
 unfolding Code.lineFunction
 line-by m b s =
-    choice (eqb b 48) refl (choice (eqb b 51) refl (choice (eqb b 52) refl (choice (eqb b 53) refl (choice (eqb b 54) refl (choice (eqb b 56) refl (choice (eqb b 57) refl refl))))))
+    choice (eqb b 48) refl (choice (eqb b 50) refl (choice (eqb b 51) refl (choice (eqb b 52) refl
+    (choice (eqb b 53) refl (choice (eqb b 54) refl (choice (eqb b 56) refl (choice (eqb b 57) refl refl)))))))
 
 pub function-by : (m : Marks) (first : Bool) (b : ℕ) (s : Bytes)
     → Code.function m first b s
-    ≡ cond (eqb b 49) (Code.channel first s) (cond (eqb b 55) (Code.ends Code.repeat) (cond first (Code.ends (Code.lineFunction m b s)) (Code.ends Code.malformed)))
+    ≡ cond (eqb b 49) (Code.ends (Code.writing first (Code.channelOf s)))
+    (cond (eqb b 55) (Code.ends Code.repeat) (cond first (Code.ends (Code.lineFunction m b s)) (Code.ends Code.malformed)))
 unfolding Code.function
 function-by m first b s = choice (eqb b 49) refl (choice (eqb b 55) refl (choice first refl refl))
 

@@ -16,7 +16,7 @@ use Rattle.model.proofs.Text.{part-most, part-empty, part-first}
 use Rattle.code.specs.declared.Part.{Part}
 use Rattle.code.specs.declared.Part.the-variants.{Byte}
 use Rattle.code.specs.declared.Ending.{Ending}
-use Rattle.code.specs.declared.Ending.the-variants.{Offer, Assign, Iterate, Stop, Write, Layout, Save, Skip, SkipText, SkipValue, Repeat, Again, Leave, Malformed}
+use Rattle.code.specs.declared.Ending.the-variants.{Offer, Assign, Iterate, Stop, Write, Layout, Copy, Save, Skip, SkipText, SkipValue, Repeat, Again, Leave, Malformed}
 use Rattle.code.specs.declared.Token.{Token}
 use Rattle.code.specs.declared.Token.the-variants.{Ends, Has}
 use Rattle.code.specs.Tokens.{endingOf, partOf, tokenCode, Ranged, RangedPart, RangedToken, Forms, ReadsToken, ReadsEnding, Affects}
@@ -50,8 +50,9 @@ ranged-from to Offer h g = tt
 ranged-from to (Assign d) h g = g
 ranged-from to (Iterate d p) h g = (g .0, (omega arith, g .1 .1))
 ranged-from to Stop h g = tt
-ranged-from to (Write ch) h g = g
-ranged-from to (Layout ch) h g = g
+ranged-from to (Write ch) h g = tt
+ranged-from to (Layout ch) h g = tt
+ranged-from to (Copy ch) h g = tt
 ranged-from to Save h g = tt
 ranged-from to Skip h g = tt
 ranged-from to (SkipText b) h g = tt

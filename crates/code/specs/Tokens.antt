@@ -1,20 +1,22 @@
 -- A token of a code line, as the model's values: places of a text stand for what follows them.
 use mathlib.Core.Path.{_≡_}
 use mathlib.Core.Bool.{Bool, true, false}
-use mathlib.Core.Logic.{_⊎_}
 use mathlib.Core.Option.{Option, none, some}
 use Prim.Native.Nat.{ℕ, _≤_, _<_}
 use Rattle.model.specs.Text.{Bytes, part}
 use Rattle.model.specs.Code as Code
 use Rattle.model.specs.declared.Marks.{Marks}
 use Rattle.model.specs.declared.Effect.{Effect}
+use Rattle.model.specs.declared.Channel.{Channel}
 use Rattle.model.specs.declared.Conversion.{Conversion}
 use Rattle.code.specs.declared.Named.{Named}
 use Rattle.code.specs.declared.Named.the-variants.{Is, Nothing}
+use Rattle.code.specs.declared.Routed.{Routed}
+use Rattle.code.specs.declared.Routed.the-variants.{To, Refused}
 use Rattle.code.specs.declared.Part.{Part}
 use Rattle.code.specs.declared.Part.the-variants.{Byte, Serial, Convert}
 use Rattle.code.specs.declared.Ending.{Ending}
-use Rattle.code.specs.declared.Ending.the-variants.{Offer, Assign, Iterate, Stop, Write, Layout, Save, Skip, SkipText, SkipValue, Repeat, Again, Leave, Malformed}
+use Rattle.code.specs.declared.Ending.the-variants.{Offer, Assign, Iterate, Stop, Write, Layout, Copy, Save, Skip, SkipText, SkipValue, Repeat, Again, Leave, Malformed}
 use Rattle.code.specs.declared.Token.{Token}
 use Rattle.code.specs.declared.Token.the-variants.{Ends, Has}
 
@@ -26,6 +28,7 @@ endingOf text to (Iterate d at) = Code.iterate d (part text at to)
 endingOf text to Stop = Code.stop
 endingOf text to (Write ch) = Code.write ch
 endingOf text to (Layout ch) = Code.layout ch
+endingOf text to (Copy ch) = Code.copy ch
 endingOf text to Save = Code.save
 endingOf text to Skip = Code.skip
 endingOf text to (SkipText b) = Code.skipText b
@@ -45,6 +48,11 @@ abbrev pub namedOf : Named → Option Conversion
 namedOf (Is c) = some c
 namedOf Nothing = none
 
+-- where F1 and F2 write
+abbrev pub routedOf : Routed → Option Channel
+routedOf (To ch) = some ch
+routedOf Refused = none
+
 -- what stands after an escape
 abbrev pub formOf : Bytes → ℕ → Token → Code.Form
 formOf text to (Ends k) = Code.ends (endingOf text to k)
@@ -55,13 +63,10 @@ abbrev pub tokenCode : Marks → Bytes → ℕ → Token → Code.Code
 tokenCode m text to (Ends k) = Code.only (endingOf text to k)
 tokenCode m text to (Has p e) = Code.onto (partOf p) (Code.parse m false (part text e to))
 
--- the numbers of a parameter and of a channel
+-- the number of a parameter
 pub record Parameter (d : ℕ) : Type 0 where
   pub least : 1 ≤ d
   pub most : d ≤ 9
-
-pub record Channel (ch : ℕ) : Type 0 where
-  pub either : (ch ≡ 0) ⊎ (ch ≡ 3)
 
 -- an ending read from place `at` on has its numbers in range
 abbrev pub Ranged : ℕ → ℕ → Ending → Type 0
@@ -69,8 +74,9 @@ Ranged at to Offer = Unit {0}
 Ranged at to (Assign d) = Parameter d
 Ranged at to (Iterate d p) = Parameter d × ((at ≤ p) × (p ≤ to))
 Ranged at to Stop = Unit {0}
-Ranged at to (Write ch) = Channel ch
-Ranged at to (Layout ch) = Channel ch
+Ranged at to (Write ch) = Unit {0}
+Ranged at to (Layout ch) = Unit {0}
+Ranged at to (Copy ch) = Unit {0}
 Ranged at to Save = Unit {0}
 Ranged at to Skip = Unit {0}
 Ranged at to (SkipText b) = Unit {0}
@@ -98,6 +104,10 @@ RangedToken at to (Has p e) = RangedPart p × ((at < e) × (e ≤ to))
 -- r is the conversion that the byte b names
 pub record NamesConversion (b : ℕ) (r : Named) : Type 0 where
   pub is : namedOf r ≡ Code.conversionOf b
+
+-- r is the channel that the bytes from `at` on name
+pub record ReadsChannel (text : Bytes) (at to : ℕ) (r : Routed) : Type 0 where
+  pub is : routedOf r ≡ Code.channelOf (part text at to)
 
 -- r is the ending k of a line, read from `at` on
 pub record Says (text : Bytes) (at to : ℕ) (k : Code.Ending) (r : Ending) : Type 0 where

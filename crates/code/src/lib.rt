@@ -4,8 +4,9 @@ ghost use mathlib.Core.List.{List};
 ghost use Prim.Native.Nat.{ℕ, _≤_};
 ghost use lib.ListN.{length};
 ghost use Rattle.model.specs.Text.{part};
-ghost use Rattle.model.specs.Code.{effectOf, writing, channel, textTest, valueTest, lineFunction, function, conversion, form};
-ghost use Rattle.code.specs.Tokens.{endingOf, Parameter, Channel, NamesConversion, Says, Forms, ReadsToken, ReadsEnding, Affects};
+ghost use Rattle.model.specs.Code.{effectOf, writing, copying, textTest, valueTest, lineFunction, function, conversion, form};
+ghost use Rattle.code.specs.Tokens.{endingOf, routedOf, Parameter, NamesConversion, ReadsChannel, Says, Forms, ReadsToken, ReadsEnding, Affects};
+use model::Channel;
 use model::Comparison;
 use model::Conversion;
 use model::Effect;
@@ -18,14 +19,15 @@ pub enum Part {
     Convert(usize, Conversion),
 }
 
-// What is done at the end of a code line. Channels are 0 and 3; the delimiters of an iteration start at its second number.
+// What is done at the end of a code line. The delimiters of an iteration start at its second number.
 pub enum Ending {
     Offer,
     Assign(usize),
     Iterate(usize, usize),
     Stop,
-    Write(usize),
-    Layout(usize),
+    Write(Channel),
+    Layout(Channel),
+    Copy(Channel),
     Save,
     Skip,
     SkipText(bool),
@@ -42,45 +44,59 @@ enum Named {
     Nothing,
 }
 
+// Where F1 and F2 write, by what follows them: to a channel; another digit is refused.
+enum Routed {
+    To(Channel),
+    Refused,
+}
+
 // What stands at a place of a code line: its end, or a part and where the rest starts.
 pub enum Token {
     Ends(Ending),
     Has(Part, usize),
 }
 
-// F1 on a channel: at the line's start it owns a layout.
-fn write_on(first: bool, number: usize) -> Ending
-    requires { ⌜ Channel number ⌝ }
-    ensures { λ r. ⌜ ((text : List ℕ) (at to : ℕ) → Forms text at to (writing first number) (Token.Ends r)) ⌝ }
-{
-    if first {
-        return Ending::Layout(number);
-    }
-    Ending::Write(number)
-}
-
-// Channel 3 if 3 or no digit follows, 0 if 0.
-fn read_channel(first: bool, text: &[u8], at: usize, to: usize) -> Ending
+// The channel of F1 and F2: 3 if 3 or no digit follows, 0 if 0, 4 if 4.
+fn read_channel(text: &[u8], at: usize, to: usize) -> Routed
     requires { ⌜ (at ≤ to) × (to ≤ length (now text)) ⌝ }
-    ensures { λ r. ⌜ Forms (now (text .entry)) at to (channel first (part (now (text .entry)) at to)) (Token.Ends r) ⌝ }
+    ensures { λ r. ⌜ ReadsChannel (now (text .entry)) at to r ⌝ }
 {
     if to <= at {
-        return write_on(first, 3);
+        return Routed::To(Channel::First);
     }
     let b = text[at];
-    if b == b'0' {
-        return write_on(first, 0);
+    match b {
+        b'0' => Routed::To(Channel::Nowhere),
+        b'3' => Routed::To(Channel::First),
+        b'4' => Routed::To(Channel::Second),
+        b'0'..=b'9' => Routed::Refused,
+        _ => Routed::To(Channel::First),
     }
-    if b == b'3' {
-        return write_on(first, 3);
+}
+
+// F1 on a channel: at the line's start it owns a layout.
+fn write_on(first: bool, routed: Routed) -> Ending
+    ensures { λ r. ⌜ ((text : List ℕ) (at to : ℕ) → Says text at to (writing first (routedOf routed)) r) ⌝ }
+{
+    match routed {
+        Routed::To(channel) => {
+            if first {
+                return Ending::Layout(channel);
+            }
+            Ending::Write(channel)
+        }
+        Routed::Refused => Ending::Malformed,
     }
-    if b < b'0' {
-        return write_on(first, 3);
+}
+
+// F2 on a channel.
+fn copy_on(routed: Routed) -> Ending
+    ensures { λ r. ⌜ ((text : List ℕ) (at to : ℕ) → Says text at to (copying (routedOf routed)) r) ⌝ }
+{
+    match routed {
+        Routed::To(channel) => Ending::Copy(channel),
+        Routed::Refused => Ending::Malformed,
     }
-    if b'9' < b {
-        return write_on(first, 3);
-    }
-    Ending::Malformed
 }
 
 // The test of F5: 0 for equal texts, 1 for unequal ones.
@@ -133,6 +149,9 @@ fn read_line_function(m: Marks, b: u8, text: &[u8], at: usize, to: usize) -> End
     if b == b'0' {
         return Ending::Stop;
     }
+    if b == b'2' {
+        return copy_on(read_channel(text, at, to));
+    }
     if b == b'3' {
         return Ending::Save;
     }
@@ -160,7 +179,7 @@ fn read_function(m: Marks, first: bool, b: u8, text: &[u8], at: usize, to: usize
     ensures { λ r. ⌜ Forms (now (text .entry)) at to (function m first b (part (now (text .entry)) at to)) (Token.Ends r) ⌝ }
 {
     if b == b'1' {
-        return read_channel(first, text, at, to);
+        return write_on(first, read_channel(text, at, to));
     }
     if b == b'7' {
         return Ending::Repeat;
@@ -279,6 +298,7 @@ fn effect_of(k: Ending) -> Effect
         Ending::Stop => Effect::Plain,
         Ending::Write(_) => Effect::Plain,
         Ending::Layout(_) => Effect::Owns,
+        Ending::Copy(_) => Effect::Plain,
         Ending::Save => Effect::Plain,
         Ending::Skip => Effect::Plain,
         Ending::SkipText(_) => Effect::Plain,

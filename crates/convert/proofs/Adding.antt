@@ -13,7 +13,7 @@ use Rattle.model.specs.declared.Marks.{Marks}
 use Rattle.model.specs.Text.{Bytes, part}
 use Rattle.model.specs.Store.{decimal}
 use Rattle.model.specs.Value.{written}
-use Rattle.model.specs.Machine.{Shared, Building, built, failed, add, addValue, addLength, addCodePoint}
+use Rattle.model.specs.Machine.{Shared, Building, built, failed, add, addValue, addLength, addCodePoint, Outputs}
 use Rattle.model.proofs.Choices.{when-false}
 use Rattle.character.specs.declared.Counted.{Counted}
 use Rattle.character.specs.Counting.{CountsCharacters}
@@ -45,16 +45,16 @@ line-answered line a s w = by (a .ok)
     by false = refl
 
 pub keeps-same : {s : State} {memory : Bytes} → Kept memory (s .index) → s .symbols ≤ s .index .count → Keeps s memory s
-keeps-same k h = record { kept = k; symbols = h; at = refl; line = refl; calls = refl; written = refl; events = refl; fuel = refl }
+keeps-same k h = record { kept = k; symbols = h; at = refl; line = refl; calls = refl; written = refl; second = refl; events = refl; fuel = refl }
 
 module _ {step : Shared → Building} {s : State} {memory : Bytes} {r : Added} (k : Kept memory (s .index)) (h : s .symbols ≤ s .index .count) where
-  pub adds-answered : {line : Bytes} {n : ℕ} {t line′ : Bytes} {a : Appended} → ((o : Bytes) → step (sharedOf s o memory) ≡ add (part line 0 n) t (sharedOf s o memory))
+  pub adds-answered : {line : Bytes} {n : ℕ} {t line′ : Bytes} {a : Appended} → ((o : Outputs) → step (sharedOf s o memory) ≡ add (part line 0 n) t (sharedOf s o memory))
       → Appends line n t line′ a → r ≡ answered a s → Adds step s memory line′ memory r
   adds-answered {line′ = line′} {a} e p q =
       subst (λ (x : Added). Adds step s memory line′ memory x) (sym q)
       (record { is = λ o. e o ∙ p .is (sharedOf s o memory) ∙ line-answered line′ a s (sharedOf s o memory); keeps = keeps-same k h; short = p .short })
 
-  pub adds-stopped : {line : Bytes} {i : ℕ} → eqb i 0 ≡ false → ((o : Bytes) → step (sharedOf s o memory) ≡ failed i (sharedOf s o memory)) → r ≡ stopped i s
+  pub adds-stopped : {line : Bytes} {i : ℕ} → eqb i 0 ≡ false → ((o : Outputs) → step (sharedOf s o memory) ≡ failed i (sharedOf s o memory)) → r ≡ stopped i s
       → Adds step s memory line memory r
   unfolding addedStep
   adds-stopped {line} {i} z e q =

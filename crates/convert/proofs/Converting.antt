@@ -10,7 +10,7 @@ use Rattle.model.specs.Text.{Bytes, part}
 use Rattle.model.specs.Utf8.{points}
 use Rattle.model.specs.Store.{find}
 use Rattle.model.specs.Value.{valueOf}
-use Rattle.model.specs.Machine.{Frame, Shared, Building, param, orNothing, add, addSymbol, addValue, addLength, addCodePoint, addConverted}
+use Rattle.model.specs.Machine.{Frame, Shared, Building, param, orNothing, add, addSymbol, addValue, addLength, addCodePoint, addConverted, Outputs}
 use Rattle.pass.specs.Pass.{delimiterOf}
 use Rattle.store.specs.Memory.{held, Kept}
 use Rattle.state.specs.declared.State.{State}
@@ -23,7 +23,7 @@ use Rattle.convert.specs.Converted.{AddsSymbol, AddsValue, AddsLength, A
 use Rattle.convert.proofs.Adding.{adds-answered}
 
 -- one step of the expansion for another
-pub adds-as : {step other : Shared → Building} {s : State} {memory line memory′ : Bytes} {r : Added} → ((o : Bytes) → other (sharedOf s o memory) ≡ step (sharedOf s o memory))
+pub adds-as : {step other : Shared → Building} {s : State} {memory line memory′ : Bytes} {r : Added} → ((o : Outputs) → other (sharedOf s o memory) ≡ step (sharedOf s o memory))
     → Adds step s memory line memory′ r → Adds other s memory line memory′ r
 adds-as e a = record { is = λ o. e o ∙ a .is o; keeps = a .keeps; short = a .short }
 

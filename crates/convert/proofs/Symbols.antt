@@ -7,7 +7,7 @@ use native.Mathlib.Omega.{arith}
 use lib.ListN.{length}
 use Rattle.model.specs.Text.{Bytes, part}
 use Rattle.model.specs.Store.{Store, put, within, decimal}
-use Rattle.model.specs.Machine.{Building, failed, add, addSymbol}
+use Rattle.model.specs.Machine.{Building, failed, add, addSymbol, Outputs}
 use Rattle.model.proofs.Sizes.{put-new}
 use Rattle.buffer.specs.Decimal.{Decimal}
 use Rattle.store.specs.declared.Index.{Index}
@@ -37,7 +37,7 @@ abbrev more : Bytes → State → Bytes → Store
 more name s memory = put name (numeral s) (held (s .index .count) memory)
 
 -- what the expansion does with a name that is not stored, where there is room for it or not
-abbrev next : Bytes → Bytes → State → Bytes → Bytes → Bool → Building
+abbrev next : Bytes → Bytes → State → Bytes → Outputs → Bool → Building
 next name l s memory o q = elim q as (λ _. Building) [
   | true ↦ add l (numeral s) (record { symbols = suc (s .symbols); store = more name s memory; output = sharedOf s o memory .output })
   | false ↦ failed 19 (sharedOf s o memory)
@@ -94,7 +94,7 @@ module _ {name line : Bytes} {n : ℕ} {s : State} {memory : Bytes} {r : Added} 
                 ∙ ap (λ (x : Bool). next name (part line 0 n) s memory o x) (j .fits)
                 ∙ (λ x. add (part line 0 n) (decimal (number x)) (record { symbols = number x; store = stored x; output = sharedOf s o memory .output }))
                 ∙ u .is (sharedOf (withSymbol s y) o memory′) ∙ line-answered line′ a (withSymbol s y) (sharedOf (withSymbol s y) o memory′);
-            keeps = record { kept = j .kept; symbols = omega arith; at = refl; line = refl; calls = refl; written = refl; events = refl; fuel = refl };
+            keeps = record { kept = j .kept; symbols = omega arith; at = refl; line = refl; calls = refl; written = refl; second = refl; events = refl; fuel = refl };
             short = u .short;
           };
         })

@@ -5,7 +5,7 @@ use Prim.Native.Nat.{ℕ, _≤_}
 use lib.Dec.{eqb}
 use Rattle.model.specs.Limits.{lineMost}
 use Rattle.model.specs.Text.{Bytes, part}
-use Rattle.model.specs.Machine.{Shared, Building, built, failed}
+use Rattle.model.specs.Machine.{Shared, Building, built, failed, Outputs}
 use Rattle.store.specs.Memory.{Kept}
 use Rattle.state.specs.declared.State.{State}
 use Rattle.state.specs.State.{sharedOf}
@@ -32,11 +32,12 @@ pub record Keeps (s : State) (memory : Bytes) (t : State) : Type 0 where
   pub line : t .line ≡ s .line
   pub calls : t .calls ≡ s .calls
   pub written : t .written ≡ s .written
+  pub second : t .second ≡ s .second
   pub events : t .events ≡ s .events
   pub fuel : t .fuel ≡ s .fuel
 
--- what a step of the expansion makes of the state s and memory, whatever the output
+-- what a step of the expansion makes of the state s and memory, whatever the outputs
 pub record Adds (step : Shared → Building) (s : State) (memory line memory′ : Bytes) (r : Added) : Type 0 where
-  pub is : (o : Bytes) → step (sharedOf s o memory) ≡ addedStep line r (sharedOf (r .state) o memory′)
+  pub is : (o : Outputs) → step (sharedOf s o memory) ≡ addedStep line r (sharedOf (r .state) o memory′)
   pub keeps : Keeps s memory′ (r .state)
   pub short : r .len ≤ lineMost

@@ -5,6 +5,7 @@ ghost use mathlib.Core.Option.{none, some};
 ghost use mathlib.Core.List.{[], _∷_};
 ghost use Prim.Native.Nat.{_≤_, _<_};
 ghost use lib.ListN.{length, take};
+ghost use Rattle.model.specs.Machine.{outputs};
 ghost use Rattle.state.specs.State.{Sound};
 ghost use Rattle.call.specs.Call.{openedOf, laid, Sized};
 ghost use Rattle.matching.specs.Book.{Prepared};
@@ -37,16 +38,18 @@ pub fn offer(
     dead: &mut [u8],
     bodies: &[usize],
     output: &mut [u8],
+    second: &mut [u8],
     memory: &mut [u8],
     line: &[u8],
     n: usize,
     depth: usize,
     s: State,
 ) -> Answer
-    requires { ⌜ Prepared m (now text) (now nodes) count (now bodies) × Sound s (now output) (now memory)
+    requires { ⌜ Prepared m (now text) (now nodes) count (now bodies) × Sound (now text) s (outputs (now output) (now second)) (now memory)
         × (n ≤ lineMost) × (n ≤ length (now line)) × (depth ≤ callsMost) × (deadLeast ≤ length (now dead)) ⌝ }
     ensures { λ r. ⌜ Meets m (now (text .entry)) (now (nodes .entry)) count (now (bodies .entry)) (some (take n (now (line .entry)))) []
-        depth s (now (output .entry)) (now (memory .entry)) r (now (output .exit)) (now (memory .exit)) ⌝ }
+        depth s (outputs (now (output .entry)) (now (second .entry))) (now (memory .entry)) r
+        (outputs (now (output .exit)) (now (second .exit))) (now (memory .exit)) ⌝ }
 {
     let found = fit::first_reading(m, nodes, count, dead, line, n);
     let a = decide(found, line, n, output, depth, s);
@@ -65,6 +68,7 @@ pub fn offer(
         dead,
         bodies,
         output,
+        second,
         memory,
         &mut nums,
         &mut params,
@@ -83,6 +87,7 @@ fn body(
     dead: &mut [u8],
     bodies: &[usize],
     output: &mut [u8],
+    second: &mut [u8],
     memory: &mut [u8],
     nums: &mut [usize],
     params: &mut [u8],
@@ -90,10 +95,11 @@ fn body(
     depth: usize,
     s: State,
 ) -> Answer
-    requires { ⌜ Prepared m (now text) (now nodes) count (now bodies) × Sound s (now output) (now memory)
+    requires { ⌜ Prepared m (now text) (now nodes) count (now bodies) × Sound (now text) s (outputs (now output) (now second)) (now memory)
         × Begun m (now text) call × (depth < callsMost) × Sized (now nums) (now params) × (deadLeast ≤ length (now dead)) ⌝ }
     ensures { λ r. ⌜ Meets m (now (text .entry)) (now (nodes .entry)) count (now (bodies .entry)) none (openedOf m (now (text .entry)) call ∷ [])
-        depth s (now (output .entry)) (now (memory .entry)) r (now (output .exit)) (now (memory .exit)) ⌝ }
+        depth s (outputs (now (output .entry)) (now (second .entry))) (now (memory .entry)) r
+        (outputs (now (output .exit)) (now (second .exit))) (now (memory .exit)) ⌝ }
 {
     let c = call::lay_out(call, nums, params);
     let mut a = go_on(c, s);
@@ -106,6 +112,7 @@ fn body(
             dead,
             bodies,
             output,
+            second,
             memory,
             nums,
             params,
@@ -128,20 +135,21 @@ fn advance(
     dead: &mut [u8],
     bodies: &[usize],
     output: &mut [u8],
+    second: &mut [u8],
     memory: &mut [u8],
     nums: &mut [usize],
     params: &mut [u8],
     a: Answer,
     depth: usize,
 ) -> Answer
-    requires { ⌜ Prepared m (now text) (now nodes) count (now bodies) × Sound (a .state) (now output) (now memory)
+    requires { ⌜ Prepared m (now text) (now nodes) count (now bodies) × Sound (now text) (a .state) (outputs (now output) (now second)) (now memory)
         × Open m (now text) (laid (a .call) (now nums) (now params)) × (depth < callsMost) × (deadLeast ≤ length (now dead)) ⌝ }
     ensures { λ r. ⌜ Advances m (now (text .entry)) (now (nodes .entry)) count (now (bodies .entry)) (laid (a .call) (now (nums .entry)) (now (params .entry)))
-        depth (a .state) (now (output .entry)) (now (memory .entry)) r
-        (now (nums .exit)) (now (params .exit)) (now (output .exit)) (now (memory .exit)) ⌝ }
+        depth (a .state) (outputs (now (output .entry)) (now (second .entry))) (now (memory .entry)) r
+        (now (nums .exit)) (now (params .exit)) (outputs (now (output .exit)) (now (second .exit))) (now (memory .exit)) ⌝ }
 {
     let mut built = [0u8; LINE_MOST];
-    let q = carry::step(m, text, a, nums, params, &mut built, output, memory);
+    let q = carry::step(m, text, a, nums, params, &mut built, output, second, memory);
     if !is_offer(q) {
         return q;
     }
@@ -155,6 +163,7 @@ fn advance(
         dead,
         bodies,
         output,
+        second,
         memory,
         &built,
         n,

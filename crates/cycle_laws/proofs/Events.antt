@@ -13,7 +13,7 @@ use Rattle.model.specs.Text.{Bytes}
 use Rattle.model.specs.Reading.{Reading, chosen}
 use Rattle.model.specs.Load.{templates, Loaded, noMacro}
 use Rattle.model.specs.Machine as Machine
-use Rattle.model.specs.Machine.{Frame, Next, running, call, passThrough, offeredAs, offered, outcome}
+use Rattle.model.specs.Machine.{Rooms, Outputs, Frame, Next, running, call, passThrough, offeredAs, offered, outcome}
 use Rattle.model.proofs.Fuel.{after-ended}
 use Rattle.model.proofs.Steps as Steps
 use Rattle.model.proofs.Choices.{when-true, when-false}
@@ -25,9 +25,9 @@ use Rattle.carry.proofs.Events.{counted-is}
 
 -- an event is counted, and n calls are opened so far
 abbrev pub eventWith : ℕ → State → State
-eventWith n s = record { at = s .at; line = s .line; calls = n; symbols = s .symbols; index = s .index; written = s .written; events = s .events + 1; fuel = s .fuel - 1 }
+eventWith n s = record { at = s .at; line = s .line; calls = n; symbols = s .symbols; index = s .index; written = s .written; second = s .second; events = s .events + 1; fuel = s .fuel - 1 }
 
-module _ (room : ℕ) (m : Marks) (text : Bytes) (t : Loaded) (s : State) (o w : Bytes) where
+module _ (room : Rooms) (m : Marks) (text : Bytes) (t : Loaded) (s : State) (o : Outputs) (w : Bytes) where
   -- no fuel is left where a line is to be offered
   pub offer-spent : s .fuel ≡ 0 → (l : Bytes) (fs : List Frame) → comesTo (s .fuel) room t (running (stateOf text (some l) fs s o w)) ≡ resultAfter (endsWith 20 s) o w
   unfolding outcome Machine.resultOf

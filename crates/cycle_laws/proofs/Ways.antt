@@ -13,7 +13,7 @@ use lib.ListN.{length, getD, take}
 use Rattle.model.specs.declared.Marks.{Marks}
 use Rattle.model.specs.Text.{Bytes}
 use Rattle.model.specs.Load.{templates, Loaded, noMacro}
-use Rattle.model.specs.Machine.{Frame, running}
+use Rattle.model.specs.Machine.{Rooms, Outputs, outputs, Frame, running}
 use Rattle.model.specs.Sizes.{Nested}
 use Rattle.model.proofs.Choices.{false-not-true}
 use Rattle.model.proofs.Frames.{NextOk}
@@ -27,11 +27,11 @@ use Rattle.call.specs.Params.{Lays}
 use Rattle.fit.specs.declared.Choice.{Choice}
 use Rattle.fit.specs.Chosen.{Chooses}
 use Rattle.answer.specs.declared.Answer.{Answer}
-use Rattle.answer.specs.Answers.{turn, goesOn, goesBack, endsWith, isLeft, isOffer, offeredLength, nextAt, nextOf, comesTo}
+use Rattle.answer.specs.Answers.{turn, goesOn, endsWith, isLeft, isOffer, offeredLength, nextAt, nextOf, roomsOf, comesTo}
 use Rattle.answer.specs.Kept.{Follows, Begun, Open}
-use Rattle.answer.proofs.Following.{extends-none, follows-itself, follows-trans}
+use Rattle.answer.proofs.Following.{extends-none, follows-itself, follows-trans, rooms-kept}
 use Rattle.answer.proofs.Expansion.{halts-with, settle-same, next-on, next-offers, next-nested, left-same, left-nested, unoffered-same, offer-open}
-use Rattle.write.specs.Output.{WritesLine}
+use Rattle.write.specs.Output.{PassesThrough}
 use Rattle.write.proofs.Lines.{wrote-back, wrote-follows, wrote-left, wrote-fuel}
 use Rattle.carry.specs.Carries.{Steps}
 use Rattle.landing.specs.Landing.{LandsAnswer}
@@ -55,18 +55,17 @@ below-call h = omega arith
 -- ---- the states that follow one another
 
 -- an event is counted, and perhaps a call with it
-event-follows : {s : State} {o w : Bytes} (n : ℕ) → n ≤ s .calls + 1 → Sound s o w → 0 < s .fuel → Follows s o (eventWith n s) o w
+event-follows : {text : Bytes} {s : State} {o : Outputs} {w : Bytes} (n : ℕ) → n ≤ s .calls + 1 → Sound text s o w → 0 < s .fuel → Follows text s o (eventWith n s) o w
 event-follows n few h k = record {
-  sound = record { written = h .written; kept = h .kept; symbols = h .symbols; calls = omega (arith, h .calls); total = omega (arith, h .total) };
-  at = refl;
-  line = refl;
+  sound = record { within = h .within; lines = h .lines; written = h .written; second = h .second; kept = h .kept; symbols = h .symbols; calls = omega (arith, h .calls); total = omega (arith, h .total) };
+  from = omega arith;
   fuel = omega arith;
-  extends = extends-none (h .written);
+  extends = record { first = extends-none (h .written); second = extends-none (h .second) };
 }
 
 -- ---- offering a line
 
--- what is known where the line opens a call
+-- what is known where the line opens a call; o is the first output before it, and o₁ after it
 pub record EntersCall (q : Choice) (depth : ℕ) (s : State) (o : Bytes) (a : Answer) (o₁ : Bytes) : Type 0 where
   pub some-fuel : 0 < s .fuel
   pub found : q .found ≡ true
@@ -75,26 +74,29 @@ pub record EntersCall (q : Choice) (depth : ℕ) (s : State) (o : Bytes) (a : An
   pub kept : o₁ ≡ o
 
 -- no fuel is left
-offer-stops : {m : Marks} {text : Bytes} {row : List Node} {count : ℕ} {bodies : List ℕ} {l : Bytes} {depth : ℕ} {s : State} {o w : Bytes}
-    → Sound s o w → s .fuel ≡ 0 → Meets m text row count bodies (some l) [] depth s o w (endsWith 20 s) o w
+offer-stops : {m : Marks} {text : Bytes} {row : List Node} {count : ℕ} {bodies : List ℕ} {l : Bytes} {depth : ℕ} {s : State} {o : Outputs} {w : Bytes}
+    → Sound text s o w → s .fuel ≡ 0 → Meets m text row count bodies (some l) [] depth s o w (endsWith 20 s) o w
 unfolding nextAt nextOf
 offer-stops {m} {text} {row} {count} {bodies} {l} {depth} {s} {o} {w} sound spent = record {
   follows = follows-itself sound;
   left = refl;
-  same = λ t b fs k _ _ _. offer-spent (length o) m text t s o w spent l fs ∙ sym (halts-with (s .fuel) (length o) t text 20 [] s o w);
+  same = λ t b fs k _ _ _. offer-spent (roomsOf o) m text t s o w spent l fs ∙ sym (halts-with (s .fuel) (roomsOf o) t text 20 [] s o w);
 }
 
-module _ {m : Marks} {text : Bytes} {row : List Node} {count : ℕ} {bodies : List ℕ} (line : Bytes) (n : ℕ) {depth : ℕ} {s : State} {o w : Bytes} {q : Choice} (sound : Sound s o w) (g : Chooses m row count (take n line) q) where
+module _ {m : Marks} {text : Bytes} {row : List Node} {count : ℕ} {bodies : List ℕ} (line : Bytes) (n : ℕ) {depth : ℕ} {s : State} {o : Outputs} {w : Bytes} {q : Choice} (sound : Sound text s o w) (g : Chooses m row count (take n line) q) where
   module _ (some-fuel : 0 < s .fuel) where
     -- the line has no reading
-    offer-writes : {r : Answer} {o′ : Bytes} → q .found ≡ false → WritesLine line n (goesBack 0 (countedEvent s)) o r o′ → Meets m text row count bodies (some (take n line)) [] depth s o w r o′ w
-    offer-writes e p = record {
-      follows = follows-trans (event-follows (s .calls) (omega arith) sound some-fuel) (wrote-follows refl (p .writes) (event-follows (s .calls) (omega arith) sound some-fuel .sound));
-      left = wrote-left refl (p .writes);
-      same = λ t b fs i nums bytes built. no-call (length o) m text t s o w (b .marks) some-fuel (take n line) fs (g .no-call e _ (b .fits))
-          ∙ settle-same (s .fuel - 1) (length o) t _
-          ∙ (λ j. comesTo (sym (wrote-fuel refl (p .writes)) j) (length o) t (wrote-back refl (p .writes) m text fs nums bytes built w j));
-    }
+    offer-writes : {r : Answer} {o′ : Bytes} → q .found ≡ false → PassesThrough line n (countedEvent s) (o .first) r o′ → Meets m text row count bodies (some (take n line)) [] depth s o w r (outputs o′ (o .second)) w
+    offer-writes e p =
+        let v = p .writes (o .second) (sound .second) in
+        let c = event-follows (s .calls) (omega arith) sound some-fuel in
+        record {
+          follows = follows-trans c (wrote-follows v (c .sound));
+          left = wrote-left v;
+          same = λ t b fs i nums bytes built. no-call (roomsOf o) m text t s o w (b .marks) some-fuel (take n line) fs (g .no-call e _ (b .fits))
+              ∙ settle-same (s .fuel - 1) (roomsOf o) t _
+              ∙ (λ j. comesTo (sym (wrote-fuel v) j) (roomsOf o) t (wrote-back v m text fs nums bytes built w j));
+        }
 
     -- it opens a thirteenth call
     offer-deep : q .found ≡ true → depth ≡ 12 → Meets m text row count bodies (some (take n line)) [] depth s o w (endsWith 14 (countedEvent s)) o w
@@ -102,59 +104,66 @@ module _ {m : Marks} {text : Bytes} {row : List Node} {count : ℕ} {bodies : Li
     offer-deep e deep = record {
       follows = event-follows (s .calls) (omega arith) sound some-fuel;
       left = refl;
-      same = λ t b fs i _ _ _. let c = g .call e (templates (t .macros)) (b .fits) in too-deep (length o) m text t s o w (b .marks) some-fuel (take n line) fs (c .reading) (c .is) (le-leb 12 (length fs) (omega arith))
-          ∙ sym (halts-with (s .fuel - 1) (length o) t text 14 [] (countedEvent s) o w);
+      same = λ t b fs i _ _ _.
+          let c = g .call e (templates (t .macros)) (b .fits) in
+          too-deep (roomsOf o) m text t s o w (b .marks) some-fuel (take n line) fs (c .reading) (c .is) (le-leb 12 (length fs) (omega arith))
+          ∙ sym (halts-with (s .fuel - 1) (roomsOf o) t text 14 [] (countedEvent s) o w);
     }
 
-  module _ {a : Answer} {o₁ : Bytes} (d : Decides q line n depth s o a o₁) where
+  module _ {a : Answer} {o₁ : Bytes} (d : Decides q line n depth s (o .first) a o₁) where
     -- no call is opened
-    pub offer-left : isLeft (turn a) ≡ true → Meets m text row count bodies (some (take n line)) [] depth s o w a o₁ w
+    pub offer-left : isLeft (turn a) ≡ true → Meets m text row count bodies (some (take n line)) [] depth s o w a (outputs o₁ (o .second)) w
     offer-left e = by (eqb (s .fuel) 0) refl (q .found) refl (eqb depth 12) refl
       where
-        is : {x : Answer} {y : Bytes} → (a ≡ x) × (y ≡ o₁) → Meets m text row count bodies (some (take n line)) [] depth s o w x y w → Meets m text row count bodies (some (take n line)) [] depth s o w a o₁ w
-        is {x} {y} f h = subst (λ (z : Answer). Meets m text row count bodies (some (take n line)) [] depth s o w z o₁ w) (sym (f .0)) (subst (λ (z : Bytes). Meets m text row count bodies (some (take n line)) [] depth s o w x z w) (f .1) h)
+        is : {x : Answer} → (a ≡ x) × (o₁ ≡ o .first) → Meets m text row count bodies (some (take n line)) [] depth s o w x o w
+            → Meets m text row count bodies (some (take n line)) [] depth s o w a (outputs o₁ (o .second)) w
+        is f h = rw (f .0, f .1) h
 
-        by : (spent : Bool) → eqb (s .fuel) 0 ≡ spent → (found : Bool) → q .found ≡ found → (deep : Bool) → eqb depth 12 ≡ deep → Meets m text row count bodies (some (take n line)) [] depth s o w a o₁ w
-        by true f b _ _ _ = let r = d .spent (eqb-true _ _ f) in is (r .0, sym (r .1)) (offer-stops sound (eqb-true _ _ f))
+        by : (spent : Bool) → eqb (s .fuel) 0 ≡ spent → (found : Bool) → q .found ≡ found → (deep : Bool) → eqb depth 12 ≡ deep
+            → Meets m text row count bodies (some (take n line)) [] depth s o w a (outputs o₁ (o .second)) w
+        by true f b _ _ _ = is (d .spent (eqb-true _ _ f)) (offer-stops sound (eqb-true _ _ f))
         by false f false b _ _ = let k = pos-of-ne-zero (eqb-false _ _ f) in offer-writes k b (d .writes k b)
-        by false f true b true c = let k = pos-of-ne-zero (eqb-false _ _ f) in let r = d .deep k b (eqb-true _ _ c) in is (r .0, sym (r .1)) (offer-deep k b (eqb-true _ _ c))
+        by false f true b true c = let k = pos-of-ne-zero (eqb-false _ _ f) in is (d .deep k b (eqb-true _ _ c)) (offer-deep k b (eqb-true _ _ c))
         by false f true b false c = false-not-true (sym (ap (λ (x : Answer). isLeft (turn x)) (d .opens (pos-of-ne-zero (eqb-false _ _ f)) b (eqb-false _ _ c) .0)) ∙ e)
 
 -- ---- opening a call
 
-module _ {line : Bytes} {n depth : ℕ} {s : State} {o : Bytes} {q : Choice} {a : Answer} {o₁ : Bytes} (d : Decides q line n depth s o a o₁) where
+module _ {text line : Bytes} {n depth : ℕ} {s : State} {o : Outputs} {w : Bytes} {q : Choice} {a : Answer} {o₁ : Bytes} (sound : Sound text s o w) (d : Decides q line n depth s (o .first) a o₁) where
   -- a call is opened: there is fuel, a reading, and room for the call
-  pub offer-opens : isLeft (turn a) ≡ false → EntersCall q depth s o a o₁
+  pub offer-opens : isLeft (turn a) ≡ false → EntersCall q depth s (o .first) a o₁
   offer-opens e = by (eqb (s .fuel) 0) refl (q .found) refl (eqb depth 12) refl
     where
-      left : {x : Answer} → a ≡ x → isLeft (turn x) ≡ true → EntersCall q depth s o a o₁
+      left : {x : Answer} → a ≡ x → isLeft (turn x) ≡ true → EntersCall q depth s (o .first) a o₁
       left f h = false-not-true (sym e ∙ ap (λ (x : Answer). isLeft (turn x)) f ∙ h)
 
-      by : (spent : Bool) → eqb (s .fuel) 0 ≡ spent → (found : Bool) → q .found ≡ found → (deep : Bool) → eqb depth 12 ≡ deep → EntersCall q depth s o a o₁
+      by : (spent : Bool) → eqb (s .fuel) 0 ≡ spent → (found : Bool) → q .found ≡ found → (deep : Bool) → eqb depth 12 ≡ deep → EntersCall q depth s (o .first) a o₁
       by true f b _ _ _ = left (d .spent (eqb-true _ _ f) .0) refl
-      by false f false b _ _ = left refl (wrote-left refl (d .writes (pos-of-ne-zero (eqb-false _ _ f)) b .writes))
+      by false f false b _ _ = left refl (wrote-left (d .writes (pos-of-ne-zero (eqb-false _ _ f)) b .writes (o .second) (sound .second)))
       by false f true b true c = left (d .deep (pos-of-ne-zero (eqb-false _ _ f)) b (eqb-true _ _ c) .0) refl
       by false f true b false c =
           let k = pos-of-ne-zero (eqb-false _ _ f) in
           let r = d .opens k b (eqb-false _ _ c) in
           record { some-fuel = k; found = b; shallow = eqb-false _ _ c; counted = ap (λ (x : Answer). x .state) (r .0); kept = r .1 }
 
-module _ {depth : ℕ} {s : State} {o w : Bytes} {q : Choice} {a : Answer} {o₁ : Bytes} (sound : Sound s o w) (k : EntersCall q depth s o a o₁) where
+module _ {text : Bytes} {depth : ℕ} {s : State} {o : Outputs} {w : Bytes} {q : Choice} {a : Answer} {o₁ : Bytes} (sound : Sound text s o w) (k : EntersCall q depth s (o .first) a o₁) where
   -- the last call's number
   pub calls-small : a .state .calls ≤ 1000000
   calls-small = omega (arith, sound .calls, sound .total, k .some-fuel, ap (λ (y : State). y .calls) (k .counted))
+
+  entered : Follows text s o (withCall (countedEvent s)) o w
+  entered = event-follows (s .calls + 1) (omega arith) sound (k .some-fuel)
 
   module _ {u : State} (eu : u ≡ withCall (a .state)) where
     called : u ≡ withCall (countedEvent s)
     called = eu ∙ ap withCall (k .counted)
 
-    pub called-sound : Sound u o₁ w
-    called-sound = subst (λ (y : State). Sound y o₁ w) (sym called) (subst (λ (y : Bytes). Sound (withCall (countedEvent s)) y w) (sym (k .kept)) (event-follows (s .calls + 1) (omega arith) sound (k .some-fuel) .sound))
+    pub called-sound : Sound text u (outputs o₁ (o .second)) w
+    called-sound = rw (called, k .kept) (entered .sound)
 
     pub called-less : u .fuel < s .fuel
     called-less = omega (arith, k .some-fuel, ap (λ (y : State). y .fuel) called)
 
-    module _ {m : Marks} {text : Bytes} {row : List Node} {count : ℕ} {bodies : List ℕ} (line : Bytes) (n : ℕ) {c : Call} (g : Chooses m row count (take n line) q) (h : Opened bodies line n q (u .calls) c) where
+    module _ {m : Marks} {row : List Node} {count : ℕ} {bodies : List ℕ} (line : Bytes) (n : ℕ) {c : Call} (g : Chooses m row count (take n line) q) (h : Opened bodies line n q (u .calls) c) where
       -- the call that is opened
       pub called-begun : Prepared m text row count bodies → Begun m text c
       called-begun p =
@@ -162,25 +171,24 @@ module _ {depth : ℕ} {s : State} {o w : Bytes} {q : Choice} {a : Answer} {o₁
           record { number = omega (arith, r .same, k .some-fuel, ap (λ (y : State). y .calls) called, sound .calls, sound .total); next = r .within; nested = r .nested }
 
       -- what comes of it
-      pub offer-enters : {r : Answer} {o′ w′ : Bytes} → depth ≤ 12 → Meets m text row count bodies none (openedOf m text c ∷ []) depth u o₁ w r o′ w′ → Meets m text row count bodies (some (take n line)) [] depth s o w r o′ w′
+      pub offer-enters : {r : Answer} {o′ : Outputs} {w′ : Bytes} → depth ≤ 12 → Meets m text row count bodies none (openedOf m text c ∷ []) depth u (outputs o₁ (o .second)) w r o′ w′
+          → Meets m text row count bodies (some (take n line)) [] depth s o w r o′ w′
       offer-enters {r} {o′} {w′} few p =
-          let x : Meets m text row count bodies none (openedOf m text c ∷ []) depth (withCall (countedEvent s)) o w r o′ w′ =
-          subst (λ (y : State). Meets m text row count bodies none (openedOf m text c ∷ []) depth y o w r o′ w′) called
-          (subst (λ (y : Bytes). Meets m text row count bodies none (openedOf m text c ∷ []) depth u y w r o′ w′) (k .kept) p) in
+          let x : Meets m text row count bodies none (openedOf m text c ∷ []) depth (withCall (countedEvent s)) o w r o′ w′ = rw (called, k .kept) at p in
           record {
-            follows = follows-trans (event-follows (s .calls + 1) (omega arith) sound (k .some-fuel)) (x .follows);
+            follows = follows-trans entered (x .follows);
             left = x .left;
             same = λ t b fs i nums bytes built.
                 let z = reading-calls line n g (k .found) h text t b in
-                enters (length o) m text t s o w (b .marks) (k .some-fuel) (take n line) fs (z .reading) (z .is) (lt-leb 12 (length fs) (omega (arith, few, k .shallow, i)))
-                ∙ ap (λ (f : Frame). comesTo (s .fuel - 1) (length o) t (running (stateOf text none (f ∷ fs) (withCall (countedEvent s)) o w)))
+                enters (roomsOf o) m text t s o w (b .marks) (k .some-fuel) (take n line) fs (z .reading) (z .is) (lt-leb 12 (length fs) (omega (arith, few, k .shallow, i)))
+                ∙ ap (λ (f : Frame). comesTo (s .fuel - 1) (roomsOf o) t (running (stateOf text none (f ∷ fs) (withCall (countedEvent s)) o w)))
                 (ap (λ (j : ℕ). opened j (getD (t .macros) (z .reading .which) noMacro) (z .reading .pieces)) (sym (ap (λ (y : State). y .calls) called)) ∙ sym (z .frame))
                 ∙ x .same t b fs i nums bytes built;
           }
 
 -- ---- a code line
 
-module _ {m : Marks} {text : Bytes} {c : Laid} {s : State} {o w b : Bytes} {q : Answer} {nums : List ℕ} {bytes o₁ w₁ : Bytes} (steps : Steps m text c s o w b q nums bytes o₁ w₁) where
+module _ {m : Marks} {text : Bytes} {c : Laid} {s : State} {o : Outputs} {w b : Bytes} {q : Answer} {nums : List ℕ} {bytes : Bytes} {o₁ : Outputs} {w₁ : Bytes} (steps : Steps m text c s o w b q nums bytes o₁ w₁) where
   -- it offers nothing
   pub advance-takes : {row : List Node} {count : ℕ} {bodies : List ℕ} {depth : ℕ} → isOffer (turn q) ≡ false → Advances m text row count bodies c depth s o w q nums bytes o₁ w₁
   advance-takes e = record {
@@ -188,7 +196,7 @@ module _ {m : Marks} {text : Bytes} {c : Laid} {s : State} {o w b : Bytes} {q : 
     settled = e;
     less = steps .less;
     stays = steps .stays;
-    same = λ t k fs n line. steps .same t (k .marks) fs ∙ ap (comesTo (q .state .fuel) (length o) t) (unoffered-same m text q fs nums bytes b o₁ w₁ e line);
+    same = λ t k fs n line. steps .same t (k .marks) fs ∙ ap (comesTo (q .state .fuel) (roomsOf o) t) (unoffered-same m text q fs nums bytes b o₁ w₁ e line);
   }
 
   module _ (e : isOffer (turn q) ≡ true) where
@@ -202,59 +210,59 @@ module _ {m : Marks} {text : Bytes} {c : Laid} {s : State} {o w b : Bytes} {q : 
     offer-placed = stays .placed .next
 
     -- the line that it builds is offered
-    pub advance-offers : {row : List Node} {count : ℕ} {bodies : List ℕ} {depth n : ℕ} {r a : Answer} {o₂ w₂ : Bytes} → n ≡ offeredLength (turn q)
+    pub advance-offers : {row : List Node} {count : ℕ} {bodies : List ℕ} {depth n : ℕ} {r a : Answer} {o₂ : Outputs} {w₂ : Bytes} → n ≡ offeredLength (turn q)
         → Meets m text row count bodies (some (take n b)) [] (depth + 1) (q .state) o₁ w₁ r o₂ w₂ → LandsAnswer m text (q .call) r a → Advances m text row count bodies c depth s o w a nums bytes o₂ w₂
     advance-offers {depth = depth} {n} {r} {a} {o₂} {w₂} en p k =
         let f = frameOf m text (laid (q .call) nums bytes) in
         let ok : NextOk m (nextOf m text [] a nums bytes [] o₂ w₂) =
         subst (NextOk m) (k .same (p .left) [] nums bytes [] o₂ w₂) (left-nested m text r (f ∷ []) nums bytes [] o₂ w₂ (p .left) (stays .nested, tt)) in
         record {
-          follows = subst (λ (y : State). Follows s o y o₂ w₂) (sym (k .state)) (follows-trans (steps .follows) (p .follows));
+          follows = subst (λ (y : State). Follows text s o y o₂ w₂) (sym (k .state)) (follows-trans (steps .follows) (p .follows));
           settled = k .settled (p .left);
           less = λ _. omega (arith, ap (λ (y : State). y .fuel) (k .state), p .follows .fuel, offer-less);
           stays = λ g. record { placed = k .placed (p .left) g nums bytes (stays .placed); nested = next-nested m text a [] nums bytes [] o₂ w₂ ok g };
           same = λ t b′ fs i line. steps .same t (b′ .marks) fs
-              ∙ ap (comesTo (q .state .fuel) (length o) t) (next-offers m text q fs nums bytes b o₁ w₁ e)
-              ∙ ap (λ (j : ℕ). comesTo (q .state .fuel) (length o) t (running (stateOf text (some (take j b)) (f ∷ fs) (q .state) o₁ w₁))) (sym en)
-              ∙ subst (λ (room : ℕ). comesTo (q .state .fuel) room t (running (stateOf text (some (take n b)) (f ∷ fs) (q .state) o₁ w₁)) ≡ comesTo (r .state .fuel) room t (nextOf m text (f ∷ fs) r nums bytes line o₂ w₂))
-              (steps .follows .extends .long) (p .same t b′ (f ∷ fs) (ap suc i ∙ sym (add-one depth)) nums bytes line)
-              ∙ (λ j. comesTo (sym (k .state) j .fuel) (length o) t (k .same (p .left) fs nums bytes line o₂ w₂ j));
+              ∙ ap (comesTo (q .state .fuel) (roomsOf o) t) (next-offers m text q fs nums bytes b o₁ w₁ e)
+              ∙ ap (λ (j : ℕ). comesTo (q .state .fuel) (roomsOf o) t (running (stateOf text (some (take j b)) (f ∷ fs) (q .state) o₁ w₁))) (sym en)
+              ∙ subst (λ (room : Rooms). comesTo (q .state .fuel) room t (running (stateOf text (some (take n b)) (f ∷ fs) (q .state) o₁ w₁)) ≡ comesTo (r .state .fuel) room t (nextOf m text (f ∷ fs) r nums bytes line o₂ w₂))
+              (rooms-kept (steps .follows .extends)) (p .same t b′ (f ∷ fs) (ap suc i ∙ sym (add-one depth)) nums bytes line)
+              ∙ (λ j. comesTo (sym (k .state) j .fuel) (roomsOf o) t (k .same (p .left) fs nums bytes line o₂ w₂ j));
         }
 
 -- ---- a body
 
 -- what the expansion comes to from the call f₀ on, it comes to from the call c on
-pub record Running (m : Marks) (text : Bytes) (row : List Node) (count : ℕ) (bodies : List ℕ) (depth : ℕ) (f₀ : Frame) (s₀ : State) (o₀ w₀ : Bytes) (c : Laid) (s : State) (o w : Bytes) : Type 0 where
-  pub follows : Follows s₀ o₀ s o w
+pub record Running (m : Marks) (text : Bytes) (row : List Node) (count : ℕ) (bodies : List ℕ) (depth : ℕ) (f₀ : Frame) (s₀ : State) (o₀ : Outputs) (w₀ : Bytes) (c : Laid) (s : State) (o : Outputs) (w : Bytes) : Type 0 where
+  pub follows : Follows text s₀ o₀ s o w
   pub is-open : Open m text c
   pub same : (t : Loaded) → Book m text row count bodies t → (fs : List Frame) → length fs ≡ depth
-      → comesTo (s₀ .fuel) (length o₀) t (running (stateOf text none (f₀ ∷ fs) s₀ o₀ w₀)) ≡ comesTo (s .fuel) (length o₀) t (running (stateOf text none (frameOf m text c ∷ fs) s o w))
+      → comesTo (s₀ .fuel) (roomsOf o₀) t (running (stateOf text none (f₀ ∷ fs) s₀ o₀ w₀)) ≡ comesTo (s .fuel) (roomsOf o₀) t (running (stateOf text none (frameOf m text c ∷ fs) s o w))
 
 -- the call is laid out
-pub running-starts : {m : Marks} {text : Bytes} {row : List Node} {count : ℕ} {bodies : List ℕ} {depth : ℕ} {f : Call} {c : Head} {a : Answer} {nums : List ℕ} {bytes : Bytes} {s : State} {o w : Bytes}
-    → Sound s o w → Begun m text f → Lays f c nums bytes → a ≡ goesOn c s → Running m text row count bodies depth (openedOf m text f) s o w (laid (a .call) nums bytes) (a .state) o w
+pub running-starts : {m : Marks} {text : Bytes} {row : List Node} {count : ℕ} {bodies : List ℕ} {depth : ℕ} {f : Call} {c : Head} {a : Answer} {nums : List ℕ} {bytes : Bytes} {s : State} {o : Outputs} {w : Bytes}
+    → Sound text s o w → Begun m text f → Lays f c nums bytes → a ≡ goesOn c s → Running m text row count bodies depth (openedOf m text f) s o w (laid (a .call) nums bytes) (a .state) o w
 running-starts {m} {text} {row} {count} {bodies} {depth} {f} {nums = nums} {bytes} {s} {o} {w} sound b h e =
     subst (λ (x : Answer). Running m text row count bodies depth (openedOf m text f) s o w (laid (x .call) nums bytes) (x .state) o w) (sym e) record {
       follows = follows-itself sound;
       is-open = record { placed = h .placed text (b .number) (b .next); nested = subst (Nested m) (sym (h .frame m text)) (b .nested) };
-      same = λ t _ fs n. ap (λ (g : Frame). comesTo (s .fuel) (length o) t (running (stateOf text none (g ∷ fs) s o w))) (sym (h .frame m text));
+      same = λ t _ fs n. ap (λ (g : Frame). comesTo (s .fuel) (roomsOf o) t (running (stateOf text none (g ∷ fs) s o w))) (sym (h .frame m text));
     }
 
-module _ {m : Marks} {text : Bytes} {row : List Node} {count : ℕ} {bodies : List ℕ} {depth : ℕ} {f₀ : Frame} {s₀ : State} {o₀ w₀ : Bytes} {c : Laid} {s : State} {o w : Bytes}
+module _ {m : Marks} {text : Bytes} {row : List Node} {count : ℕ} {bodies : List ℕ} {depth : ℕ} {f₀ : Frame} {s₀ : State} {o₀ : Outputs} {w₀ : Bytes} {c : Laid} {s : State} {o : Outputs} {w : Bytes}
     (i : Running m text row count bodies depth f₀ s₀ o₀ w₀ c s o w) where
-  module _ {a : Answer} {nums : List ℕ} {bytes o′ w′ : Bytes} (h : Advances m text row count bodies c depth s o w a nums bytes o′ w′) where
+  module _ {a : Answer} {nums : List ℕ} {bytes : Bytes} {o′ : Outputs} {w′ : Bytes} (h : Advances m text row count bodies c depth s o w a nums bytes o′ w′) where
     advanced-same : (t : Loaded) → Book m text row count bodies t → (fs : List Frame) → length fs ≡ depth → (line : Bytes)
-        → comesTo (s₀ .fuel) (length o₀) t (running (stateOf text none (f₀ ∷ fs) s₀ o₀ w₀)) ≡ comesTo (a .state .fuel) (length o₀) t (nextOf m text fs a nums bytes line o′ w′)
+        → comesTo (s₀ .fuel) (roomsOf o₀) t (running (stateOf text none (f₀ ∷ fs) s₀ o₀ w₀)) ≡ comesTo (a .state .fuel) (roomsOf o₀) t (nextOf m text fs a nums bytes line o′ w′)
     advanced-same t b fs n line = i .same t b fs n
-        ∙ subst (λ (room : ℕ). comesTo (s .fuel) room t (running (stateOf text none (frameOf m text c ∷ fs) s o w)) ≡ comesTo (a .state .fuel) room t (nextOf m text fs a nums bytes line o′ w′))
-        (i .follows .extends .long) (h .same t b fs n line)
+        ∙ subst (λ (room : Rooms). comesTo (s .fuel) room t (running (stateOf text none (frameOf m text c ∷ fs) s o w)) ≡ comesTo (a .state .fuel) room t (nextOf m text fs a nums bytes line o′ w′))
+        (rooms-kept (i .follows .extends)) (h .same t b fs n line)
 
     -- the call is left, or the run has ended
     pub body-left : isLeft (turn a) ≡ true → Meets m text row count bodies none (f₀ ∷ []) depth s₀ o₀ w₀ a o′ w′
     body-left e = record {
       follows = follows-trans (i .follows) (h .follows);
       left = e;
-      same = λ t b fs n nums′ bytes′ line. advanced-same t b fs n line ∙ ap (comesTo (a .state .fuel) (length o₀) t) (left-same m text a fs nums bytes line o′ w′ e nums′ bytes′ line);
+      same = λ t b fs n nums′ bytes′ line. advanced-same t b fs n line ∙ ap (comesTo (a .state .fuel) (roomsOf o₀) t) (left-same m text a fs nums bytes line o′ w′ e nums′ bytes′ line);
     }
 
     -- the call goes on
@@ -262,5 +270,5 @@ module _ {m : Marks} {text : Bytes} {row : List Node} {count : ℕ} {bodies : Li
     running-on e = record {
       follows = follows-trans (i .follows) (h .follows);
       is-open = h .stays e;
-      same = λ t b fs n. advanced-same t b fs n [] ∙ ap (comesTo (a .state .fuel) (length o₀) t) (next-on m text a fs nums bytes [] o′ w′ e (h .settled));
+      same = λ t b fs n. advanced-same t b fs n [] ∙ ap (comesTo (a .state .fuel) (roomsOf o₀) t) (next-on m text a fs nums bytes [] o′ w′ e (h .settled));
     }

@@ -6,7 +6,7 @@ use lib.ListN.{length}
 use Rattle.model.specs.declared.Marks.{Marks}
 use Rattle.model.specs.Text.{Bytes, part}
 use Rattle.model.specs.Store.{Store, put, within}
-use Rattle.model.specs.Machine.{continues, param, withStore, saveText, stepped, stateWith}
+use Rattle.model.specs.Machine.{continues, param, withStore, saveText, stepped, stateWith, Outputs}
 use Rattle.model.proofs.Choices.{when-true, when-false}
 use Rattle.model.proofs.Sizes.{put-grows}
 use Rattle.store.specs.declared.Index.{Index}
@@ -48,7 +48,7 @@ module _ {c : Laid} {s : State} {memory : Bytes} {a b : ℕ} {memory′ : Bytes}
     comes = λ m text o line q h. by m text o line q h (subst (λ (es : Store). Holds memory′ y es) (renamed c a b (held (s .index .count) memory) l k) (p .done y e));
   }
     where
-      by : (m : Marks) (text o line : Bytes) → Placed text c → Sound s o memory → Holds memory′ y (put (paramOf c 1) (paramOf c 2) (held (s .index .count) memory))
+      by : (m : Marks) (text : Bytes) (o : Outputs) (line : Bytes) → Placed text c → Sound text s o memory → Holds memory′ y (put (paramOf c 1) (paramOf c 2) (held (s .index .count) memory))
           → Comes m text (saveText (param (frameOf m text c) 1) (param (frameOf m text c) 2) (frameOf m text c) (sharedOf s o memory)) s o line r (c .nums) (c .bytes) o memory′
       by m text o line q h v =
           let i = filled (h .kept) .count in
@@ -60,11 +60,11 @@ module _ {c : Laid} {s : State} {memory : Bytes} {a b : ℕ} {memory′ : Bytes}
           (sym (g ∙ ap (λ (z : State). goesOn (c .head) z) f))
           (comes-as (when-true _ _ (v .fits) ∙ ap (λ (es : Store). continues (frameOf m text c) (withStore (sharedOf s o memory) es)) (sym (v .is))) (record {
             same = λ fs. refl;
-            sound = record { written = h .written; kept = v .kept; symbols = omega arith; calls = h .calls; total = h .total };
+            sound = record { within = h .within; lines = h .lines; written = h .written; second = h .second; kept = v .kept; symbols = omega arith; calls = h .calls; total = h .total };
             placed = q;
             short = omega arith;
-            stays = record { at = refl; line = refl; calls = refl; events = refl; fuel = refl };
-            extends = extends-none (h .written);
+            stays = record { from = omega arith; calls = refl; events = refl; fuel = refl };
+            extends = record { first = extends-none (h .written); second = extends-none (h .second) };
           }))
 
   pub saves-full : {r : Answer} → x ≡ Full → r ≡ endsWith 19 s → Saves c s memory r memory′

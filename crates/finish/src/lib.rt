@@ -11,6 +11,7 @@ use call::set_param;
 use iterate::end_pass;
 use iterate::start_pass;
 use iterate::start_repeat;
+use model::Channel;
 use model::LINE_MOST;
 use model::Marks;
 use number::Valued;
@@ -27,6 +28,7 @@ ghost use mathlib.Core.Path.{_≡_};
 ghost use Prim.Native.Nat.{_*_, _≤_, _<_};
 ghost use lib.ListN.{length};
 ghost use Rattle.model.specs.Text.{part};
+ghost use Rattle.model.specs.Machine.{outputs};
 ghost use Rattle.store.specs.Memory.{Kept};
 ghost use Rattle.store.specs.Put.{Puts};
 ghost use Rattle.code.specs.Tokens.{Parameter};
@@ -77,32 +79,39 @@ pub fn begin_passes(
     go_or_end(p.number == 0, p.number, p.call, s)
 }
 
-// F1 after the line's start: channel 0 drops the line.
-pub fn write_to(ch: usize, call: Head, line: &[u8], n: usize, output: &mut [u8], s: State) -> Answer
-    requires { ⌜ s .written ≤ length (now output) ⌝ }
+// F1 after the line's start: the first n bytes of the line go to a channel.
+pub fn write_to(
+    ch: Channel,
+    call: Head,
+    line: &[u8],
+    n: usize,
+    output: &mut [u8],
+    second: &mut [u8],
+    s: State,
+) -> Answer
+    requires { ⌜ (s .written ≤ length (now output)) × (s .second ≤ length (now second)) ⌝ }
     requires { ⌜ n ≤ length (now line) ⌝ }
-    ensures { λ r. ⌜ WritesTo ch call (now (line .entry)) n s (now (output .entry)) r (now (output .exit)) ⌝ }
+    ensures { λ r. ⌜ WritesTo ch call (now (line .entry)) n s (outputs (now (output .entry)) (now (second .entry))) r (outputs (now (output .exit)) (now (second .exit))) ⌝ }
 {
-    if ch == 0 {
-        return go_on(call, s);
-    }
-    write_line(line, n, output, go_on(call, s))
+    write_line(ch, line, n, output, second, go_on(call, s))
 }
 
 // F1 at the line's start: the next code line is a layout, written in place of the line.
 pub fn write_layout_line(
     m: Marks,
     text: &[u8],
-    ch: usize,
+    ch: Channel,
     call: Head,
     nums: &[usize],
     params: &[u8],
     output: &mut [u8],
+    second: &mut [u8],
     s: State,
 ) -> Answer
     requires { ⌜ Placed (now text) (laid call (now nums) (now params)) ⌝ }
-    requires { ⌜ s .written ≤ length (now output) ⌝ }
-    ensures { λ r. ⌜ WritesLayoutLine m (now (text .entry)) ch (laid call (now (nums .entry)) (now (params .entry))) s (now (output .entry)) r (now (output .exit)) ⌝ }
+    requires { ⌜ (s .written ≤ length (now output)) × (s .second ≤ length (now second)) ⌝ }
+    ensures { λ r. ⌜ WritesLayoutLine m (now (text .entry)) ch (laid call (now (nums .entry)) (now (params .entry))) s
+        (outputs (now (output .entry)) (now (second .entry))) r (outputs (now (output .exit)) (now (second .exit))) ⌝ }
 {
     let at = call.next;
     let layout = read_code(text, m, at);
@@ -110,17 +119,17 @@ pub fn write_layout_line(
         return go_on(call, s);
     }
     let after = move_to(call, layout.next);
-    if ch == 0 {
-        return go_on(after, s);
-    }
+    let end = layout.end;
     write_layout(
         m,
+        ch,
         text,
         at,
-        layout.end,
+        end,
         nums,
         params,
         output,
+        second,
         go_on(after, s),
     )
 }

@@ -11,13 +11,13 @@ use Rattle.model.specs.declared.Marks.{Marks}
 use Rattle.model.specs.Text.{Bytes, upTo, lines}
 use Rattle.model.specs.Load.{Loaded}
 use Rattle.model.specs.Machine as Machine
-use Rattle.model.specs.Machine.{running, ended, stateWith, outcome}
+use Rattle.model.specs.Machine.{Rooms, Outputs, running, ended, stateWith, outcome}
 use Rattle.model.proofs.Steps as Steps
 use Rattle.state.specs.declared.State.{State}
 use Rattle.state.specs.State.{sharedOf, stateOf, withInput}
 use Rattle.answer.specs.Answers.{endsWith, comesTo, resultAfter}
 
-module _ (room : ℕ) (m : Marks) (text : Bytes) (t : Loaded) (s : State) (o w : Bytes) where
+module _ (room : Rooms) (m : Marks) (text : Bytes) (t : Loaded) (s : State) (o : Outputs) (w : Bytes) where
   -- no line is left
   pub input-over : lines (drop (s .at) text) ≡ [] → comesTo (s .fuel) room t (running (stateOf text none [] s o w)) ≡ resultAfter (endsWith 0 s) o w
   unfolding outcome Machine.resultOf stateWith

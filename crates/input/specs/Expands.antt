@@ -7,13 +7,13 @@ use lib.ListN.{length, take, drop}
 use Rattle.model.specs.declared.Marks.{Marks}
 use Rattle.model.specs.Text.{Bytes, part, lines}
 use Rattle.model.specs.Load.{Loaded}
-use Rattle.model.specs.Machine.{running}
+use Rattle.model.specs.Machine.{Outputs, running}
 use Rattle.nodes.specs.declared.Node.{Node}
 use Rattle.state.specs.declared.State.{State}
 use Rattle.state.specs.State.{Sound, stateOf, withInput}
 use Rattle.answer.specs.declared.Answer.{Answer}
-use Rattle.answer.specs.Answers.{comesTo, resultAfter}
-use Rattle.answer.specs.Kept.{Extends}
+use Rattle.answer.specs.Answers.{roomsOf, comesTo, resultAfter}
+use Rattle.answer.specs.Kept.{ExtendsBoth}
 use Rattle.matching.specs.Book.{Book}
 
 -- the content text[at..end] is at the front of the line
@@ -29,10 +29,10 @@ pub record DropsLines (text : Bytes) (n : ℕ) (s s′ : State) : Type 0 where
   pub within : s′ .at ≤ length text
   pub few : s′ .line + s .at ≤ s .line + s′ .at
 
--- r ends the run with the expansion's result. `row`, `count` and `bodies` are the nodes, how many the tree has and where the bodies start, s output memory are the state, output
--- and memory before, and output′ memory′ those after
-pub record Expands (m : Marks) (text : Bytes) (row : List Node) (count : ℕ) (bodies : List ℕ) (s : State) (output memory : Bytes) (r : Answer) (output′ memory′ : Bytes) : Type 0 where
-  pub sound : Sound (r .state) output′ memory′
-  pub extends : Extends output (s .written) output′ (r .state .written)
+-- r ends the run with the expansion's result. `row`, `count` and `bodies` are the nodes, how many the tree has and where the bodies start, s o memory are the state, outputs
+-- and memory before, and o′ memory′ those after
+pub record Expands (m : Marks) (text : Bytes) (row : List Node) (count : ℕ) (bodies : List ℕ) (s : State) (o : Outputs) (memory : Bytes) (r : Answer) (o′ : Outputs) (memory′ : Bytes) : Type 0 where
+  pub sound : Sound text (r .state) o′ memory′
+  pub extends : ExtendsBoth o s o′ (r .state)
   pub same : (t : Loaded) → Book m text row count bodies t
-      → comesTo (s .fuel) (length output) t (running (stateOf text none [] s output memory)) ≡ resultAfter r output′ memory′
+      → comesTo (s .fuel) (roomsOf o) t (running (stateOf text none [] s o memory)) ≡ resultAfter r o′ memory′

@@ -5,11 +5,12 @@ ghost use mathlib.Core.List.{[]};
 ghost use Prim.Native.Nat.{_+_, _≤_};
 ghost use lib.ListN.{length};
 ghost use Rattle.model.specs.Text.{part};
+ghost use Rattle.model.specs.Machine.{outputs};
 ghost use Rattle.state.specs.State.{Sound};
 ghost use Rattle.matching.specs.Book.{Prepared};
 ghost use Rattle.cycle_laws.specs.Meets.{Meets};
 ghost use Rattle.input.specs.Expands.{TakesContent, DropsLines, Expands};
-ghost use Rattle.model.specs.Limits.{textMost, lineMost, fuelMost, deadLeast};
+ghost use Rattle.model.specs.Limits.{lineMost, fuelMost, deadLeast};
 use answer::Answer;
 use answer::end_with;
 use answer::is_end;
@@ -30,7 +31,7 @@ fn take_line(text: &[u8], at: usize, end: usize, line: &mut [u8])
 
 // Drops n input lines, or all that are left: they are read and not measured.
 fn drop_lines(text: &[u8], n: usize, s: State) -> State
-    requires { ⌜ (s .at ≤ length (now text)) × (s .line + length (now text) ≤ fuelMost) ⌝ }
+    requires { ⌜ (s .at ≤ length (now text)) × (s .line + length (now text) ≤ fuelMost + s .at) ⌝ }
     ensures { λ r. ⌜ DropsLines (now (text .entry)) n s r ⌝ }
 {
     let mut at = s.at;
@@ -57,15 +58,17 @@ fn offer_content(
     dead: &mut [u8],
     bodies: &[usize],
     output: &mut [u8],
+    second: &mut [u8],
     memory: &mut [u8],
     at: usize,
     end: usize,
     s: State,
 ) -> Answer
-    requires { ⌜ Prepared m (now text) (now nodes) count (now bodies) × Sound s (now output) (now memory)
+    requires { ⌜ Prepared m (now text) (now nodes) count (now bodies) × Sound (now text) s (outputs (now output) (now second)) (now memory)
         × (at ≤ end) × (end ≤ length (now text)) × (end ≤ at + lineMost) × (deadLeast ≤ length (now dead)) ⌝ }
     ensures { λ r. ⌜ Meets m (now (text .entry)) (now (nodes .entry)) count (now (bodies .entry)) (some (part (now (text .entry)) at end)) []
-        0 s (now (output .entry)) (now (memory .entry)) r (now (output .exit)) (now (memory .exit)) ⌝ }
+        0 s (outputs (now (output .entry)) (now (second .entry))) (now (memory .entry)) r
+        (outputs (now (output .exit)) (now (second .exit))) (now (memory .exit)) ⌝ }
 {
     let mut line = [0u8; LINE_MOST];
     take_line(text, at, end, &mut line);
@@ -78,6 +81,7 @@ fn offer_content(
         dead,
         bodies,
         output,
+        second,
         memory,
         &line,
         n,
@@ -95,13 +99,15 @@ pub fn expand_input(
     dead: &mut [u8],
     bodies: &[usize],
     output: &mut [u8],
+    second: &mut [u8],
     memory: &mut [u8],
     s: State,
 ) -> Answer
-    requires { ⌜ Prepared m (now text) (now nodes) count (now bodies) × Sound s (now output) (now memory)
-        × (s .at ≤ length (now text)) × (s .line ≤ textMost) × (deadLeast ≤ length (now dead)) ⌝ }
+    requires { ⌜ Prepared m (now text) (now nodes) count (now bodies) × Sound (now text) s (outputs (now output) (now second)) (now memory)
+        × (deadLeast ≤ length (now dead)) ⌝ }
     ensures { λ r. ⌜ Expands m (now (text .entry)) (now (nodes .entry)) count (now (bodies .entry)) s
-        (now (output .entry)) (now (memory .entry)) r (now (output .exit)) (now (memory .exit)) ⌝ }
+        (outputs (now (output .entry)) (now (second .entry))) (now (memory .entry)) r
+        (outputs (now (output .exit)) (now (second .exit))) (now (memory .exit)) ⌝ }
 {
     let mut st = s;
     while st.at < text.len() {
@@ -120,6 +126,7 @@ pub fn expand_input(
             dead,
             bodies,
             output,
+            second,
             memory,
             at,
             end,

@@ -9,7 +9,7 @@ use Rattle.model.specs.declared.Marks.{Marks}
 use Rattle.model.specs.Text.{Bytes}
 use Rattle.model.specs.Load.{bodyAt}
 use Rattle.model.specs.Machine as Machine
-use Rattle.model.specs.Machine.{Frame, running, resumeAt, stateWith, passOver, skipFrom, skipIn}
+use Rattle.model.specs.Machine.{Frame, running, resumeAt, stateWith, passOver, skipFrom, skipIn, Outputs}
 use Rattle.model.proofs.Choices.{false-not-true}
 use Rattle.body.specs.declared.Passed.{Passed}
 use Rattle.body.specs.declared.Passed.the-variants.{Landed, Beyond, Bad}
@@ -30,7 +30,7 @@ use Rattle.landing.specs.Landing.{LandsSkip, LandsAnswer}
 -- ---- a skip in a call
 
 -- what a skip comes to, by where it ends
-skipped : (m : Marks) (text : Bytes) (c : Laid) (n : ℕ) (z : Machine.Passed) → passOver m n 0 (bodyAt m text (c .head .next)) ≡ z → (s : State) (fs : List Frame) (o w : Bytes)
+skipped : (m : Marks) (text : Bytes) (c : Laid) (n : ℕ) (z : Machine.Passed) → passOver m n 0 (bodyAt m text (c .head .next)) ≡ z → (s : State) (fs : List Frame) (o : Outputs) (w : Bytes)
     → settle (skipIn m n (frameOf m text c ∷ fs) (sharedOf s o w) (stateOf text none fs s o w))
     ≡ settle (skipFrom (frameOf m text c) fs (sharedOf s o w) (stateOf text none fs s o w) (λ k. skipIn m k fs (sharedOf s o w) (stateOf text none fs s o w)) z)
 unfolding skipIn

@@ -9,8 +9,8 @@ use Rattle.fit.specs.declared.Choice.{Choice}
 use Rattle.state.specs.declared.State.{State}
 use Rattle.state.specs.State.{countedEvent}
 use Rattle.answer.specs.declared.Answer.{Answer}
-use Rattle.answer.specs.Answers.{noCall, goesOn, goesBack, endsWith}
-use Rattle.write.specs.Output.{WritesLine}
+use Rattle.answer.specs.Answers.{noCall, goesOn, endsWith}
+use Rattle.write.specs.Output.{PassesThrough}
 use Rattle.matching.specs.Matches.{Decides}
 
 -- what the writer asks, once the event is counted
@@ -24,10 +24,10 @@ module _ {c : Choice} {line : Bytes} {n depth : ℕ} {s : State} {o : Bytes} {a 
 
   module _ {t : State} (some-fuel : ¬ (s .fuel ≡ 0)) (et : t ≡ countedEvent s) where
     -- the line has no reading
-    pub decides-writes : {o′ : Bytes} → c .found ≡ false → WritesLine line n (goesBack 0 t) o a o′ → Decides c line n depth s o a o′
+    pub decides-writes : {o′ : Bytes} → c .found ≡ false → PassesThrough line n t o a o′ → Decides c line n depth s o a o′
     decides-writes {o′} f h = record {
       spent = λ e. absurd (some-fuel e);
-      writes = λ _ _. subst (λ (x : State). WritesLine line n (goesBack 0 x) o a o′) et h;
+      writes = λ _ _. subst (λ (x : State). PassesThrough line n x o a o′) et h;
       deep = λ _ g. false-not-true (sym f ∙ g);
       opens = λ _ g. false-not-true (sym f ∙ g);
     }

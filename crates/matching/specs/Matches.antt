@@ -19,14 +19,14 @@ use Rattle.fit.specs.declared.Choice.{Choice}
 use Rattle.state.specs.declared.State.{State}
 use Rattle.state.specs.State.{countedEvent}
 use Rattle.answer.specs.declared.Answer.{Answer}
-use Rattle.answer.specs.Answers.{noCall, goesOn, goesBack, endsWith}
-use Rattle.write.specs.Output.{WritesLine}
+use Rattle.answer.specs.Answers.{noCall, goesOn, endsWith}
+use Rattle.write.specs.Output.{PassesThrough}
 
--- a is what the first n bytes of a line come to by their reading c, with `depth` calls open, up to the opening of a call; output′ is the
--- output after it
+-- a is what the first n bytes of a line come to by their reading c, with `depth` calls open, up to the opening of a call; output is the first
+-- output before it, and output′ after it
 pub record Decides (c : Choice) (line : Bytes) (n depth : ℕ) (s : State) (output : Bytes) (a : Answer) (output′ : Bytes) : Type 0 where
   pub spent : s .fuel ≡ 0 → (a ≡ endsWith 20 s) × (output′ ≡ output)
-  pub writes : 0 < s .fuel → c .found ≡ false → WritesLine line n (goesBack 0 (countedEvent s)) output a output′
+  pub writes : 0 < s .fuel → c .found ≡ false → PassesThrough line n (countedEvent s) output a output′
   pub deep : 0 < s .fuel → c .found ≡ true → depth ≡ callsMost → (a ≡ endsWith 14 (countedEvent s)) × (output′ ≡ output)
   pub opens : 0 < s .fuel → c .found ≡ true → ¬ (depth ≡ callsMost) → (a ≡ goesOn noCall (countedEvent s)) × (output′ ≡ output)
 

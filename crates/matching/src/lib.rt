@@ -20,7 +20,7 @@ use state::count_event;
 use write::pass_through;
 
 // What the first n bytes of a line come to by their reading, with `depth` calls open: the run is spent; without a reading the line is
-// written; a call more is one too many; or a call is to be opened, and the answer, which goes on, has the event counted.
+// written to the first output; a call more is one too many; or a call is to be opened, and the answer, which goes on, has the event counted.
 pub fn decide(c: Choice, line: &[u8], n: usize, output: &mut [u8], depth: usize, s: State) -> Answer
     requires { ⌜ (n ≤ length (now line)) × (s .written ≤ length (now output)) × (s .events + s .fuel ≤ fuelMost) ⌝ }
     ensures { λ a. ⌜ Decides c (now (line .entry)) n depth s (now (output .entry)) a (now (output .exit)) ⌝ }

@@ -7,7 +7,7 @@ use lib.Seq.{take-at}
 use Rattle.model.specs.declared.Ran.{Ran}
 use Rattle.model.specs.Text.{Bytes}
 use Rattle.model.specs.Load.{Loaded, loaded, load}
-use Rattle.model.specs.Machine.{running, initial, Result, run}
+use Rattle.model.specs.Machine.{Rooms, rooms, Outputs, outputs, Extends, running, initial, Result, run}
 use Rattle.model.specs.Results.{ranAs}
 use Rattle.model.specs.Runs.{Runs}
 use Rattle.model.specs.Demands.{OffersInRun, FollowsExpansion}
@@ -17,13 +17,13 @@ use Rattle.model.proofs.Events.{next-event, exactly-ended, exactly-spen
 use Rattle.model.proofs.NumberTable.{begun-numbered}
 
 -- every line offered in a run goes by its first reading
-pub run-offers : (text : Bytes) (t : Loaded) → load text ≡ loaded t → (fuel room : ℕ) → OffersInRun fuel room t
+pub run-offers : (text : Bytes) (t : Loaded) → load text ≡ loaded t → (fuel : ℕ) (room : Rooms) → OffersInRun fuel room t
 run-offers text t loads fuel room n s l b e p = (next-event n room t (running (initial t)) s e, offered-first text t loads room s l p)
 
-module _ (text : Bytes) (t : Loaded) (loads : load text ≡ loaded t) (fuel : ℕ) (output store : Bytes) {r : Ran} {output′ store′ : Bytes}
-    (h : Runs (run fuel (length output) (loaded t)) output store r output′ store′) where
-  abbrev room : ℕ
-  room = length output
+module _ (text : Bytes) (t : Loaded) (loads : load text ≡ loaded t) (fuel : ℕ) (output second store : Bytes) {r : Ran} {output′ second′ store′ : Bytes}
+    (h : Runs (run fuel (rooms (length output) (length second)) (loaded t)) output second store r output′ second′ store′) where
+  abbrev room : Rooms
+  room = rooms (length output) (length second)
 
   number : r .number ≡ run fuel room (loaded t) .number
   unfolding ranAs
@@ -34,15 +34,18 @@ module _ (text : Bytes) (t : Loaded) (loads : load text ≡ loaded t) (fuel : �
   events = ap (λ (z : Ran). z .events) (h .is)
 
   -- the bytes that the run has written
-  wrote : take (r .output) output′ ≡ run fuel room (loaded t) .output
+  wrote : outputs (take (r .output) output′) (take (r .second) second′) ≡ run fuel room (loaded t) .output
   unfolding ranAs
-  wrote = ap (λ (z : Bytes). take (r .output) z) (h .writes) ∙ take-at (run fuel room (loaded t) .output) _ (r .output) (sym (ap (λ (z : Ran). z .output) (h .is)))
+  wrote =
+      let first = ap (λ (z : Bytes). take (r .output) z) (h .writes) ∙ take-at (run fuel room (loaded t) .output .first) _ (r .output) (sym (ap (λ (z : Ran). z .output) (h .is))) in
+      let second = ap (λ (z : Bytes). take (r .second) z) (h .writes-second) ∙ take-at (run fuel room (loaded t) .output .second) _ (r .second) (sym (ap (λ (z : Ran). z .second) (h .is))) in
+      (λ i. outputs (first i) (second i))
 
   -- the run's result under another name
-  runs-as : {x : Result} → run fuel room (loaded t) ≡ x → Runs x output store r output′ store′
-  runs-as e = subst (λ (x : Result). Runs x output store r output′ store′) e h
+  runs-as : {x : Result} → run fuel room (loaded t) ≡ x → Runs x output second store r output′ second′ store′
+  runs-as e = subst (λ (x : Result). Runs x output second store r output′ second′ store′) e h
 
-  pub follows-expansion : FollowsExpansion t fuel output store r output′ store′
+  pub follows-expansion : FollowsExpansion t fuel output second store r output′ second′ store′
   unfolding run
   follows-expansion = record {
     is = h;
@@ -55,5 +58,5 @@ module _ (text : Bytes) (t : Loaded) (loads : load text ≡ loaded t) (fuel : �
     events = omega (arith, events, run-events fuel room t);
     used = λ e. events ∙ spent-events fuel room t (sym number ∙ e);
     same = λ g l z. runs-as (sym (fuel-enough fuel g room (loaded t) l (λ e. z (number ∙ e))));
-    adds = λ g l e. rw wrote (fuel-spent fuel g room (loaded t) l (sym number ∙ e));
+    adds = λ g l e. subst (λ (z : Outputs). Extends z (run g room (loaded t) .output)) (sym wrote) (fuel-spent fuel g room (loaded t) l (sym number ∙ e));
   }

@@ -2,11 +2,10 @@
 -- So a run is spent exactly when the expansion has an event beyond the fuel. The theorems: next-event, running-events, ended-events, exactly-ended, exactly-spent.
 use mathlib.Core.Path.{_≡_, refl, ap, sym, _∙_, subst}
 use mathlib.Core.Logic.{_↔_}
-use mathlib.Core.List.{[]}
 use Prim.Native.Nat.{ℕ, zero, suc, _+_, _≤_}
 use native.Mathlib.Omega.{arith}
 use Rattle.model.specs.Load.{Loaded, loaded}
-use Rattle.model.specs.Machine.{State, Next, running, ended, ready, event, follow, after, initial, Result, resultOf, outcome, run}
+use Rattle.model.specs.Machine.{Rooms, State, Next, running, ended, ready, event, follow, after, noOutput, initial, Result, resultOf, outcome, run}
 use Rattle.model.specs.Demands.{EndsInFuel, GoesBeyond}
 use Rattle.model.proofs.Fuel.{Later, ready-later, event-later, after-ended, after-sum, after-since, Since, run-ended, run-spent}
 use Rattle.model.proofs.Steps.{after-event}
@@ -15,24 +14,24 @@ use Rattle.model.proofs.NumberTable.{ended-unspent}
 -- ---- one event
 
 -- a state that `after` comes to is just before its next event
-pub after-settled : (n room : ℕ) (t : Loaded) (x : Next) (s : State) → after n room t x ≡ running s → ready (t .marks) s ≡ running s
+pub after-settled : (n : ℕ) (room : Rooms) (t : Loaded) (x : Next) (s : State) → after n room t x ≡ running s → ready (t .marks) s ≡ running s
 unfolding after follow
 after-settled n room t x s e =
     let z : n + 0 ≡ n = omega arith in
     sym (ap (after 0 room t) e) ∙ (sym (after-sum n 0 room t x) ∙ (ap (λ (j : ℕ). after j room t x) z ∙ e))
 
 -- and one event more is `event`, and what then comes without one
-pub next-event : (n room : ℕ) (t : Loaded) (x : Next) (s : State) → after n room t x ≡ running s → after (n + 1) room t x ≡ after 0 room t (event room t s)
+pub next-event : (n : ℕ) (room : Rooms) (t : Loaded) (x : Next) (s : State) → after n room t x ≡ running s → after (n + 1) room t x ≡ after 0 room t (event room t s)
 next-event n room t x s e = after-sum n 1 room t x ∙ (ap (after 1 room t) e ∙ after-event 0 room t s (after-settled n room t x s e))
 
 -- ---- events counted
 
 -- from the state s, the expansion ends in s′ with the number k after j of at most n events, and s′ counts these
-abbrev EndsAt : ℕ → Loaded → State → ℕ → ℕ → State → Type 0
+abbrev EndsAt : Rooms → Loaded → State → ℕ → ℕ → State → Type 0
 EndsAt room t s n k s′ = (j : ℕ) × (j ≤ n) × (s′ .events ≡ s .events + j) × (after j room t (running s) ≡ ended k s′)
 
 -- a machine that has ended did so at the last event that it counts
-ended-at : (n room : ℕ) (t : Loaded) (s : State) (k : ℕ) (s′ : State) → after n room t (running s) ≡ ended k s′ → EndsAt room t s n k s′
+ended-at : (n : ℕ) (room : Rooms) (t : Loaded) (s : State) (k : ℕ) (s′ : State) → after n room t (running s) ≡ ended k s′ → EndsAt room t s n k s′
 unfolding after follow
 ended-at zero room t s k s′ e = (0, omega arith, omega (arith, (subst (Later (s .shared .output) (s .events)) e (ready-later (t .marks) s)) .1), e)
 ended-at (suc n) room t s k s′ e = by (ready (t .marks) s) refl (ready-later (t .marks) s) e (λ s₁ d. ended-at n room t s₁ k s′ d)
@@ -51,11 +50,11 @@ ended-at (suc n) room t s k s′ e = by (ready (t .marks) s) refl (ready-later (
     by (ended k₁ s₁) d h e ih = (0, omega arith, omega (arith, (subst (Later (s .shared .output) (s .events)) e h) .1), d ∙ e)
     by (running s₁) d h e ih = byEvent s₁ (event room t s₁) d (h .1) refl (event-later room t s₁) e ih
 
-module _ (n room : ℕ) (t : Loaded) where
+module _ (n : ℕ) (room : Rooms) (t : Loaded) where
   -- a state before its next event has counted the events up to it
   pub running-events : (s : State) → after n room t (running (initial t)) ≡ running s → s .events ≡ n
   unfolding initial
-  running-events s e = omega (arith, (subst (Since [] 0 n) e (after-since n room t (initial t))) .1)
+  running-events s e = omega (arith, (subst (Since noOutput 0 n) e (after-since n room t (initial t))) .1)
 
   -- an ended one at most as many, and the expansion had ended as soon as it had counted them
   pub ended-events : (k : ℕ) (s : State) → after n room t (running (initial t)) ≡ ended k s → (s .events ≤ n) × (after (s .events) room t (running (initial t)) ≡ ended k s)
@@ -67,7 +66,7 @@ module _ (n room : ℕ) (t : Loaded) where
 
 -- ---- ended or spent
 
-module _ (f room : ℕ) (t : Loaded) where
+module _ (f : ℕ) (room : Rooms) (t : Loaded) where
   -- a run's number is other than 20 exactly when the expansion ends within as many events as the fuel
   pub exactly-ended : (¬ (run f room (loaded t) .number ≡ 20)) ↔ EndsInFuel f room t
   unfolding run outcome resultOf

@@ -3,16 +3,17 @@ use mathlib.Core.Path.{_≡_, refl, ap, sym, _∙_, subst}
 use mathlib.Core.Bool.{Bool, false, _||_}
 use mathlib.Core.Option.{Option, none, some}
 use mathlib.Core.List.{List, [], _∷_}
-use Prim.Native.Nat.{ℕ, zero, suc, _+_, _*_, _≤_, _<_}
+use Prim.Native.Nat.{ℕ, zero, suc, _*_, _≤_, _<_}
 use native.Mathlib.Omega.{arith}
 use lib.Dec.{leb}
 use lib.ListN.{length, getD}
 use borrow.Author.Tests.{le-ltb}
 use Rattle.model.specs.declared.Marks.{Marks}
+use Rattle.model.specs.declared.Channel.the-variants as Channel
 use Rattle.model.specs.Text.{Bytes, lines}
 use Rattle.model.specs.Reading.{Pieces, Reading, chosen}
 use Rattle.model.specs.Load.{Macro, noMacro, templates, nodes, Loaded, loaded, load}
-use Rattle.model.specs.Machine.{State, Next, running, ended, stateWith, call, passThrough, offeredAs, offered, counted, event}
+use Rattle.model.specs.Machine.{Rooms, State, Next, running, ended, stateWith, call, Shared, wrote, passed, passThrough, offeredAs, offered, counted, event}
 use Rattle.model.specs.Places.{placesTaken}
 use Rattle.model.specs.Results.{shortRow, shortDead, fittedAs, fittedIn, fitLine}
 use Rattle.model.specs.Fitting.{First}
@@ -78,21 +79,25 @@ IsPass s (running x) = x .calls ≡ s .calls
 IsPass s (ended k x) = k ≡ 13
 
 -- so a call is never what passing through comes to
-call-no-pass : (x : Macro) (ps : Pieces) (s : State) (room : ℕ) (l : Bytes) → ¬ (call x ps s ≡ passThrough room l s)
-unfolding call passThrough stateWith
+call-no-pass : (x : Macro) (ps : Pieces) (s : State) (room : Rooms) (l : Bytes) → ¬ (call x ps s ≡ passThrough room l s)
+unfolding call passThrough passed stateWith
 call-no-pass x ps s room l e = not-both (passThrough room l s) (subst (IsCall s) e is-call) is-pass
   where
     is-call : IsCall s (call x ps s)
     is-call = both (IsCall s) (leb 12 (length (s .frames))) _ _ refl refl
 
+    by : (o : Option Shared) → IsPass s (passed s o)
+    by none = refl
+    by (some w) = refl
+
     is-pass : IsPass s (passThrough room l s)
-    is-pass = both (IsPass s) (leb (length (s .shared .output) + length l + 1) room) _ _ refl refl
+    is-pass = by (wrote room Channel.First l (s .shared))
 
     not-both : (y : Next) → IsCall s y → IsPass s y → ⊥
     not-both (running y) p q = omega arith
     not-both (ended k y) p q = omega arith
 
-module _ (text : Bytes) (t : Loaded) (loads : load text ≡ loaded t) (room : ℕ) (l : Bytes) (s : State) where
+module _ (text : Bytes) (t : Loaded) (loads : load text ≡ loaded t) (room : Rooms) (l : Bytes) (s : State) where
   -- without a reading the line is passed through, and with one it is a call of the first
   offeredAs-first : (o : Option Reading) → chosen (t .marks) (templates (t .macros)) l ≡ o → OffersFirst room t l s (offeredAs room t l s o)
   unfolding offeredAs
@@ -108,7 +113,7 @@ module _ (text : Bytes) (t : Loaded) (loads : load text ≡ loaded t) (room : �
       }
 
 -- the event of a state with a pending line
-pub offered-first : (text : Bytes) (t : Loaded) → load text ≡ loaded t → (room : ℕ) (s : State) (l : Bytes) → s .pending ≡ some l → OffersFirst room t l (counted s) (event room t s)
+pub offered-first : (text : Bytes) (t : Loaded) → load text ≡ loaded t → (room : Rooms) (s : State) (l : Bytes) → s .pending ≡ some l → OffersFirst room t l (counted s) (event room t s)
 unfolding offered
 offered-first text t loads room s l e =
     subst (OffersFirst room t l (counted s)) (sym (event-pending room t s l e)) (offeredAs-first text t loads room l (counted s) (chosen (t .marks) (templates (t .macros)) l) refl)

@@ -4,22 +4,25 @@ use mathlib.Core.Path.{_≡_, refl, subst}
 use mathlib.Core.Bool.{Bool, true, false}
 use mathlib.Core.Option.{Option, none, some}
 use mathlib.Core.List.{List, [], _∷_}
-use Prim.Native.Nat.{ℕ, zero, suc, _+_, _≤_}
+use Prim.Native.Nat.{ℕ, zero, suc, _≤_}
 use native.Mathlib.Nat.{zero-add}
-use lib.Dec.{eqb, leb}
+use lib.Dec.{leb}
 use lib.ListN.{length, getD}
 use lib.IntN.{ℤ, pos, negsuc}
 use Rattle.model.specs.declared.Marks.{Marks}
+use Rattle.model.specs.declared.Channel.{Channel}
+use Rattle.model.specs.declared.Channel.the-variants.{First}
 use Rattle.model.specs.Text.{Bytes, upTo}
 use Rattle.model.specs.Reading.{Reading, chosen}
-use Rattle.model.specs.Code.{Ending, parse, offer, assign, iterate, stop, write, layout, save, skip, skipText, skipValue, repeat, again, leave, malformed, effectOf, effect}
+use Rattle.model.specs.Code.{Ending, parse, offer, assign, iterate, stop, write, layout, copy, save, skip, skipText, skipValue, repeat, again, leave, malformed, effectOf, effect}
 use Rattle.model.specs.declared.Effect.the-variants.{Closes, Owns}
 use Rattle.model.specs.declared.Comparison.{Comparison}
 use Rattle.model.specs.Store.{put, within}
 use Rattle.model.specs.Load.{templates, Loaded, loaded, load}
-use Rattle.model.specs.Machine.{Loop, byPieces, byCount, Frame, Shared, Step, continues, offers, skips, leaves, halts, param, withParam, resumeAt, Building, built, failed, build, Piece, takePass, nextPass, endPass, pastLoop, startRepeat, output, writeTo, writeLayout, saveText, skipBy, skipIf, skipCompared, finish, finishBuilt, carryOut, State, Next, running, ended, stateWith, Passed, landed, beyond, badLanding, passOver, skipIn, call, passThrough, offered, stepped, unfinished, readInput, ready, beginLine, counted, event, after, initial, skipFrom, offeredAs, beginAt, eventFor, measured, readyIn, readyFor, closed, follow}
+use Rattle.model.specs.Machine.{Rooms, Loop, byPieces, byCount, Frame, Shared, Step, continues, offers, skips, leaves, halts, param, withParam, resumeAt, Building, built, failed, build, Piece, takePass, nextPass, endPass, pastLoop, startRepeat, writeTo, writeLayout, saveText, skipBy, skipIf, skipCompared, finish, finishBuilt, carryOut, State, Next, running, ended, stateWith, Passed, landed, beyond, badLanding, passOver, skipIn, call, passThrough, offered, stepped, unfinished, readInput, ready, beginLine, counted, event, after, initial, skipFrom, offeredAs, beginAt, eventFor, measured, readyIn, readyFor, closed, follow, copies, wrote, goesWritten, passed, pastLine, copyInput}
 use Rattle.model.specs.Sizes.{wellNested, BodiesOk, afterOf, LoopsOk, Nested, FramesOk}
 use Rattle.model.proofs.Choices.{both}
+use Rattle.model.proofs.Copying.{input-copied}
 use Rattle.model.proofs.Nesting.{nested-few, Passing, passing, Lands, passOver-nested, pastLoop-nested, all-at, load-nested}
 
 -- at most four iterations are open
@@ -34,6 +37,7 @@ StepOk m (continues f w) = Nested m f
 StepOk m (offers l f w) = Nested m f
 StepOk m (skips n f w) = Nested m f
 StepOk m (leaves w) = Unit {0}
+StepOk m (copies room ch f w) = Nested m f
 StepOk m (halts k w) = Unit {0}
 
 module _ (m : Marks) where
@@ -72,13 +76,16 @@ module _ (m : Marks) where
   startRepeat-nested (some (negsuc n)) f w h e = record { lines = past-nested _ _ e; around = h }
 
   -- writing changes no call
-  pub writeTo-nested : (room ch : ℕ) (l : Bytes) (f : Frame) (w : Shared) → Nested m f → StepOk m (writeTo room ch l f w)
-  unfolding writeTo output
-  writeTo-nested room ch l f w h =
-      both (StepOk m) (eqb ch 0) _ _ h (both (StepOk m) (leb (length (w .output) + length l + 1) room) _ _ h tt)
+  pub writeTo-nested : (room : Rooms) (ch : Channel) (l : Bytes) (f : Frame) (w : Shared) → Nested m f → StepOk m (writeTo room ch l f w)
+  unfolding writeTo goesWritten
+  writeTo-nested room ch l f w h = by (wrote room ch l w)
+    where
+      by : (o : Option Shared) → StepOk m (goesWritten f w o)
+      by none = tt
+      by (some v) = h
 
   -- a layout is passed with its owner
-  pub writeLayout-nested : (room ch : ℕ) (cs : List Bytes) (f : Frame) (w : Shared) → LoopsOk m (f .loops) → Passing m (length (f .loops)) Owns cs → StepOk m (writeLayout room m ch cs f w)
+  pub writeLayout-nested : (room : Rooms) (ch : Channel) (cs : List Bytes) (f : Frame) (w : Shared) → LoopsOk m (f .loops) → Passing m (length (f .loops)) Owns cs → StepOk m (writeLayout room m ch cs f w)
   unfolding writeLayout resumeAt
   writeLayout-nested room ch [] f w h e = absurd e
   writeLayout-nested room ch (c ∷ cs) f w h e = writeTo-nested room ch _ _ w (record { lines = e; around = h })
@@ -103,7 +110,7 @@ module _ (m : Marks) where
   skipCompared-nested o (some a) (some b) f w h = skipIf-nested _ f w h
 
   -- what is done at a code line's end
-  pub finish-nested : (room : ℕ) (k : Ending) (l : Bytes) (f : Frame) (w : Shared)
+  pub finish-nested : (room : Rooms) (k : Ending) (l : Bytes) (f : Frame) (w : Shared)
       → LoopsOk m (f .loops) → Passing m (length (f .loops)) (effectOf k) (f .next) → StepOk m (finish room m k l f w)
   unfolding finish effectOf withParam saveText
   finish-nested room offer l f w h e = record { lines = e; around = h }
@@ -112,6 +119,7 @@ module _ (m : Marks) where
   finish-nested room stop l f w h e = tt
   finish-nested room (write ch) l f w h e = writeTo-nested room ch l f w (record { lines = e; around = h })
   finish-nested room (layout ch) l f w h e = writeLayout-nested room ch (f .next) f w h e
+  finish-nested room (copy ch) l f w h e = record { lines = e; around = h }
   finish-nested room save l f w h e = both (StepOk m) (within (put (param f 1) (param f 2) (w .store))) _ _ (record { lines = e; around = h }) tt
   finish-nested room skip l f w h e = skipBy-nested _ f w (record { lines = e; around = h })
   finish-nested room (skipText b) l f w h e = skipIf-nested _ f w (record { lines = e; around = h })
@@ -122,7 +130,7 @@ module _ (m : Marks) where
   finish-nested room malformed l f w h e = absurd e
 
   -- a whole code line
-  pub carryOut-nested : (room : ℕ) (c : Bytes) (cs : List Bytes) (f : Frame) (w : Shared)
+  pub carryOut-nested : (room : Rooms) (c : Bytes) (cs : List Bytes) (f : Frame) (w : Shared)
       → LoopsOk m (f .loops) → wellNested m (length (f .loops)) (c ∷ cs) ≡ true → StepOk m (carryOut room m (parse m true c) (resumeAt f (f .loops) cs) w)
   unfolding carryOut finishBuilt effect resumeAt
   carryOut-nested room c cs f w h e = by (build m (resumeAt f (f .loops) cs) (parse m true c .parts) [] w)
@@ -154,6 +162,12 @@ module _ (m : Marks) where
   skipIn-nested n (f ∷ fs) w s h = skipFrom-nested f fs w s (λ k. skipIn m k fs w s) (passOver m n 0 (f .next)) h
       (passOver-nested m n 0 (length (f .loops)) (f .next) (rw zero-add (h .0 .lines))) (λ k. skipIn-nested k fs w s (h .1))
 
+  -- input lines copied
+  pub copyInput-nested : (room : Rooms) (ch : Channel) (name : Bytes) (s : State) → FramesOk m (s .frames) → NextOk m (copyInput m room ch name s)
+  unfolding pastLine stateWith
+  copyInput-nested room ch name s h =
+      input-copied m room ch (λ x. FramesOk m (x .frames)) (NextOk m) (λ x k. k) (λ x k. k) (λ x k. k) (λ l ls x e k. k) (λ c x w e k. k) name s h
+
   -- what a code line comes to
   pub stepped-nested : (fs : List Frame) (p : Step) (s : State) → StepOk m p → FramesOk m fs → NextOk m (stepped m fs p s)
   unfolding stepped stateWith
@@ -161,16 +175,17 @@ module _ (m : Marks) where
   stepped-nested fs (offers l f w) s h k = (h, k)
   stepped-nested fs (skips n f w) s h k = skipIn-nested n (f ∷ fs) w s (h, k)
   stepped-nested fs (leaves w) s h k = k
+  stepped-nested fs (copies room ch f w) s h k = copyInput-nested room ch _ (stateWith s none (f ∷ fs) w) (h, k)
   stepped-nested fs (halts j w) s h k = k
 
   -- a code line begun
-  pub beginAt-nested : (room : ℕ) (f : Frame) (fs : List Frame) (s : State) (cs : List Bytes) → f .next ≡ cs → FramesOk m (f ∷ fs) → FramesOk m (s .frames) → NextOk m (beginAt room m f fs s cs)
+  pub beginAt-nested : (room : Rooms) (f : Frame) (fs : List Frame) (s : State) (cs : List Bytes) → f .next ≡ cs → FramesOk m (f ∷ fs) → FramesOk m (s .frames) → NextOk m (beginAt room m f fs s cs)
   unfolding beginAt
   beginAt-nested room f fs s [] e h k = k
   beginAt-nested room f fs s (c ∷ cs) e h k = stepped-nested fs _ s (carryOut-nested m room c cs f (s .shared) (h .0 .around) (rw e at (h .0 .lines))) (h .1)
 
   -- the innermost call's next code line
-  pub beginLine-nested : (room : ℕ) (fs : List Frame) (s : State) → FramesOk m fs → FramesOk m (s .frames) → NextOk m (beginLine room m fs s)
+  pub beginLine-nested : (room : Rooms) (fs : List Frame) (s : State) → FramesOk m fs → FramesOk m (s .frames) → NextOk m (beginLine room m fs s)
   unfolding beginLine
   beginLine-nested room [] s h k = k
   beginLine-nested room (f ∷ fs) s h k = beginAt-nested room f fs s (f .next) refl h k
@@ -217,11 +232,15 @@ module _ (m : Marks) where
   unfolding ready
   ready-nested s h = readyFor-nested s (s .pending) h
 
-module _ (room : ℕ) (t : Loaded) (g : BodiesOk (t .marks) (t .macros)) where
+module _ (room : Rooms) (t : Loaded) (g : BodiesOk (t .marks) (t .macros)) where
   -- a line offered: a new call has its macro's body
   pub offeredAs-nested : (l : Bytes) (s : State) (o : Option Reading) → FramesOk (t .marks) (s .frames) → NextOk (t .marks) (offeredAs room t l s o)
-  unfolding offeredAs passThrough call stateWith
-  offeredAs-nested l s none h = both (NextOk (t .marks)) (leb (length (s .shared .output) + length l + 1) room) _ _ h h
+  unfolding offeredAs passThrough passed call stateWith
+  offeredAs-nested l s none h = by (wrote room First l (s .shared))
+    where
+      by : (o : Option Shared) → NextOk (t .marks) (passed s o)
+      by none = h
+      by (some v) = h
   offeredAs-nested l s (some r) h = both (NextOk (t .marks)) (leb 12 (length (s .frames))) _ _ h (record { lines = all-at (t .marks) (t .macros) _ g; around = tt }, h)
 
   -- an event, with a line pending or none
@@ -249,7 +268,7 @@ module _ (room : ℕ) (t : Loaded) (g : BodiesOk (t .marks) (t .macros)) where
       by (running s′) h ih = ih (event room t s′) (event-nested s′ h)
 
 -- at every event of a run of a text that loads, every open call is well nested
-pub run-nested : (text : Bytes) (t : Loaded) (n room : ℕ) → load text ≡ loaded t → NextOk (t .marks) (after n room t (running (initial t)))
+pub run-nested : (text : Bytes) (t : Loaded) (n : ℕ) (room : Rooms) → load text ≡ loaded t → NextOk (t .marks) (after n room t (running (initial t)))
 unfolding initial
 run-nested text t n room e = after-nested room t (load-nested text t e) n (running (initial t)) tt
 
@@ -260,7 +279,7 @@ frames-few m (g ∷ gs) h zero f k = nested-loops m g (h .0)
 frames-few m (g ∷ gs) h (suc i) f k = frames-few m gs (h .1) i f k
 
 -- the innermost call of a run, just before an event
-pub run-nested-here : (text : Bytes) (t : Loaded) (n room : ℕ) (s : State) (f : Frame) (fs : List Frame) → load text ≡ loaded t
+pub run-nested-here : (text : Bytes) (t : Loaded) (n : ℕ) (room : Rooms) (s : State) (f : Frame) (fs : List Frame) → load text ≡ loaded t
     → after n room t (running (initial t)) ≡ running s → s .frames ≡ f ∷ fs → Nested (t .marks) f × (length (f .loops) ≤ 4)
 run-nested-here text t n room s f fs e a h =
     let all : FramesOk (t .marks) (s .frames) = subst (NextOk (t .marks)) a (run-nested text t n room e) in

@@ -12,13 +12,16 @@ use lib.Dec.{eqb, leb, ltb}
 use lib.ListN.{length, getD, drop, drop-of-length-le, length-drop}
 use lib.Seq.{drop-length, drop-drop}
 use Rattle.model.specs.declared.Marks.{Marks}
+use Rattle.model.specs.declared.Channel.{Channel}
+use Rattle.model.specs.declared.Channel.the-variants.{First}
 use Rattle.model.specs.Text.{Bytes, has, startsWith, upTo, ontoFirst, lines, marksOf}
 use Rattle.model.specs.Reading.{Reading, chosen}
 use Rattle.model.specs.Load.{templates, Macro, bodyOf, Progress, Seen, fault, more, sectionEnds, templateFault, unless, templateLine, codeLine, endLine, lineSeen, Loaded, Load, refused, loaded, loadOn, loadFrom, noneRead, loadLines, load}
-use Rattle.model.specs.Machine.{Frame, Shared, Step, continues, offers, skips, leaves, halts, State, Next, running, ended, stateWith, Passed, landed, beyond, badLanding, passOver, skipFrom, skipIn, call, passThrough, offeredAs, offered, stepped, unfinished, measured, readInput, readyIn, readyFor, ready, beginAt, beginLine, counted, eventFor, event, follow, after, initial}
+use Rattle.model.specs.Machine.{Rooms, Frame, Shared, Step, continues, offers, skips, leaves, halts, State, Next, running, ended, stateWith, Passed, landed, beyond, badLanding, passOver, skipFrom, skipIn, call, passThrough, offeredAs, offered, stepped, unfinished, measured, readInput, readyIn, readyFor, ready, beginAt, beginLine, counted, eventFor, event, follow, after, initial, copies, wrote, passed, pastLine, copyInput}
 use Rattle.model.specs.Legal.{At, MacroAt, MacrosAt}
 use Rattle.model.proofs.Chosen.{Order, lower, level, upper, order}
 use Rattle.model.proofs.Choices.{both, split, or-false}
+use Rattle.model.proofs.Copying.{input-copied}
 
 -- ---- the statements
 
@@ -161,6 +164,13 @@ module _ (all : List Bytes) where
   skipIn-at m n [] w s h = at-drop all (s .line) n (s .input) h
   skipIn-at m n (f ∷ fs) w s h = skipFrom-at f fs w s (λ k. skipIn m k fs w s) (passOver m n 0 (f .next)) h (λ k. skipIn-at m k fs w s h)
 
+  -- input lines copied
+  copyInput-at : (m : Marks) (room : Rooms) (ch : Channel) (name : Bytes) (s : State) → At all (s .line) (s .input) → NextAt all (copyInput m room ch name s)
+  unfolding pastLine stateWith
+  copyInput-at m room ch name s h =
+      input-copied m room ch (λ x. At all (x .line) (x .input)) (NextAt all) (λ x k. k) (λ x k. k) (λ x k. k)
+      (λ l ls x e k. at-next all (x .line) l ls (subst (At all (x .line)) e k)) (λ c x w e k. k) name s h
+
   -- what a code line comes to
   stepped-at : (m : Marks) (fs : List Frame) (p : Step) (s : State) → At all (s .line) (s .input) → NextAt all (stepped m fs p s)
   unfolding stepped stateWith
@@ -168,34 +178,39 @@ module _ (all : List Bytes) where
   stepped-at m fs (offers l f w) s h = h
   stepped-at m fs (skips n f w) s h = skipIn-at m n (f ∷ fs) w s h
   stepped-at m fs (leaves w) s h = h
+  stepped-at m fs (copies room ch f w) s h = copyInput-at m room ch _ (stateWith s none (f ∷ fs) w) h
   stepped-at m fs (halts k w) s h = h
 
   -- a line offered, with its reading or none
-  offeredAs-at : (room : ℕ) (t : Loaded) (l : Bytes) (s : State) (o : Option Reading) → At all (s .line) (s .input) → NextAt all (offeredAs room t l s o)
-  unfolding offeredAs passThrough call stateWith
-  offeredAs-at room t l s none h = both (NextAt all) (leb (length (s .shared .output) + length l + 1) room) _ _ h h
+  offeredAs-at : (room : Rooms) (t : Loaded) (l : Bytes) (s : State) (o : Option Reading) → At all (s .line) (s .input) → NextAt all (offeredAs room t l s o)
+  unfolding offeredAs passThrough passed call stateWith
+  offeredAs-at room t l s none h = by (wrote room First l (s .shared))
+    where
+      by : (o : Option Shared) → NextAt all (passed s o)
+      by none = h
+      by (some v) = h
   offeredAs-at room t l s (some r) h = both (NextAt all) (leb 12 (length (s .frames))) _ _ h h
 
   -- a code line begun
-  beginAt-at : (room : ℕ) (m : Marks) (f : Frame) (fs : List Frame) (s : State) (cs : List Bytes) → At all (s .line) (s .input) → NextAt all (beginAt room m f fs s cs)
+  beginAt-at : (room : Rooms) (m : Marks) (f : Frame) (fs : List Frame) (s : State) (cs : List Bytes) → At all (s .line) (s .input) → NextAt all (beginAt room m f fs s cs)
   unfolding beginAt
   beginAt-at room m f fs s [] h = h
   beginAt-at room m f fs s (c ∷ cs) h = stepped-at m fs _ s h
 
   -- the innermost call's next code line
-  beginLine-at : (room : ℕ) (m : Marks) (fs : List Frame) (s : State) → At all (s .line) (s .input) → NextAt all (beginLine room m fs s)
+  beginLine-at : (room : Rooms) (m : Marks) (fs : List Frame) (s : State) → At all (s .line) (s .input) → NextAt all (beginLine room m fs s)
   unfolding beginLine
   beginLine-at room m [] s h = h
   beginLine-at room m (f ∷ fs) s h = beginAt-at room m f fs s (f .next) h
 
   -- an event, with a line pending or none
-  eventFor-at : (room : ℕ) (t : Loaded) (s : State) (p : Option Bytes) → At all (s .line) (s .input) → NextAt all (eventFor room t s p)
+  eventFor-at : (room : Rooms) (t : Loaded) (s : State) (p : Option Bytes) → At all (s .line) (s .input) → NextAt all (eventFor room t s p)
   unfolding eventFor offered counted
   eventFor-at room t s (some l) h = offeredAs-at room t l (counted s) (chosen (t .marks) (templates (t .macros)) l) h
   eventFor-at room t s none h = beginLine-at room (t .marks) (s .frames) (counted s) h
 
   -- an event
-  event-at : (room : ℕ) (t : Loaded) (s : State) → At all (s .line) (s .input) → NextAt all (event room t s)
+  event-at : (room : Rooms) (t : Loaded) (s : State) → At all (s .line) (s .input) → NextAt all (event room t s)
   unfolding event
   event-at room t s h = eventFor-at room t s (s .pending) h
 
@@ -229,7 +244,7 @@ module _ (all : List Bytes) where
   ready-at m s h = readyFor-at m s (s .pending) h
 
   -- any number of events
-  pub after-at : (n room : ℕ) (t : Loaded) (x : Next) → NextAt all x → NextAt all (after n room t x)
+  pub after-at : (n : ℕ) (room : Rooms) (t : Loaded) (x : Next) → NextAt all x → NextAt all (after n room t x)
   unfolding after follow
   after-at zero room t (ended k s) h = h
   after-at zero room t (running s) h = ready-at (t .marks) s h
@@ -247,12 +262,12 @@ pub load-at : (text : Bytes) (t : Loaded) → load text ≡ loaded t → MacrosA
 load-at text t e = subst (LoadAt (lines text)) e (load-all-at text)
 
 -- at every event of a run, and at its end, the input left is the lines after the last one read
-pub run-at : (text : Bytes) (t : Loaded) (n room : ℕ) → load text ≡ loaded t → NextAt (lines text) (after n room t (running (initial t)))
+pub run-at : (text : Bytes) (t : Loaded) (n : ℕ) (room : Rooms) → load text ≡ loaded t → NextAt (lines text) (after n room t (running (initial t)))
 unfolding initial
 run-at text t n room e = after-at (lines text) n room t (running (initial t)) (load-at text t e .1)
 
 -- just before an event
-pub running-at : (text : Bytes) (t : Loaded) → load text ≡ loaded t → (n room : ℕ) (s : State)
+pub running-at : (text : Bytes) (t : Loaded) → load text ≡ loaded t → (n : ℕ) (room : Rooms) (s : State)
     → after n room t (running (initial t)) ≡ running s → At (lines text) (s .line) (s .input)
 running-at text t e n room s h = subst (NextAt (lines text)) h (run-at text t n room e)
 

@@ -24,9 +24,12 @@ pub mod Places
 pub mod FirstReading
 -- The starred examples.
 pub mod Starred
--- Conversions and their digits.
+-- Conversions and channels, and their digits.
 pub mod Conversions
+pub mod Channels
 -- Laws of the machine.
+pub mod Copying
+pub mod Copies
 pub mod Fuel
 pub mod Steps
 pub mod Events

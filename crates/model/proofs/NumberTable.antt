@@ -9,6 +9,8 @@ use lib.Dec.{eqb, leb, ltb}
 use lib.ListN.{length, drop}
 use lib.IntN.{ℤ, pos, negsuc}
 use Rattle.model.specs.declared.Marks.{Marks}
+use Rattle.model.specs.declared.Channel.{Channel}
+use Rattle.model.specs.declared.Channel.the-variants.{First}
 use Rattle.model.specs.declared.Checked.{Checked}
 use Rattle.model.specs.declared.Fitted.{Fitted}
 use Rattle.model.specs.declared.Comparison.{Comparison}
@@ -16,19 +18,20 @@ use Rattle.model.specs.declared.Conversion.{Conversion}
 use Rattle.model.specs.declared.Conversion.the-variants.{Itself, StoredText, Symbol, LatestDelimiter, ExpressionValue, Length, CodePoint}
 use Rattle.model.specs.Text.{Bytes, has, startsWith, upTo, lines, marksOf}
 use Rattle.model.specs.Reading.{Reading, chosen}
-use Rattle.model.specs.Code.{Code, Part, Ending, byte, serial, convert, offer, assign, iterate, stop, write, layout, save, skip, skipText, skipValue, repeat, again, leave, malformed}
+use Rattle.model.specs.Code.{Code, Part, Ending, byte, serial, convert, offer, assign, iterate, stop, write, layout, copy, save, skip, skipText, skipValue, repeat, again, leave, malformed}
 use Rattle.model.specs.Store.{put, within, decimal}
 use Rattle.model.specs.Load.{templates, Progress, Seen, fault, more, sectionEnds, lowest, templateFault, unless, templateLine, codeLine, endLine, lineSeen}
 use Rattle.model.specs.Load.{Loaded, Load, refused, loaded, lowestAt, loadOn, loadFrom, noneRead, loadLines, load}
-use Rattle.model.specs.Machine.{Loop, byPieces, byCount, Frame, Shared, Step, continues, offers, skips, leaves, halts}
+use Rattle.model.specs.Machine.{Rooms, Loop, byPieces, byCount, Frame, Shared, Step, continues, offers, skips, leaves, copies, halts}
 use Rattle.model.specs.Machine.{Building, built, failed, add, addSymbol, addValue, addLength, addCodePoint, addConverted, addPart, build}
-use Rattle.model.specs.Machine.{Piece, takePass, nextPass, endPass, startRepeat, output, writeTo, writeLayout, saveText, skipBy, skipIf, skipCompared, finish, finishBuilt, carryOut}
-use Rattle.model.specs.Machine.{State, Next, running, ended, Passed, landed, beyond, badLanding, passOver, skipFrom, skipIn, call, passThrough, offeredAs, offered, stepped, unfinished}
+use Rattle.model.specs.Machine.{Piece, takePass, nextPass, endPass, startRepeat, wrote, goesWritten, writeTo, writeLayout, saveText, skipBy, skipIf, skipCompared, finish, finishBuilt, carryOut}
+use Rattle.model.specs.Machine.{State, Next, running, ended, Passed, landed, beyond, badLanding, passOver, skipFrom, skipIn, call, passed, passThrough, copyInput, offeredAs, offered, stepped, unfinished}
 use Rattle.model.specs.Machine.{measured, readInput, readyIn, readyFor, ready, beginAt, beginLine, counted, eventFor, event, follow, after, initial, Result, resultOf, outcome, run}
 use Rattle.model.specs.Places.{placesTaken}
 use Rattle.model.specs.Results.{shortRow, shortDead, checkedAs, checkText, noPieces, fittedAs, fittedIn, fitLine, illegal, runText}
 use Rattle.model.specs.NumberTable.{loadNumbers, endNumbers, begunNumbers, checkNumbers, fitNumbers, runNumbers}
 use Rattle.model.proofs.Choices.{false-not-true, both}
+use Rattle.model.proofs.Copying.{input-copied}
 use Rattle.model.proofs.Text.{has-more}
 
 -- ---- lists of numbers
@@ -193,6 +196,7 @@ StepNumbered (continues f w) = Unit {0}
 StepNumbered (offers l f w) = Unit {0}
 StepNumbered (skips n f w) = Unit {0}
 StepNumbered (leaves w) = Unit {0}
+StepNumbered (copies room ch f w) = Unit {0}
 StepNumbered (halts k w) = has k endNumbers ≡ true
 
 -- a pass: 21 without a list, 17 with one
@@ -225,12 +229,16 @@ startRepeat-numbered m (some (pos (suc n))) f w = tt
 startRepeat-numbered m (some (negsuc n)) f w = tt
 
 -- a line written to a channel: 13
-writeTo-numbered : (room ch : ℕ) (l : Bytes) (f : Frame) (w : Shared) → StepNumbered (writeTo room ch l f w)
-unfolding writeTo output has
-writeTo-numbered room ch l f w = both StepNumbered (eqb ch 0) _ _ tt (both StepNumbered (leb (length (w .output) + length l + 1) room) _ _ tt refl)
+writeTo-numbered : (room : Rooms) (ch : Channel) (l : Bytes) (f : Frame) (w : Shared) → StepNumbered (writeTo room ch l f w)
+unfolding writeTo goesWritten has
+writeTo-numbered room ch l f w = by (wrote room ch l w)
+  where
+    by : (o : Option Shared) → StepNumbered (goesWritten f w o)
+    by none = refl
+    by (some v) = tt
 
 -- a layout written
-writeLayout-numbered : (room : ℕ) (m : Marks) (ch : ℕ) (cs : List Bytes) (f : Frame) (w : Shared) → StepNumbered (writeLayout room m ch cs f w)
+writeLayout-numbered : (room : Rooms) (m : Marks) (ch : Channel) (cs : List Bytes) (f : Frame) (w : Shared) → StepNumbered (writeLayout room m ch cs f w)
 unfolding writeLayout
 writeLayout-numbered room m ch [] f w = tt
 writeLayout-numbered room m ch (c ∷ cs) f w = writeTo-numbered room ch _ _ w
@@ -260,7 +268,7 @@ skipCompared-numbered m o (some a) none f w = refl
 skipCompared-numbered m o (some a) (some b) f w = skipIf-numbered m _ f w
 
 -- what is done at a code line's end; F0 gives 0
-finish-numbered : (room : ℕ) (m : Marks) (k : Ending) (l : Bytes) (f : Frame) (w : Shared) → StepNumbered (finish room m k l f w)
+finish-numbered : (room : Rooms) (m : Marks) (k : Ending) (l : Bytes) (f : Frame) (w : Shared) → StepNumbered (finish room m k l f w)
 unfolding finish has
 finish-numbered room m offer l f w = tt
 finish-numbered room m (assign d) l f w = tt
@@ -268,6 +276,7 @@ finish-numbered room m (iterate d ds) l f w = takePass-numbered d _ ds _ _ _ f w
 finish-numbered room m stop l f w = refl
 finish-numbered room m (write ch) l f w = writeTo-numbered room ch l f w
 finish-numbered room m (layout ch) l f w = writeLayout-numbered room m ch _ f w
+finish-numbered room m (copy ch) l f w = tt
 finish-numbered room m save l f w = saveText-numbered _ _ f w
 finish-numbered room m skip l f w = skipBy-numbered _ f w
 finish-numbered room m (skipText b) l f w = skipIf-numbered m _ f w
@@ -278,7 +287,7 @@ finish-numbered room m leave l f w = tt
 finish-numbered room m malformed l f w = tt
 
 -- a whole code line
-carryOut-numbered : (room : ℕ) (m : Marks) (c : Code) (f : Frame) (w : Shared) → StepNumbered (carryOut room m c f w)
+carryOut-numbered : (room : Rooms) (m : Marks) (c : Code) (f : Frame) (w : Shared) → StepNumbered (carryOut room m c f w)
 unfolding carryOut finishBuilt
 carryOut-numbered room m c f w = then (build m f (c .parts) [] w) (build-numbered m f (c .parts) [] w)
   where
@@ -304,6 +313,11 @@ skipIn-numbered m n (f ∷ fs) w s = by (passOver m n 0 (f .next)) (λ k. skipIn
     by (beyond k) ih = ih k
     by badLanding ih = refl
 
+-- input lines copied: 11 and 13
+copyInput-numbered : (m : Marks) (room : Rooms) (ch : Channel) (name : Bytes) (s : State) → NextNumbered (copyInput m room ch name s)
+unfolding has
+copyInput-numbered m room ch name s = input-copied m room ch (λ x. Unit {0}) NextNumbered (λ x h. tt) (λ x h. refl) (λ x h. refl) (λ l ls x e h. tt) (λ c x w e h. tt) name s tt
+
 -- what a code line comes to
 stepped-numbered : (m : Marks) (fs : List Frame) (p : Step) (s : State) → StepNumbered p → NextNumbered (stepped m fs p s)
 unfolding stepped
@@ -311,28 +325,33 @@ stepped-numbered m fs (continues f w) s h = tt
 stepped-numbered m fs (offers l f w) s h = tt
 stepped-numbered m fs (skips n f w) s h = skipIn-numbered m n (f ∷ fs) w s
 stepped-numbered m fs (leaves w) s h = tt
+stepped-numbered m fs (copies room ch f w) s h = copyInput-numbered m room ch _ _
 stepped-numbered m fs (halts k w) s h = h
 
 -- a line offered: 13 and 14
-offeredAs-numbered : (room : ℕ) (t : Loaded) (l : Bytes) (s : State) (o : Option Reading) → NextNumbered (offeredAs room t l s o)
-unfolding offeredAs passThrough call has
-offeredAs-numbered room t l s none = both NextNumbered (leb (length (s .shared .output) + length l + 1) room) _ _ tt refl
+offeredAs-numbered : (room : Rooms) (t : Loaded) (l : Bytes) (s : State) (o : Option Reading) → NextNumbered (offeredAs room t l s o)
+unfolding offeredAs passThrough passed call has
+offeredAs-numbered room t l s none = by (wrote room First l (s .shared))
+  where
+    by : (o : Option Shared) → NextNumbered (passed s o)
+    by none = refl
+    by (some v) = tt
 offeredAs-numbered room t l s (some r) = both NextNumbered (leb 12 (length (s .frames))) _ _ refl tt
 
 -- a code line begun
-beginAt-numbered : (room : ℕ) (m : Marks) (f : Frame) (fs : List Frame) (s : State) (cs : List Bytes) → NextNumbered (beginAt room m f fs s cs)
+beginAt-numbered : (room : Rooms) (m : Marks) (f : Frame) (fs : List Frame) (s : State) (cs : List Bytes) → NextNumbered (beginAt room m f fs s cs)
 unfolding beginAt
 beginAt-numbered room m f fs s [] = tt
 beginAt-numbered room m f fs s (c ∷ cs) = stepped-numbered m fs _ s (carryOut-numbered room m _ _ (s .shared))
 
 -- the innermost call's next code line
-beginLine-numbered : (room : ℕ) (m : Marks) (fs : List Frame) (s : State) → NextNumbered (beginLine room m fs s)
+beginLine-numbered : (room : Rooms) (m : Marks) (fs : List Frame) (s : State) → NextNumbered (beginLine room m fs s)
 unfolding beginLine
 beginLine-numbered room m [] s = tt
 beginLine-numbered room m (f ∷ fs) s = beginAt-numbered room m f fs s (f .next)
 
 -- an event
-event-numbered : (room : ℕ) (t : Loaded) (s : State) → NextNumbered (event room t s)
+event-numbered : (room : Rooms) (t : Loaded) (s : State) → NextNumbered (event room t s)
 unfolding event eventFor offered
 event-numbered room t s = by (s .pending)
   where
@@ -364,7 +383,7 @@ ready-numbered m s = byPending (s .pending)
     byPending none = byFrames (unfinished (s .frames))
 
 -- any number of events
-after-numbered : (n room : ℕ) (t : Loaded) (x : Next) → NextNumbered x → NextNumbered (after n room t x)
+after-numbered : (n : ℕ) (room : Rooms) (t : Loaded) (x : Next) → NextNumbered x → NextNumbered (after n room t x)
 unfolding after follow
 after-numbered zero room t (ended k s) h = h
 after-numbered zero room t (running s) h = ready-numbered (t .marks) s
@@ -407,12 +426,12 @@ fit-numbered rows dead text line = both (λ (f : Fitted). has (f .number) fitNum
         both (λ (f : Fitted). has (f .number) fitNumbers ≡ true) (ltb 200 (length line)) _ _ refl (byReading t (chosen (t .marks) ts line) (placesTaken (t .marks) ts line))
 
 -- no expansion ends with 20
-pub ended-unspent : (n room : ℕ) (t : Loaded) (k : ℕ) (s : State) → after n room t (running (initial t)) ≡ ended k s → ¬ (k ≡ 20)
+pub ended-unspent : (n : ℕ) (room : Rooms) (t : Loaded) (k : ℕ) (s : State) → after n room t (running (initial t)) ≡ ended k s → ¬ (k ≡ 20)
 unfolding has
 ended-unspent n room t k s e d = false-not-true (subst (λ j. has j endNumbers ≡ true) d (subst NextNumbered e (after-numbered n room t (running (initial t)) tt)))
 
 -- a run of a text that loads: 0, 11 to 19 and 21, or 20 where it is spent
-pub begun-numbered : (fuel room : ℕ) (t : Loaded) → has (run fuel room (loaded t) .number) begunNumbers ≡ true
+pub begun-numbered : (fuel : ℕ) (room : Rooms) (t : Loaded) → has (run fuel room (loaded t) .number) begunNumbers ≡ true
 unfolding run outcome resultOf has
 begun-numbered fuel room t = by (after fuel room t (running (initial t))) (after-numbered fuel room t (running (initial t)) tt)
   where
@@ -421,7 +440,7 @@ begun-numbered fuel room t = by (after fuel room t (running (initial t))) (after
     by (ended k s) h = has-more k 20 endNumbers h
 
 -- any run
-pub run-numbered : (fuel rows dead room store : ℕ) (text : Bytes) → has (runText fuel rows dead room store text .number) runNumbers ≡ true
+pub run-numbered : (fuel rows dead : ℕ) (room : Rooms) (store : ℕ) (text : Bytes) → has (runText fuel rows dead room store text .number) runNumbers ≡ true
 unfolding runText run has
 run-numbered fuel rows dead room store text = both (λ (x : Result). has (x .number) runNumbers ≡ true) (illegal fuel rows dead store) _ _ refl (by (load text) (load-numbered text))
   where

@@ -1,5 +1,5 @@
 -- Every state that the machine reaches is small: at most 12 open calls, each with nine parameters of at most 200 bytes and nine
--- delimiters of at most one; a pending line of at most 200 bytes; a store within its limits; output within its room.
+-- delimiters of at most one; a pending line of at most 200 bytes; a store within its limits; outputs within their rooms.
 -- The theorems, at the end: goes-small, ended-small.
 use mathlib.Core.Path.{_≡_, refl, ap, subst}
 use mathlib.Core.Bool.{Bool, true, false, _&&_}
@@ -12,21 +12,24 @@ use lib.Dec.{eqb, leb, ltb}
 use lib.ListN.{length, getD, set, replicate, length-append, length-set, length-replicate}
 use lib.IntN.{ℤ, pos, negsuc}
 use Rattle.model.specs.declared.Marks.{Marks}
+use Rattle.model.specs.declared.Channel.{Channel}
+use Rattle.model.specs.declared.Channel.the-variants.{Nowhere, First, Second}
 use Rattle.model.specs.Text.{Bytes, has, upTo, same}
 use Rattle.model.specs.Utf8.{Character, character}
 use Rattle.model.specs.Reading.{group, atom, Reading, Pieces, chosen}
-use Rattle.model.specs.Code.{Code, Part, Ending, byte, serial, convert, parse, offer, assign, iterate, stop, write, layout, save, skip, skipText, skipValue, repeat, again, leave, malformed}
+use Rattle.model.specs.Code.{Code, Part, Ending, byte, serial, convert, parse, offer, assign, iterate, stop, write, layout, copy, save, skip, skipText, skipValue, repeat, again, leave, malformed}
 use Rattle.model.specs.declared.Conversion.{Conversion}
 use Rattle.model.specs.declared.Conversion.the-variants.{Itself, StoredText, Symbol, LatestDelimiter, ExpressionValue, Length, CodePoint}
 use Rattle.model.specs.declared.Comparison.{Comparison}
 use Rattle.model.specs.Store.{Store, find, put, size, within, decimal, digitsOf}
 use Rattle.model.specs.Value.{written}
 use Rattle.model.specs.Load.{templates, Macro, Loaded, loaded, load, count}
-use Rattle.model.specs.Machine.{Loop, byPieces, byCount, Frame, Shared, Step, continues, offers, skips, leaves, halts, param, withParam, resumeAt, withStore, Building, built, failed, add, addSymbol, addValue, addLength, addCodePoint, addConverted, addPart, build, Piece, longer, pieceOf, onePass, passOf, takePass, nextPass, endPass, startRepeat, output, writeTo, writeLayout, saveText, skipBy, skipIf, skipCompared, finish, finishBuilt, carryOut, State, Next, running, ended, stateWith, Passed, landed, beyond, badLanding, passOver, skipFrom, skipIn, padded, call, passThrough, offeredAs, offered, stepped, closed, unfinished, measured, readInput, readyIn, readyFor, ready, beginAt, beginLine, counted, eventFor, event, follow, after, initial}
+use Rattle.model.specs.Machine.{Rooms, Loop, byPieces, byCount, Frame, Shared, Step, continues, offers, skips, leaves, halts, param, withParam, resumeAt, withStore, Building, built, failed, add, addSymbol, addValue, addLength, addCodePoint, addConverted, addPart, build, Piece, longer, pieceOf, onePass, passOf, takePass, nextPass, endPass, startRepeat, writeTo, writeLayout, saveText, skipBy, skipIf, skipCompared, finish, finishBuilt, carryOut, State, Next, running, ended, stateWith, Passed, landed, beyond, badLanding, passOver, skipFrom, skipIn, padded, call, passThrough, offeredAs, offered, stepped, closed, unfinished, measured, readInput, readyIn, readyFor, ready, beginAt, beginLine, counted, eventFor, event, follow, after, initial, copies, appended, withFirst, withSecond, wrote, goesWritten, passed, pastLine, copyInput, noOutput}
 use Rattle.model.specs.Fitting.{Fits, end, literal, placeholder}
 use Rattle.model.specs.Sizes.{AllShort, FramesOk, LoopsSmall, FrameSmall, FramesSmall, EntriesShort, SharedSmall, PendingSmall, Small, LoopsFew}
 use Rattle.model.proofs.Chosen.{chosen-reads}
 use Rattle.model.proofs.Choices.{both, split, and-left, and-right}
+use Rattle.model.proofs.Copying.{input-copied}
 use Rattle.model.proofs.Utf8.{CharacterIs, character-is}
 use Rattle.model.proofs.Frames.{NextOk, nested-loops, run-nested}
 use Rattle.model.proofs.Loading.{load-legal}
@@ -34,7 +37,7 @@ use Rattle.model.proofs.Loading.{load-legal}
 -- ---- what small means
 
 -- a state that goes on, or has ended
-abbrev pub NextSmall : ℕ → Next → Type 0
+abbrev pub NextSmall : Rooms → Next → Type 0
 NextSmall room (running s) = Small room s × PendingSmall (s .pending)
 NextSmall room (ended k s) = Small room s
 
@@ -205,11 +208,11 @@ decimal-short n = omega (arith, digits-short 20 n)
 -- ---- the built line
 
 -- the built line has at most 200 bytes
-abbrev pub BuildingSmall : ℕ → Building → Type 0
+abbrev pub BuildingSmall : Rooms → Building → Type 0
 BuildingSmall room (built l v) = (length l ≤ 200) × SharedSmall room v
 BuildingSmall room (failed n v) = SharedSmall room v
 
-module _ (room n : ℕ) where
+module _ (room : Rooms) (n : ℕ) where
   -- the store after another text is put into it
   pub stored-small : (name text : Bytes) (w : Shared) (k : ℕ) → length name ≤ 200 → length text ≤ 200 → k ≤ length (put name text (w .store))
       → within (put name text (w .store)) ≡ true → SharedSmall room w → SharedSmall room (record { symbols = k; store = put name text (w .store); output = w .output })
@@ -221,7 +224,8 @@ module _ (room n : ℕ) where
         bytes = leb-true (size st) 8192 (and-right (leb (length st) 256) (leb (size st) 8192) e);
         entries = put-short name text (w .store) nl tl (h .entries);
         symbols = kl;
-        output = h .output;
+        first = h .first;
+        second = h .second;
       }
 
   -- adding bytes
@@ -297,15 +301,21 @@ module _ (room n : ℕ) where
 
 -- ---- carrying out a code line
 
+-- a line written, or none
+abbrev pub WroteSmall : Rooms → Option Shared → Type 0
+WroteSmall room none = Unit {0}
+WroteSmall room (some v) = SharedSmall room v
+
 -- what a code line comes to is small
-abbrev pub StepSmall : ℕ → ℕ → Step → Type 0
+abbrev pub StepSmall : Rooms → ℕ → Step → Type 0
 StepSmall room n (continues f w) = FrameSmall n f × SharedSmall room w
 StepSmall room n (offers l f w) = FrameSmall n f × SharedSmall room w × (length l ≤ 200)
 StepSmall room n (skips k f w) = FrameSmall n f × SharedSmall room w
 StepSmall room n (leaves w) = SharedSmall room w
+StepSmall room n (copies r ch f w) = (r ≡ room) × FrameSmall n f × SharedSmall room w
 StepSmall room n (halts k w) = SharedSmall room w
 
-module _ (room n : ℕ) where
+module _ (room : Rooms) (n : ℕ) where
   -- other code lines, and other iterations that are small
   pub resumeAt-small : (f : Frame) (ls : List Loop) (cs : List Bytes) → FrameSmall n f → LoopsSmall ls → FrameSmall n (resumeAt f ls cs)
   unfolding resumeAt
@@ -363,21 +373,28 @@ module _ (room n : ℕ) where
   startRepeat-small m (some (pos (suc k))) f w g h = (resumeAt-small f (byCount k (f .next) ∷ f .loops) (f .next) g (g .loops), h)
   startRepeat-small m (some (negsuc k)) f w g h = (resumeAt-small f (f .loops) _ g (g .loops), h)
 
-  -- a line and its byte 10 that find room
-  pub written-small : (l : Bytes) (w : Shared) → leb (length (w .output) + length l + 1) room ≡ true → SharedSmall room w
-      → SharedSmall room (record { symbols = w .symbols; store = w .store; output = w .output ++ (l ++ (10 ∷ [])) })
-  written-small l w e h =
-      let k : length (w .output) + length l + 1 ≤ room = leb-true _ room e in
-      record { names = h .names; bytes = h .bytes; entries = h .entries; symbols = h .symbols; output = simp length-append (omega arith) }
+  -- a line written to a channel, or none
+  pub wrote-small : (ch : Channel) (l : Bytes) (w : Shared) → SharedSmall room w → WroteSmall room (wrote room ch l w)
+  unfolding wrote appended withFirst withSecond
+  wrote-small Nowhere l w h = h
+  wrote-small First l w h = split (λ (o : Option Bytes). WroteSmall room (withFirst w o)) (leb (length (w .output .first) + length l + 1) (room .first)) _ none
+      (λ e. let k = leb-true (length (w .output .first) + length l + 1) (room .first) e in
+      record { names = h .names; bytes = h .bytes; entries = h .entries; symbols = h .symbols; first = simp length-append (omega arith); second = h .second }) (λ e. tt)
+  wrote-small Second l w h = split (λ (o : Option Bytes). WroteSmall room (withSecond w o)) (leb (length (w .output .second) + length l + 1) (room .second)) _ none
+      (λ e. let k = leb-true (length (w .output .second) + length l + 1) (room .second) e in
+      record { names = h .names; bytes = h .bytes; entries = h .entries; symbols = h .symbols; first = h .first; second = simp length-append (omega arith) }) (λ e. tt)
 
-  -- a line written to a channel
-  pub writeTo-small : (ch : ℕ) (l : Bytes) (f : Frame) (w : Shared) → FrameSmall n f → SharedSmall room w → StepSmall room n (writeTo room ch l f w)
-  unfolding writeTo output
-  writeTo-small ch l f w g h =
-      both (StepSmall room n) (eqb ch 0) _ _ (g, h) (split (StepSmall room n) (leb (length (w .output) + length l + 1) room) _ _ (λ e. (g, written-small l w e h)) (λ e. h))
+  -- F1
+  pub writeTo-small : (ch : Channel) (l : Bytes) (f : Frame) (w : Shared) → FrameSmall n f → SharedSmall room w → StepSmall room n (writeTo room ch l f w)
+  unfolding writeTo goesWritten
+  writeTo-small ch l f w g h = by (wrote room ch l w) (wrote-small ch l w h)
+    where
+      by : (o : Option Shared) → WroteSmall room o → StepSmall room n (goesWritten f w o)
+      by none k = h
+      by (some v) k = (g, k)
 
   -- a layout written
-  pub writeLayout-small : (m : Marks) (ch : ℕ) (cs : List Bytes) (f : Frame) (w : Shared) → FrameSmall n f → SharedSmall room w → StepSmall room n (writeLayout room m ch cs f w)
+  pub writeLayout-small : (m : Marks) (ch : Channel) (cs : List Bytes) (f : Frame) (w : Shared) → FrameSmall n f → SharedSmall room w → StepSmall room n (writeLayout room m ch cs f w)
   unfolding writeLayout
   writeLayout-small m ch [] f w g h = (g, h)
   writeLayout-small m ch (c ∷ cs) f w g h = writeTo-small ch _ (resumeAt f (f .loops) cs) w (resumeAt-small f (f .loops) cs g (g .loops)) h
@@ -416,6 +433,7 @@ module _ (room n : ℕ) where
   finish-small m stop l f w e g h = h
   finish-small m (write ch) l f w e g h = writeTo-small ch l f w g h
   finish-small m (layout ch) l f w e g h = writeLayout-small m ch (f .next) f w g h
+  finish-small m (copy ch) l f w e g h = (refl, g, h)
   finish-small m save l f w e g h = saveText-small (param f 1) (param f 2) f w (param-short room n f 1 g) (param-short room n f 2 g) g h
   finish-small m skip l f w e g h = skipBy-small _ f w g h
   finish-small m (skipText b) l f w e g h = skipIf-small m _ f w g h
@@ -451,7 +469,7 @@ frames-more n (f ∷ fs) h = (
   frames-more n fs (h .1),
 )
 
-module _ (room : ℕ) where
+module _ (room : Rooms) where
   -- a state made of small parts
   pub stateWith-small : (s : State) (p : Option Bytes) (fs : List Frame) (w : Shared)
       → SharedSmall room w → FramesSmall (s .calls) fs → length fs ≤ 12 → s .calls ≤ s .events → Small room (stateWith s p fs w)
@@ -474,6 +492,14 @@ module _ (room : ℕ) where
   skipIn-small m k (f ∷ fs) w s h g l c =
       skipFrom-small f fs w s (λ k. skipIn m k fs w s) (passOver m k 0 (f .next)) h g l c (λ k. skipIn-small m k fs w s h (g .1) (omega arith) c)
 
+  -- input lines copied
+  pub copyInput-small : (m : Marks) (ch : Channel) (name : Bytes) (s : State) → Small room s → PendingSmall (s .pending) → NextSmall room (copyInput m room ch name s)
+  unfolding pastLine stateWith
+  copyInput-small m ch name s h p =
+      input-copied m room ch (λ x. Small room x × PendingSmall (x .pending)) (NextSmall room) (λ x k. k) (λ x k. k .0) (λ x k. k .0)
+      (λ l ls x e k. (record { shared = k .0 .shared; frames = k .0 .frames; few = k .0 .few; calls = k .0 .calls }, tt))
+      (λ c x w e k. (record { shared = subst (WroteSmall room) e (wrote-small room 0 ch c (x .shared) (k .0 .shared)); frames = k .0 .frames; few = k .0 .few; calls = k .0 .calls }, tt)) name s (h, p)
+
   -- what a code line comes to
   pub stepped-small : (m : Marks) (fs : List Frame) (p : Step) (s : State)
       → StepSmall room (s .calls) p → FramesSmall (s .calls) fs → suc (length fs) ≤ 12 → s .calls ≤ s .events → NextSmall room (stepped m fs p s)
@@ -482,13 +508,18 @@ module _ (room : ℕ) where
   stepped-small m fs (offers k f w) s h g l c = (stateWith-small s (some k) (f ∷ fs) w (h .1) (h .0, g) l c, h .2)
   stepped-small m fs (skips k f w) s h g l c = skipIn-small m k (f ∷ fs) w s (h .1) (h .0, g) l c
   stepped-small m fs (leaves w) s h g l c = (stateWith-small s none fs w h g (omega arith) c, tt)
+  stepped-small m fs (copies r ch f w) s h g l c =
+      rw (h .0) (copyInput-small m ch (param f 1) (stateWith s none (f ∷ fs) w) (stateWith-small s none (f ∷ fs) w (h .2) (h .1, g) l c) tt)
   stepped-small m fs (halts k w) s h g l c = stateWith-small s none fs w h g (omega arith) c
 
   -- a line without a reading, written
   pub passThrough-small : (l : Bytes) (s : State) → Small room s → NextSmall room (passThrough room l s)
-  unfolding passThrough stateWith
-  passThrough-small l s h = split (NextSmall room) (leb (length (s .shared .output) + length l + 1) room) _ _
-      (λ e. (record { shared = written-small room 0 l (s .shared) e (h .shared); frames = h .frames; few = h .few; calls = h .calls }, tt)) (λ e. h)
+  unfolding passThrough passed stateWith
+  passThrough-small l s h = by (wrote room First l (s .shared)) (wrote-small room 0 First l (s .shared) (h .shared))
+    where
+      by : (o : Option Shared) → WroteSmall room o → NextSmall room (passed s o)
+      by none k = h
+      by (some v) k = (record { shared = k; frames = h .frames; few = h .few; calls = h .calls }, tt)
 
   -- a call: at most nine pieces, each short, and fewer than twelve calls open
   pub call-small : (x : Macro) (ps : List Bytes) (s : State) → AllShort 200 ps → length ps ≤ 9 → s .calls < s .events → Small room s → NextSmall room (call x ps s)
@@ -574,7 +605,7 @@ module _ (room : ℕ) where
   ready-small m s h = readyFor-small m s (s .pending) refl h
 
 -- a text whose templates have at most nine placeholders
-module _ (room : ℕ) (t : Loaded) (nine : (i : ℕ) → count (t .marks .placeholder) (getD (templates (t .macros)) i []) ≤ 9) where
+module _ (room : Rooms) (t : Loaded) (nine : (i : ℕ) → count (t .marks .placeholder) (getD (templates (t .macros)) i []) ≤ 9) where
   -- a line offered: the chosen reading's pieces are few and short
   pub offeredAs-small : (l : Bytes) (s : State) (o : Option Reading) → chosen (t .marks) (templates (t .macros)) l ≡ o → length l ≤ 200 → s .calls < s .events → Small room s
       → NextSmall room (offeredAs room t l s o)
@@ -613,10 +644,10 @@ module _ (room : ℕ) (t : Loaded) (nine : (i : ℕ) → count (t .marks .placeh
 
   -- the first state
   pub first-small : NextSmall room (running (initial t))
-  unfolding initial size
+  unfolding initial size noOutput
   first-small = (
     record {
-      shared = record { names = omega arith; bytes = omega arith; entries = tt; symbols = omega arith; output = omega arith };
+      shared = record { names = omega arith; bytes = omega arith; entries = tt; symbols = omega arith; first = omega arith; second = omega arith };
       frames = tt;
       few = omega arith;
       calls = omega arith;
@@ -631,7 +662,7 @@ pub loops-few : (m : Marks) (fs : List Frame) → FramesOk m fs → LoopsFew fs
 loops-few m [] h = tt
 loops-few m (f ∷ fs) h = (nested-loops m f (h .0), loops-few m fs (h .1))
 
-module _ (text : Bytes) (t : Loaded) (e : load text ≡ loaded t) (n room : ℕ) where
+module _ (text : Bytes) (t : Loaded) (e : load text ≡ loaded t) (n : ℕ) (room : Rooms) where
   -- every state of a run
   pub run-small : NextSmall room (after n room t (running (initial t)))
   run-small = after-small room t (load-legal text t e .1 .nine) n (running (initial t)) (first-small room t (load-legal text t e .1 .nine))

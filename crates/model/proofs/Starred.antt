@@ -1,23 +1,26 @@
--- Document 01's starred examples ("Fitting a line", "Values") with those of document 02's tickets 1 to 3, one list, computed against the definitions in one proof.
+-- Document 01's starred examples ("Fitting a line", "Values") with those of document 02's tickets 1 to 3, one list, computed against the definitions in one proof; and examples of ticket 4's copies.
 use mathlib.Core.Path.{_≡_, refl}
 use mathlib.Core.Option.{Option, none, some}
 use mathlib.Core.List.{List, [], _∷_, _++_, map}
-use Prim.Native.Nat.{ℕ}
+use Prim.Native.Nat.{ℕ, _-_}
 use Prim.Native.Char.{code}
 use Prim.Native.String as S
 use Prim.Native.String.{String}
 use lib.IntN.{ℤ, pos, negsuc}
-use lib.ListN.{getD, replicate}
+use lib.ListN.{length, getD, replicate}
 use Rattle.model.specs.declared.Marks.{Marks}
+use Rattle.model.specs.declared.Channel.{Channel}
+use Rattle.model.specs.declared.Channel.the-variants.{Nowhere, First, Second}
 use Rattle.model.specs.declared.Conversion.{Conversion}
 use Rattle.model.specs.declared.Conversion.the-variants.{Length, CodePoint}
-use Rattle.model.specs.Text.{Bytes, isDigit, has, same}
+use Rattle.model.specs.Text.{Bytes, isDigit, has, same, upTo}
 use Rattle.model.specs.Utf8.{pointsFault, isTail, ofTwo, character, ontoPoints, pointsFrom, points}
 use Rattle.model.specs.Reading.{group, atom, Reading, chosen, balancedFrom, balanced, cuts, withPiece, withLiteral, readings, rank, less, asReadings, allReadings, leastOf, least}
 use Rattle.model.specs.Parts.{elems}
 use Rattle.model.specs.Store.{find, decimal, digitsOf}
 use Rattle.model.specs.Value.{valueFault, valueOf, checked, quotient, divided, andThen, giving, number, isMark, nameOf, allDigits, isStoredNumber, storedNumber, ofStored, closing, expression, sum, product, factors, operand, whole}
-use Rattle.model.specs.Machine.{Frame, param, Building, built, failed, add, addLength, addCodePoint, addConverted, Piece, onePass, passOf, noPass}
+use Rattle.model.specs.Load.{begins}
+use Rattle.model.specs.Machine.{Rooms, rooms, appended, withFirst, withSecond, wrote, Next, running, ended, stateWith, pastLine, tooLong, copyLines, copyInput, Frame, param, Building, built, failed, add, addLength, addCodePoint, addConverted, Piece, onePass, passOf, noPass, noOutput}
 use Rattle.model.specs.Places.{isIn, tryPlace, sameElem, sameElems, numberFrom, addBeginnings, beginningsFrom, beginnings, beginningAt, childIn, endsInHole, holeyIn, together, fitting, placesTaken}
 
 -- the bytes of a quoted text, of characters of one byte
@@ -82,7 +85,7 @@ toldPiece (some p) = piece (p .piece) (p .rest)
 
 -- a conversion of a parameter, in a line with nothing before it
 abbrev converted : Conversion → Bytes → Told
-converted c s = toldLine (addConverted session (calling s) 1 c [] (record { symbols = 0; store = []; output = [] }))
+converted c s = toldLine (addConverted session (calling s) 1 c [] (record { symbols = 0; store = []; output = noOutput }))
 
 -- a pass without a list
 abbrev passed : Bytes → Told
@@ -145,3 +148,57 @@ examples =
 pub starred : map (λ e. e .0) examples ≡ map (λ e. e .1) examples
 unfolding group atom elems isIn tryPlace sameElem sameElems numberFrom addBeginnings beginningsFrom beginnings beginningAt childIn endsInHole holeyIn together fitting placesTaken bytes isDigit has same find chosen balancedFrom balanced cuts withPiece withLiteral readings rank less asReadings allReadings leastOf least valueOf checked quotient divided andThen giving number isMark nameOf allDigits isStoredNumber storedNumber ofStored closing expression sum product factors operand whole isTail ofTwo character ontoPoints pointsFrom points digitsOf decimal param add addLength addCodePoint addConverted onePass passOf
 starred = refl
+
+-- ---- copies (document 02, ticket 4)
+
+-- what a copy comes to: the call goes on, or a number ends the run; both outputs, the last input line read, how many are left, the events
+pub data Copy : Type 0 where
+  copied : (number : Option ℕ) (first second : Bytes) (line left events : ℕ) → Copy
+
+abbrev toldCopy : Next → Copy
+toldCopy (running s) = copied none (s .shared .output .first) (s .shared .output .second) (s .line) (length (s .input)) (s .events)
+toldCopy (ended k s) = copied (some k) (s .shared .output .first) (s .shared .output .second) (s .line) (length (s .input)) (s .events)
+
+-- eF2 with the name as parameter 1, after input line 5 and event 7
+abbrev copying : Rooms → Channel → String → List Bytes → Copy
+copying room ch name ls =
+    toldCopy (copyInput session room ch (bytes name)
+    (record { input = ls; line = 5; pending = none; frames = []; calls = 0; shared = record { symbols = 0; store = []; output = noOutput }; events = 7 }))
+
+-- a line of 201 bytes
+abbrev long : String → Bytes
+long s = bytes s ++ replicate (201 - length (bytes s)) 65
+
+-- a line and its byte 10
+abbrev written : String → Bytes
+written s = bytes s ++ (10 ∷ [])
+
+abbrev wide : Rooms
+wide = rooms 500 500
+
+abbrev copies : List (Copy × Copy)
+copies =
+    -- each channel; the line that begins with the name is read, and dropped
+    (copying wide First "X" (bytes "A" ∷ bytes "XB" ∷ bytes "C" ∷ []), copied none (written "A") [] 7 1 7)
+    ∷ (copying wide Second "X" (bytes "A" ∷ bytes "XB" ∷ bytes "C" ∷ []), copied none [] (written "A") 7 1 7)
+    ∷ (copying wide Nowhere "X" (bytes "A" ∷ bytes "XB" ∷ bytes "C" ∷ []), copied none [] [] 7 1 7)
+    -- it is compared before it is measured, and a dropped line isn't measured
+    ∷ (copying wide First "X" (long "X" ∷ []), copied none [] [] 6 0 7)
+    ∷ (copying wide Nowhere "X" (long "A" ∷ []), copied none [] [] 6 0 7)
+    ∷ (copying wide Second "X" (bytes "B" ∷ long "A" ∷ bytes "C" ∷ []), copied (some 11) [] (written "B") 7 1 7)
+    -- 13 writes nothing of its line, and what was copied stays
+    ∷ (copying (rooms 4 500) First "X" (bytes "A" ∷ bytes "BC" ∷ bytes "D" ∷ []), copied (some 13) (written "A") [] 7 1 7)
+    ∷ (copying (rooms 500 4) Second "X" (bytes "A" ∷ bytes "BC" ∷ bytes "D" ∷ []), copied (some 13) [] (written "A") 7 1 7)
+    -- 11 comes before 13
+    ∷ (copying (rooms 0 0) First "X" (long "A" ∷ []), copied (some 11) [] [] 6 0 7)
+    -- the input's end ends it, and with an empty name no line is read
+    ∷ (copying wide First "X" (bytes "" ∷ bytes "A" ∷ []), copied none (written "" ++ written "A") [] 7 0 7)
+    ∷ (copying wide First "" (bytes "A" ∷ []), copied none [] [] 5 1 7)
+    -- contents are compared and copied: they end before mark 1, and so a name that has it is never met
+    ∷ (copying wide First "X" (bytes "A$X" ∷ bytes "X$" ∷ []), copied none (written "A") [] 7 0 7)
+    ∷ (copying wide First "X$" (bytes "X$" ∷ []), copied none (written "X") [] 6 0 7)
+    ∷ []
+
+pub starred-copies : map (λ e. e .0) copies ≡ map (λ e. e .1) copies
+unfolding bytes upTo begins appended withFirst withSecond wrote tooLong pastLine stateWith copyLines copyInput noOutput
+starred-copies = refl

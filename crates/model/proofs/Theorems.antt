@@ -1,5 +1,5 @@
 -- What is proved of document 01's definitions, in one place: the first reading, the places of a search, the fuels, the events, the numbers, what is demanded of a run, the sizes
--- of its states, the places of its lines, the digits of conversions, characters, and the range of values. Every statement is for all texts that load and all rooms; the proofs are in the
+-- of its states, the places of its lines, the digits of conversions and channels, function 2, characters, and the range of values. Every statement is for all texts that load and all rooms; the proofs are in the
 -- modules that each line cites.
 use mathlib.Core.Path.{_≡_, refl}
 use mathlib.Core.Logic.{_↔_}
@@ -11,21 +11,24 @@ use lib.ListN.{length}
 use lib.IntN.{ℤ}
 use Rattle.model.specs.declared.Marks.{Marks}
 use Rattle.model.specs.declared.Ran.{Ran}
+use Rattle.model.specs.declared.Channel.{Channel}
 use Rattle.model.specs.declared.Conversion.{Conversion}
 use Rattle.model.specs.declared.Conversion.the-variants.{Length, CodePoint}
+use Rattle.model.specs.declared.Effect.the-variants.{Malformed}
 use Rattle.model.specs.Limits.{lineMost, nodesMost, deadLeast, largest, digitsMost}
-use Rattle.model.specs.Text.{Bytes, Grows, has, lines}
+use Rattle.model.specs.Text.{Bytes, upTo, has, lines}
 use Rattle.model.specs.Utf8.{Character, character, points, Point, encode, encodeAll, Points, Leads, MalformedText, MalformedFront}
 use Rattle.model.specs.Reading.{Pieces, Reading, chosen}
-use Rattle.model.specs.Code.{digitOf, conversionOf}
+use Rattle.model.specs.Code.{digitOf, conversionOf, channelOf, OtherDigit, effect}
 use Rattle.model.specs.Store.{Store, decimal}
 use Rattle.model.specs.Value.{FitsWidth, checked, expression, whole, valueOf}
-use Rattle.model.specs.Load.{templates, nodes, Loaded, Load, loaded, load}
-use Rattle.model.specs.Machine.{Loop, Frame, Shared, halts, param, failed, add, addConverted, pieceOf, passOf, takePass, State, skipIn, running, ended, counted, event, after, initial, resultOf, run}
+use Rattle.model.specs.Load.{begins, templates, nodes, Loaded, Load, loaded, load}
+use Rattle.model.specs.Machine.{Rooms, rooms, Extends, Loop, Frame, Shared, halts, param, failed, add, addConverted, pieceOf, passOf, takePass, State, tooLong, copyInput, skipIn, running, ended, counted, event, after, initial, resultOf, run}
 use Rattle.model.specs.Places.{Found, tryPlace, beginnings, childIn, holeyIn, together, fitting, placesTaken, Once}
 use Rattle.model.specs.Results.{checkText, fitLine, runText}
 use Rattle.model.specs.Fitting.{Reads, First}
 use Rattle.model.specs.FirstReading.{FitsFirst, OffersFirst}
+use Rattle.model.specs.Copies.{contents, NoneBegins, Takes, LacksRoom, received, movedOn}
 use Rattle.model.specs.Legal.{Lawful, Legal, codeLines, At, MacrosAt}
 use Rattle.model.specs.Sizes.{BodiesOk, Small, PendingSmall, LoopsFew}
 use Rattle.model.specs.Runs.{Runs}
@@ -45,6 +48,8 @@ use Rattle.model.proofs.Nesting as Nesting
 use Rattle.model.proofs.Input as Input
 use Rattle.model.proofs.Sizes as Sizes
 use Rattle.model.proofs.Conversions as Conversions
+use Rattle.model.proofs.Channels as Channels
+use Rattle.model.proofs.Copies as Copies
 use Rattle.model.proofs.Utf8 as Utf8
 use Rattle.model.proofs.Characters as Characters
 use Rattle.model.proofs.Range as Range
@@ -72,7 +77,7 @@ pub fit-is-first : (text : Bytes) (t : Loaded) → load text ≡ loaded t → (l
 fit-is-first = FirstReading.fit-first
 
 -- and so is what the event of a pending line comes to, in a run or from any other state: passing through, or the call
-pub offer-is-first : (text : Bytes) (t : Loaded) → load text ≡ loaded t → (room : ℕ) (s : State) (l : Bytes) → s .pending ≡ some l → OffersFirst room t l (counted s) (event room t s)
+pub offer-is-first : (text : Bytes) (t : Loaded) → load text ≡ loaded t → (room : Rooms) (s : State) (l : Bytes) → s .pending ≡ some l → OffersFirst room t l (counted s) (event room t s)
 offer-is-first = FirstReading.offered-first
 
 -- ---- the places of a search
@@ -106,16 +111,16 @@ module _ (text : Bytes) (t : Loaded) (loads : load text ≡ loaded t) (line : By
 -- ---- two fuels
 
 -- more fuel changes nothing of a run that ended
-pub more-fuel-same : (f g room : ℕ) (x : Load) → f ≤ g → ¬ (run f room x .number ≡ 20) → run g room x ≡ run f room x
+pub more-fuel-same : (f g : ℕ) (room : Rooms) (x : Load) → f ≤ g → ¬ (run f room x .number ≡ 20) → run g room x ≡ run f room x
 more-fuel-same = Fuel.fuel-enough
 
--- and only adds to the output of a spent one
-pub more-fuel-adds : (f g room : ℕ) (x : Load) → f ≤ g → run f room x .number ≡ 20 → Grows (run f room x .output) (run g room x .output)
+-- and only adds to the outputs of a spent one
+pub more-fuel-adds : (f g : ℕ) (room : Rooms) (x : Load) → f ≤ g → run f room x .number ≡ 20 → Extends (run f room x .output) (run g room x .output)
 more-fuel-adds = Fuel.fuel-spent
 
 -- ---- runs and the expansion
 
-module _ (f room : ℕ) (t : Loaded) where
+module _ (f : ℕ) (room : Rooms) (t : Loaded) where
   -- where the expansion ends within as many events as the fuel, the run is the expansion
   pub run-ends : (n k : ℕ) (s : State) → n ≤ f → after n room t (running (initial t)) ≡ ended k s → run f room (loaded t) ≡ resultOf k s
   run-ends = Fuel.run-ended f room t
@@ -142,7 +147,7 @@ module _ (f room : ℕ) (t : Loaded) where
 
 -- ---- n events after the start
 
-module _ (n room : ℕ) (t : Loaded) (s : State) where
+module _ (n : ℕ) (room : Rooms) (t : Loaded) (s : State) where
   -- a state before its next event has counted n events
   pub running-events : after n room t (running (initial t)) ≡ running s → s .events ≡ n
   running-events = Events.running-events n room t s
@@ -165,7 +170,7 @@ check-number = NumberTable.check-numbered
 pub fit-number : (rows dead : ℕ) (text line : Bytes) → has (fitLine rows dead text line .number) fitNumbers ≡ true
 fit-number = NumberTable.fit-numbered
 
-pub run-number : (fuel rows dead room store : ℕ) (text : Bytes) → has (runText fuel rows dead room store text .number) runNumbers ≡ true
+pub run-number : (fuel rows dead : ℕ) (room : Rooms) (store : ℕ) (text : Bytes) → has (runText fuel rows dead room store text .number) runNumbers ≡ true
 run-number = NumberTable.run-numbered
 
 -- the table has no 10
@@ -173,7 +178,7 @@ pub ten-is-none : (has 10 checkNumbers ≡ false) × (has 10 fitNumbers ≡ fals
 ten-is-none = NumberTable.ten-is-none
 
 -- that of a run of a text that loads is 0 or one of 11 to 21
-pub begun-number : (fuel room : ℕ) (t : Loaded) → has (run fuel room (loaded t) .number) begunNumbers ≡ true
+pub begun-number : (fuel : ℕ) (room : Rooms) (t : Loaded) → has (run fuel room (loaded t) .number) begunNumbers ≡ true
 begun-number = NumberTable.begun-numbered
 
 -- ---- a text that loads
@@ -197,7 +202,7 @@ module _ (text : Bytes) (t : Loaded) (loads : load text ≡ loaded t) where
 
   -- ---- the states of its runs
 
-  module _ (n room : ℕ) (s : State) where
+  module _ (n : ℕ) (room : Rooms) (s : State) where
     -- a state before an event keeps the sizes that the code's arrays have
     pub running-small : after n room t (running (initial t)) ≡ running s → Small room s × PendingSmall (s .pending) × LoopsFew (s .frames)
     running-small = Sizes.running-small text t loads n room s
@@ -213,12 +218,13 @@ module _ (text : Bytes) (t : Loaded) (loads : load text ≡ loaded t) where
   -- ---- what is demanded of its runs
 
   -- every line offered is passed through exactly when no template reads it, and otherwise calls the first reading
-  pub offers-in-run : (fuel room : ℕ) → OffersInRun fuel room t
+  pub offers-in-run : (fuel : ℕ) (room : Rooms) → OffersInRun fuel room t
   offers-in-run = Demands.run-offers text t loads
 
   -- an answer that is the expansion stopped at the fuel has all that 01 demands
-  pub run-follows : (fuel : ℕ) (output store : Bytes) {r : Ran} {output′ store′ : Bytes} → Runs (run fuel (length output) (loaded t)) output store r output′ store′
-      → FollowsExpansion t fuel output store r output′ store′
+  pub run-follows : (fuel : ℕ) (output second store : Bytes) {r : Ran} {output′ second′ store′ : Bytes}
+      → Runs (run fuel (rooms (length output) (length second)) (loaded t)) output second store r output′ second′ store′
+      → FollowsExpansion t fuel output second store r output′ second′ store′
   run-follows = Demands.follows-expansion text t loads
 
 -- ---- code lines
@@ -226,6 +232,41 @@ module _ (text : Bytes) (t : Loaded) (loads : load text ≡ loaded t) where
 -- a conversion's digit names it, and no other byte does
 pub names-conversion : (b : ℕ) (c : Conversion) → conversionOf b ≡ some c ↔ b ≡ 48 + digitOf c
 names-conversion = Conversions.names-exactly
+
+-- the digits 0, 3 and 4 name the channels of F1 and F2, and no other digit does
+pub names-no-channel : (x : ℕ) (s : Bytes) → channelOf (x ∷ s) ≡ none ↔ OtherDigit x
+names-no-channel = Channels.channel-refused
+
+-- where one follows, F1 and F2 at their line's start are malformed
+pub other-digits : (m : Marks) (x : ℕ) (s : Bytes) → OtherDigit x → (effect m (m .escape ∷ 70 ∷ 49 ∷ x ∷ s) ≡ Malformed) × (effect m (m .escape ∷ 70 ∷ 50 ∷ x ∷ s) ≡ Malformed)
+other-digits m x s h = (Channels.one-malformed m x s h, Channels.two-malformed m x s h)
+
+-- ---- function 2
+
+module _ (m : Marks) (room : Rooms) (ch : Channel) (name : Bytes) (ls : List Bytes) (s : State) (some-name : ¬ (length name ≡ 0)) (idle : s .pending ≡ none)
+    (n : NoneBegins m name ls) (h : Takes m room ch ls (s .shared .output)) where
+  -- the lines ls, none of which begins with parameter 1, are copied, each content with a byte 10 after it, up to the input's end
+  pub copies-all : s .input ≡ ls → copyInput m room ch name s ≡ running (movedOn s (length ls) [] (received ch (contents m ls) (s .shared .output)))
+  copies-all = Copies.copies-all m room ch name ls s some-name idle n h
+
+  module _ (l : Bytes) (left : List Bytes) (e : s .input ≡ ls ++ l ∷ left) where
+    -- or up to one that does, which is read and dropped, whatever its length
+    pub copies-until : begins name (upTo (m .source) l) ≡ true → copyInput m room ch name s ≡ running (movedOn s (suc (length ls)) left (received ch (contents m ls) (s .shared .output)))
+    copies-until = Copies.copies-until m room ch name ls s some-name idle n h l left e
+
+    -- one that does not ends the run with 11 where it is too long
+    pub copy-long : begins name (upTo (m .source) l) ≡ false → tooLong ch (upTo (m .source) l) ≡ true
+        → copyInput m room ch name s ≡ ended 11 (movedOn s (suc (length ls)) left (received ch (contents m ls) (s .shared .output)))
+    copy-long = Copies.copy-long m room ch name ls s some-name idle n h l left e
+
+    -- and else with 13 where there is no room for all of it: nothing of it is written, and what was copied stays
+    pub copy-full : begins name (upTo (m .source) l) ≡ false → tooLong ch (upTo (m .source) l) ≡ false → LacksRoom room ch (upTo (m .source) l) (received ch (contents m ls) (s .shared .output))
+        → copyInput m room ch name s ≡ ended 13 (movedOn s (suc (length ls)) left (received ch (contents m ls) (s .shared .output)))
+    copy-full = Copies.copy-full m room ch name ls s some-name idle n h l left e
+
+-- with an empty parameter 1 no line is read
+pub copies-nothing : (m : Marks) (room : Rooms) (ch : Channel) (s : State) → copyInput m room ch [] s ≡ running s
+copies-nothing = Copies.copies-nothing
 
 -- ---- characters
 

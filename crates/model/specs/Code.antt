@@ -1,10 +1,13 @@
 -- What a code line says (document 01, "A call's code").
+use mathlib.Core.Path.{_≡_}
 use mathlib.Core.Bool.{Bool, true, false, not, _||_}
 use mathlib.Core.Option.{Option, none, some}
 use mathlib.Core.List.{List, [], _∷_}
 use Prim.Native.Nat.{ℕ, _+_, _-_}
 use lib.Dec.{eqb}
 use Rattle.model.specs.declared.Marks.{Marks}
+use Rattle.model.specs.declared.Channel.{Channel}
+use Rattle.model.specs.declared.Channel.the-variants.{Nowhere, First, Second}
 use Rattle.model.specs.declared.Effect.{Effect}
 use Rattle.model.specs.declared.Effect.the-variants.{Malformed, Plain, Opens, Closes, Owns}
 use Rattle.model.specs.declared.Comparison.{Comparison}
@@ -52,8 +55,9 @@ pub data Ending : Type 0 where
   assign : ℕ → Ending
   iterate : ℕ → List ℕ → Ending
   stop : Ending
-  write : ℕ → Ending
-  layout : ℕ → Ending
+  write : Channel → Ending
+  layout : Channel → Ending
+  copy : Channel → Ending
   save : Ending
   skip : Ending
   skipText : Bool → Ending
@@ -78,19 +82,38 @@ onto p c = record { parts = p ∷ c .parts; ending = c .ending }
 unfoldable pub only : Ending → Code
 only k = record { parts = []; ending = k }
 
--- F1 on a channel: at the line's start it owns a layout
-unfoldable pub writing : Bool → ℕ → Form
-writing first ch = elim first [ true ↦ ends (layout ch) | false ↦ ends (write ch) ]
+-- ---- channels and their digits
 
--- channel 3 if 3 or no digit follows, 0 if 0
-unfoldable pub channel : Bool → List ℕ → Form
-channel first [] = writing first 3
-channel first (x ∷ s) =
+-- the channel of F1 and F2: 3 if 3 or no digit follows, 0 if 0, 4 if 4; none where another digit does
+unfoldable pub channelOf : List ℕ → Option Channel
+channelOf [] = some First
+channelOf (x ∷ s) =
     elim (eqb x 48) [
-      | true ↦ writing first 0
+      | true ↦ some Nowhere
       | false ↦
-          elim (eqb x 51 || not (isDigit x)) [ true ↦ writing first 3 | false ↦ ends malformed ]
+          elim (eqb x 52) [
+            | true ↦ some Second
+            | false ↦
+                elim (eqb x 51 || not (isDigit x)) [ true ↦ some First | false ↦ none ]
+          ]
     ]
+
+-- a digit that names no channel
+abbrev pub OtherDigit : ℕ → Type 0
+OtherDigit x = (isDigit x ≡ true) × ¬ (x ≡ 48) × ¬ (x ≡ 51) × ¬ (x ≡ 52)
+
+-- F1: at the line's start it owns a layout
+unfoldable pub writing : Bool → Option Channel → Ending
+writing first none = malformed
+writing true (some ch) = layout ch
+writing false (some ch) = write ch
+
+-- F2
+unfoldable pub copying : Option Channel → Ending
+copying none = malformed
+copying (some ch) = copy ch
+
+-- ---- functions
 
 unfoldable pub textTest : List ℕ → Ending
 textTest [] = malformed
@@ -124,22 +147,26 @@ lineFunction m b s =
     elim (eqb b 48) [
       | true ↦ stop
       | false ↦
-          elim (eqb b 51) [
-            | true ↦ save
+          elim (eqb b 50) [
+            | true ↦ copying (channelOf s)
             | false ↦
-                elim (eqb b 52) [
-                  | true ↦ skip
+                elim (eqb b 51) [
+                  | true ↦ save
                   | false ↦
-                      elim (eqb b 53) [
-                        | true ↦ textTest s
+                      elim (eqb b 52) [
+                        | true ↦ skip
                         | false ↦
-                            elim (eqb b 54) [
-                              | true ↦ valueTest m s
+                            elim (eqb b 53) [
+                              | true ↦ textTest s
                               | false ↦
-                                  elim (eqb b 56) [
-                                    | true ↦ again
+                                  elim (eqb b 54) [
+                                    | true ↦ valueTest m s
                                     | false ↦
-                                        elim (eqb b 57) [ true ↦ leave | false ↦ malformed ]
+                                        elim (eqb b 56) [
+                                          | true ↦ again
+                                          | false ↦
+                                              elim (eqb b 57) [ true ↦ leave | false ↦ malformed ]
+                                        ]
                                   ]
                             ]
                       ]
@@ -150,7 +177,7 @@ lineFunction m b s =
 unfoldable pub function : Marks → Bool → ℕ → List ℕ → Form
 function m first b s =
     elim (eqb b 49) [
-      | true ↦ channel first s
+      | true ↦ ends (writing first (channelOf s))
       | false ↦
           elim (eqb b 55) [
             | true ↦ ends repeat
@@ -204,6 +231,7 @@ effectOf (iterate d s) = Opens
 effectOf stop = Plain
 effectOf (write ch) = Plain
 effectOf (layout ch) = Owns
+effectOf (copy ch) = Plain
 effectOf save = Plain
 effectOf skip = Plain
 effectOf (skipText b) = Plain

@@ -9,7 +9,7 @@ use Rattle.model.specs.declared.Fitted.{Fitted}
 use Rattle.model.specs.Text.{Bytes}
 use Rattle.model.specs.Reading.{Pieces}
 use Rattle.model.specs.Load.{noMacro, templates, nodes, Loaded}
-use Rattle.model.specs.Machine.{State, Next, call, passThrough}
+use Rattle.model.specs.Machine.{Rooms, State, Next, call, passThrough}
 use Rattle.model.specs.Results.{startsOf, nine}
 use Rattle.model.specs.Fitting.{Reads, First}
 
@@ -28,6 +28,6 @@ pub record FitsFirst (t : Loaded) (line : Bytes) (r : Fitted) : Type 0 where
 
 -- the line l is offered in a run: from the state s, in which that event is counted, the machine comes to x. Where twelve calls are open, `call` ends with 14,
 -- whatever the reading
-pub record OffersFirst (room : ℕ) (t : Loaded) (l : Bytes) (s : State) (x : Next) : Type 0 where
+pub record OffersFirst (room : Rooms) (t : Loaded) (l : Bytes) (s : State) (x : Next) : Type 0 where
   pub passed : x ≡ passThrough room l s ↔ ((i : ℕ) (ps : Pieces) → ¬ Reads (t .marks) (templates (t .macros)) l i ps)
   pub called : ¬ (x ≡ passThrough room l s) → (i : ℕ) × (ps : Pieces) × First (t .marks) (templates (t .macros)) l i ps × (x ≡ call (getD (t .macros) i noMacro) ps s)

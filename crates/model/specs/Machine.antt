@@ -1,4 +1,4 @@
--- The expansion (document 01, "Events, store and result"): a machine that is fed a loaded text and the output room.
+-- The expansion (document 01, "Events, store and result"): a machine that is fed a loaded text and the rooms of the two outputs.
 use mathlib.Core.Bool.{Bool, true, false, not, _&&_, _||_}
 use mathlib.Core.Option.{Option, none, some}
 use mathlib.Core.List.{List, [], _∷_, _++_}
@@ -8,10 +8,12 @@ use lib.ListN.{length, getD, drop, set, replicate}
 use lib.IntN.{ℤ, pos, negsuc}
 use Rattle.model.specs.Limits.{lineMost, callsMost}
 use Rattle.model.specs.declared.Marks.{Marks}
-use Rattle.model.specs.Text.{Bytes, same, has, upTo}
+use Rattle.model.specs.Text.{Bytes, Grows, same, has, upTo}
 use Rattle.model.specs.Utf8.{Character, characterFault, character, points, pointsFault}
 use Rattle.model.specs.Reading.{Reading, chosen, atom}
-use Rattle.model.specs.Code.{Code, Part, Ending, byte, serial, convert, parse, offer, assign, iterate, stop, write, layout, save, skip, skipText, skipValue, repeat, again, leave, malformed, effect}
+use Rattle.model.specs.Code.{Code, Part, Ending, byte, serial, convert, parse, offer, assign, iterate, stop, write, layout, copy, save, skip, skipText, skipValue, repeat, again, leave, malformed, effect}
+use Rattle.model.specs.declared.Channel.{Channel}
+use Rattle.model.specs.declared.Channel.the-variants.{Nowhere, First, Second}
 use Rattle.model.specs.declared.Effect.the-variants.{Malformed, Plain, Opens, Closes, Owns}
 use Rattle.model.specs.declared.Conversion.{Conversion}
 use Rattle.model.specs.declared.Conversion.the-variants.{Itself, StoredText, Symbol, LatestDelimiter, ExpressionValue, Length, CodePoint}
@@ -19,7 +21,7 @@ use Rattle.model.specs.declared.Comparison.{Comparison}
 use Rattle.model.specs.declared.Comparison.the-variants.{Equal, Unequal, Less, Greater}
 use Rattle.model.specs.Store.{Store, find, put, within, memoryFault, decimal, listing}
 use Rattle.model.specs.Value.{valueFault, valueOf, written}
-use Rattle.model.specs.Load.{templates, Macro, Loaded, Load, refused, loaded, noMacro}
+use Rattle.model.specs.Load.{begins, templates, Macro, Loaded, Load, refused, loaded, noMacro}
 
 -- an open iteration. ed7 has the rest of the built line, the list of delimiters and d's old value; eF7 the passes left. `after` are the
 -- code lines after the opening line
@@ -35,18 +37,40 @@ pub record Frame : Type 0 where
   pub next : List Bytes
   pub loops : List Loop
 
--- what every call shares: the last number of ed2, stored names and texts, and the output
+-- the rooms of the two outputs, in bytes: the first is channel 3's, the second channel 4's
+pub record Rooms : Type 0 where
+  pub first : ℕ
+  pub second : ℕ
+
+abbrev pub rooms : (first second : ℕ) → Rooms
+rooms a b = record { first = a; second = b }
+
+-- what is written to each
+pub record Outputs : Type 0 where
+  pub first : Bytes
+  pub second : Bytes
+
+abbrev pub outputs : (first second : Bytes) → Outputs
+outputs a b = record { first = a; second = b }
+
+-- each output of the second pair begins with that of the first
+abbrev pub Extends : Outputs → Outputs → Type 0
+Extends a b = Grows (a .first) (b .first) × Grows (a .second) (b .second)
+
+-- what every call shares: the last number of ed2, stored names and texts, and the outputs
 pub record Shared : Type 0 where
   pub symbols : ℕ
   pub store : Store
-  pub output : Bytes
+  pub output : Outputs
 
--- what a code line comes to: the call goes on, offers a line, skips code lines, ends its body, or the run ends with a number
+-- what a code line comes to: the call goes on, offers a line, skips code lines, ends its body, copies input lines to a channel, or the run
+-- ends with a number
 pub data Step : Type 0 where
   continues : Frame → Shared → Step
   offers : Bytes → Frame → Shared → Step
   skips : ℕ → Frame → Shared → Step
   leaves : Shared → Step
+  copies : Rooms → Channel → Frame → Shared → Step
   halts : ℕ → Shared → Step
 
 -- parameter d
@@ -220,18 +244,35 @@ startRepeat m (some (pos zero)) f w = continues (resumeAt f (f .loops) (pastLoop
 startRepeat m (some (pos (suc n))) f w = continues (resumeAt f (byCount n (f .next) ∷ f .loops) (f .next)) w
 startRepeat m (some (negsuc n)) f w = continues (resumeAt f (f .loops) (pastLoop m 0 (f .next))) w
 
--- ---- output and layouts
+-- ---- outputs and layouts
 
--- a line and its byte 10 are written, or 13
-unfoldable pub output : ℕ → Bytes → Frame → Shared → Step
-output room l f w = elim (leb (length (w .output) + length l + 1) room) [
-  | true ↦ continues f (record { symbols = w .symbols; store = w .store; output = w .output ++ (l ++ (10 ∷ [])) })
-  | false ↦ halts 13 w
-]
+-- an output with a line and its byte 10 after it; none where the room is too small
+unfoldable pub appended : (room : ℕ) (line output : Bytes) → Option Bytes
+appended room l o = elim (leb (length o + length l + 1) room) [ true ↦ some (o ++ (l ++ (10 ∷ []))) | false ↦ none ]
 
--- channel 0 drops the line
-unfoldable pub writeTo : ℕ → ℕ → Bytes → Frame → Shared → Step
-writeTo room ch l f w = elim (eqb ch 0) [ true ↦ continues f w | false ↦ output room l f w ]
+-- what calls share with this output in the first one's place, or in the second one's; none where there is none
+unfoldable pub withFirst : Shared → Option Bytes → Option Shared
+withFirst w none = none
+withFirst w (some o) = some (record { symbols = w .symbols; store = w .store; output = outputs o (w .output .second) })
+
+unfoldable pub withSecond : Shared → Option Bytes → Option Shared
+withSecond w none = none
+withSecond w (some o) = some (record { symbols = w .symbols; store = w .store; output = outputs (w .output .first) o })
+
+-- a line and its byte 10 written to a channel; none where its room is too small
+unfoldable pub wrote : Rooms → Channel → Bytes → Shared → Option Shared
+wrote room Nowhere l w = some w
+wrote room First l w = withFirst w (appended (room .first) l (w .output .first))
+wrote room Second l w = withSecond w (appended (room .second) l (w .output .second))
+
+-- the call goes on with the line written, or 13
+unfoldable pub goesWritten : Frame → Shared → Option Shared → Step
+goesWritten f w none = halts 13 w
+goesWritten f w (some v) = continues f v
+
+-- F1
+unfoldable pub writeTo : Rooms → Channel → Bytes → Frame → Shared → Step
+writeTo room ch l f w = goesWritten f w (wrote room ch l w)
 
 -- the first n bytes, with blanks after a shorter text
 unfoldable pub field : ℕ → ℕ → Bytes → Bytes
@@ -254,7 +295,7 @@ fields m f digit n (x ∷ s) =
     ]
 
 -- eF1 at a line's start: the layout is the next code line
-unfoldable pub writeLayout : ℕ → Marks → ℕ → List Bytes → Frame → Shared → Step
+unfoldable pub writeLayout : Rooms → Marks → Channel → List Bytes → Frame → Shared → Step
 writeLayout room m ch [] f w = continues f w
 writeLayout room m ch (c ∷ cs) f w = writeTo room ch (fields m f 256 0 c) (resumeAt f (f .loops) cs) w
 
@@ -302,13 +343,14 @@ wanted false b = not b
 
 -- ---- carrying out a code line of the call f, with that line already passed
 
-unfoldable pub finish : ℕ → Marks → Ending → Bytes → Frame → Shared → Step
+unfoldable pub finish : Rooms → Marks → Ending → Bytes → Frame → Shared → Step
 finish room m offer l f w = offers l f w
 finish room m (assign d) l f w = continues (withParam f d l) w
 finish room m (iterate d ds) l f w = takePass d (passOf m ds l) ds (param f d) (f .next) (f .loops) f w
 finish room m stop l f w = halts 0 w
 finish room m (write ch) l f w = writeTo room ch l f w
 finish room m (layout ch) l f w = writeLayout room m ch (f .next) f w
+finish room m (copy ch) l f w = copies room ch f w
 finish room m save l f w = saveText (param f 1) (param f 2) f w
 finish room m skip l f w = skipBy (valueOf m (w .store) (param f 1)) f w
 finish room m (skipText b) l f w = skipIf m (wanted b (same (param f 1) (param f 2))) f w
@@ -319,12 +361,12 @@ finish room m leave l f w = leaves w
 finish room m malformed l f w = continues f w
 
 -- a number met while building ends the run
-unfoldable pub finishBuilt : ℕ → Marks → Ending → Frame → Building → Step
+unfoldable pub finishBuilt : Rooms → Marks → Ending → Frame → Building → Step
 finishBuilt room m k f (failed n w) = halts n w
 finishBuilt room m k f (built l w) = finish room m k l f w
 
 -- a code line carried out: its parts are built, then its ending is done
-unfoldable pub carryOut : ℕ → Marks → Code → Frame → Shared → Step
+unfoldable pub carryOut : Rooms → Marks → Code → Frame → Shared → Step
 carryOut room m c f w = finishBuilt room m (c .ending) f (build m f (c .parts) [] w)
 
 -- ---- the machine
@@ -405,21 +447,54 @@ call x ps s =
       })
     ]
 
--- a line that is no call is written, or 13
-unfoldable pub passThrough : ℕ → Bytes → State → Next
-passThrough room l s =
-    elim (leb (length (s .shared .output) + length l + 1) room) [
-      | true ↦ running (stateWith s none (s .frames) (record { symbols = s .shared .symbols; store = s .shared .store; output = s .shared .output ++ (l ++ (10 ∷ [])) }))
-      | false ↦ ended 13 s
-    ]
+-- a line that is no call is written to the first output, or 13
+unfoldable pub passed : State → Option Shared → Next
+passed s none = ended 13 s
+passed s (some w) = running (stateWith s none (s .frames) w)
 
-unfoldable pub offeredAs : ℕ → Loaded → Bytes → State → Option Reading → Next
+unfoldable pub passThrough : Rooms → Bytes → State → Next
+passThrough room l s = passed s (wrote room First l (s .shared))
+
+unfoldable pub offeredAs : Rooms → Loaded → Bytes → State → Option Reading → Next
 offeredAs room t l s none = passThrough room l s
 offeredAs room t l s (some r) = call (getD (t .macros) (r .which) noMacro) (r .pieces) s
 
 -- an offered line's first reading opens a call; without a reading the line is written
-unfoldable pub offered : ℕ → Loaded → Bytes → State → Next
+unfoldable pub offered : Rooms → Loaded → Bytes → State → Next
 offered room t l s = offeredAs room t l s (chosen (t .marks) (templates (t .macros)) l)
+
+-- ---- copying input lines
+
+-- the state with one input line more read, and ls left
+unfoldable pub pastLine : List Bytes → State → State
+pastLine ls s = record { input = ls; line = suc (s .line); pending = none; frames = s .frames; calls = s .calls; shared = s .shared; events = s .events }
+
+-- whether a content is too long to be copied; a dropped one isn't measured
+unfoldable pub tooLong : Channel → Bytes → Bool
+tooLong Nowhere c = false
+tooLong First c = ltb lineMost (length c)
+tooLong Second c = ltb lineMost (length c)
+
+-- contents of input lines are copied to a channel until one begins with the name, which is dropped, or the input ends. Each is compared,
+-- then measured, or 11, then written, or 13
+unfoldable pub copyLines : Marks → Rooms → Channel → Bytes → List Bytes → State → Next
+copyLines m room ch name [] s = running s
+copyLines m room ch name (l ∷ ls) s =
+    let c : Bytes = upTo (m .source) l in
+    elim (begins name c) [
+      | true ↦ running (pastLine ls s)
+      | false ↦
+          elim (tooLong ch c) [
+            | true ↦ ended 11 (pastLine ls s)
+            | false ↦
+                elim (wrote room ch c (s .shared)) [ none ↦ ended 13 (pastLine ls s) | some w ↦ copyLines m room ch name ls (stateWith (pastLine ls s) none (s .frames) w) ]
+          ]
+    ]
+
+-- F2; with an empty name no line is read
+unfoldable pub copyInput : Marks → Rooms → Channel → Bytes → State → Next
+copyInput m room ch [] s = running s
+copyInput m room ch (x ∷ name) s = copyLines m room ch (x ∷ name) (s .input) s
 
 -- what a code line of the innermost call makes of the state; fs are its callers
 unfoldable pub stepped : Marks → List Frame → Step → State → Next
@@ -427,6 +502,7 @@ stepped m fs (continues f w) s = running (stateWith s none (f ∷ fs) w)
 stepped m fs (offers l f w) s = running (stateWith s (some l) (f ∷ fs) w)
 stepped m fs (skips n f w) s = skipIn m n (f ∷ fs) w s
 stepped m fs (leaves w) s = running (stateWith s none fs w)
+stepped m fs (copies room ch f w) s = copyInput m room ch (param f 1) (stateWith s none (f ∷ fs) w)
 stepped m fs (halts k w) s = ended k (stateWith s none fs w)
 
 -- what comes without an event: finished calls close, and with none open the next input line is read and measured
@@ -464,11 +540,11 @@ unfoldable pub ready : Marks → State → Next
 ready m s = readyFor m s (s .pending)
 
 -- the innermost call's next code line is begun
-unfoldable pub beginAt : ℕ → Marks → Frame → List Frame → State → List Bytes → Next
+unfoldable pub beginAt : Rooms → Marks → Frame → List Frame → State → List Bytes → Next
 beginAt room m f fs s [] = running s
 beginAt room m f fs s (c ∷ cs) = stepped m fs (carryOut room m (parse m true c) (resumeAt f (f .loops) cs) (s .shared)) s
 
-unfoldable pub beginLine : ℕ → Marks → List Frame → State → Next
+unfoldable pub beginLine : Rooms → Marks → List Frame → State → Next
 beginLine room m [] s = running s
 beginLine room m (f ∷ fs) s = beginAt room m f fs s (f .next)
 
@@ -476,12 +552,12 @@ beginLine room m (f ∷ fs) s = beginAt room m f fs s (f .next)
 unfoldable pub counted : State → State
 counted s = record { input = s .input; line = s .line; pending = none; frames = s .frames; calls = s .calls; shared = s .shared; events = suc (s .events) }
 
-unfoldable pub eventFor : ℕ → Loaded → State → Option Bytes → Next
+unfoldable pub eventFor : Rooms → Loaded → State → Option Bytes → Next
 eventFor room t s (some l) = offered room t l (counted s)
 eventFor room t s none = beginLine room (t .marks) (s .frames) (counted s)
 
 -- one event: a line is offered, or a code line begun
-unfoldable pub event : ℕ → Loaded → State → Next
+unfoldable pub event : Rooms → Loaded → State → Next
 event room t s = eventFor room t s (s .pending)
 
 unfoldable pub follow : (State → Next) → Next → Next
@@ -489,20 +565,24 @@ follow go (ended k s) = ended k s
 follow go (running s) = go s
 
 -- the machine n events later: ended by then, or just before its next event
-unfoldable pub after : ℕ → ℕ → Loaded → Next → Next
+unfoldable pub after : ℕ → Rooms → Loaded → Next → Next
 after zero room t x = follow (λ s. ready (t .marks) s) x
 after (suc n) room t x = follow (λ s. follow (λ s′. after n room t (event room t s′)) (ready (t .marks) s)) x
 
+-- nothing is written
+unfoldable pub noOutput : Outputs
+noOutput = outputs [] []
+
 -- at first no call is open and nothing is stored, written or counted
 unfoldable pub initial : Loaded → State
-initial t = record { input = t .input; line = t .last; pending = none; frames = []; calls = 0; shared = record { symbols = 0; store = []; output = [] }; events = 0 }
+initial t = record { input = t .input; line = t .last; pending = none; frames = []; calls = 0; shared = record { symbols = 0; store = []; output = noOutput }; events = 0 }
 
--- number, line, events, and what is written to output and store
+-- number, line, events, and what is written to the outputs and the store
 pub record Result : Type 0 where
   pub number : ℕ
   pub line : ℕ
   pub events : ℕ
-  pub output : Bytes
+  pub output : Outputs
   pub store : Bytes
 
 unfoldable pub resultOf : ℕ → State → Result
@@ -514,6 +594,6 @@ outcome (ended k s) = resultOf k s
 outcome (running s) = resultOf 20 s
 
 -- a run's result, for legal fuel and rooms
-unfoldable pub run : ℕ → ℕ → Load → Result
-run fuel room (refused k n) = record { number = k; line = n; events = 0; output = []; store = [] }
+unfoldable pub run : ℕ → Rooms → Load → Result
+run fuel room (refused k n) = record { number = k; line = n; events = 0; output = noOutput; store = [] }
 run fuel room (loaded t) = outcome (after fuel room t (running (initial t)))

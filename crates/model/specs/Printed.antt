@@ -1,4 +1,4 @@
--- What the programs print on standard output, byte for byte: numbers are in decimal, a blank is byte 32, and each row ends with byte 10.
+-- What the programs print on standard output, and what expand writes to its second file, byte for byte: numbers are in decimal, a blank is byte 32, and each row ends with byte 10.
 use mathlib.Core.List.{List, [], _∷_, _++_}
 use Prim.Native.Nat.{ℕ}
 use Rattle.model.specs.Limits.{textMost, nodesMost, fuelMost, storeLeast, deadLeast}
@@ -6,7 +6,7 @@ use Rattle.model.specs.declared.Checked.{Checked}
 use Rattle.model.specs.declared.Fitted.{Fitted}
 use Rattle.model.specs.Text.{Bytes, lines}
 use Rattle.model.specs.Store.{decimal}
-use Rattle.model.specs.Machine.{Result}
+use Rattle.model.specs.Machine.{rooms, Result}
 use Rattle.model.specs.Results.{checkText, fitLine, runText}
 
 -- a number after a blank
@@ -19,13 +19,21 @@ spaced n = 32 ∷ decimal n
 unfoldable pub endRow : (number line events : ℕ) → Bytes
 endRow k n e = (69 ∷ 78 ∷ 68 ∷ []) ++ spaced k ++ spaced n ++ spaced e ++ (10 ∷ [])
 
--- a run's output, then its end
-unfoldable pub runPrinted : Result → Bytes
-runPrinted x = x .output ++ endRow (x .number) (x .line) (x .events)
+-- `expand` runs a text with all the fuel there is, with room for as many bytes of the output as a text has, and with so many for the second
+-- output: as many where a file is named for it, else none
+unfoldable pub expandRuns : (second : ℕ) → Bytes → Result
+expandRuns second text = runText fuelMost nodesMost deadLeast (rooms textMost second) storeLeast text
 
--- `expand` runs a text with all the fuel there is, and has room for as many bytes of output as a text has
-unfoldable pub expandPrints : Bytes → Bytes
-expandPrints text = runPrinted (runText fuelMost nodesMost deadLeast textMost storeLeast text)
+-- it prints a run's output, then its end
+unfoldable pub runPrinted : Result → Bytes
+runPrinted x = x .output .first ++ endRow (x .number) (x .line) (x .events)
+
+unfoldable pub expandPrints : (second : ℕ) → Bytes → Bytes
+expandPrints second text = runPrinted (expandRuns second text)
+
+-- and writes the second output to its file
+unfoldable pub expandWrites : (second : ℕ) → Bytes → Bytes
+expandWrites second text = expandRuns second text .output .second
 
 -- ---- check_text
 

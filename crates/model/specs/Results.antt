@@ -13,7 +13,7 @@ use Rattle.model.specs.declared.Ran.{Ran}
 use Rattle.model.specs.Text.{Bytes}
 use Rattle.model.specs.Reading.{Pieces, Reading, chosen}
 use Rattle.model.specs.Load.{Macro, noMacro, templates, Loaded, Load, refused, loaded, load}
-use Rattle.model.specs.Machine.{Result, run}
+use Rattle.model.specs.Machine.{Rooms, noOutput, Result, run}
 use Rattle.model.specs.Places.{placesTaken}
 
 -- 1 where the node row is below 2,048
@@ -74,14 +74,14 @@ fitLine rows dead text line = elim (shortRow rows || shortDead dead) [ true ↦ 
 unfoldable pub illegal : (fuel rows dead store : ℕ) → Bool
 illegal fuel rows dead store = ltb fuel 1 || (ltb fuelMost fuel || (shortRow rows || (shortDead dead || ltb store storeLeast)))
 
--- a run with this fuel, and with rooms of these sizes
-unfoldable pub runText : (fuel rows dead room store : ℕ) → Bytes → Result
+-- a run with this fuel, with rows of these lengths and rooms of these sizes
+unfoldable pub runText : (fuel rows dead : ℕ) (room : Rooms) (store : ℕ) → Bytes → Result
 runText fuel rows dead room store text =
     elim (illegal fuel rows dead store) [
-      | true ↦ record { number = 1; line = 0; events = 0; output = []; store = [] }
+      | true ↦ record { number = 1; line = 0; events = 0; output = noOutput; store = [] }
       | false ↦ run fuel room (load text)
     ]
 
 -- the numbers of a result
 unfoldable pub ranAs : Result → Ran
-ranAs x = record { number = x .number; line = x .line; events = x .events; output = length (x .output); store = length (x .store) }
+ranAs x = record { number = x .number; line = x .line; events = x .events; output = length (x .output .first); second = length (x .output .second); store = length (x .store) }

@@ -13,7 +13,7 @@ use Rattle.model.specs.Text.{Bytes}
 use Rattle.model.specs.Code.{effect}
 use Rattle.model.specs.Store.{Store, size}
 use Rattle.model.specs.Load.{Macro}
-use Rattle.model.specs.Machine.{Loop, byPieces, byCount, Frame, Shared, State}
+use Rattle.model.specs.Machine.{Loop, byPieces, byCount, Frame, Rooms, Shared, State}
 
 -- each text has at most n bytes
 abbrev pub AllShort : ℕ → List Bytes → Type 0
@@ -87,13 +87,14 @@ abbrev pub EntriesShort : Store → Type 0
 EntriesShort [] = Unit {0}
 EntriesShort (e ∷ more) = (length (e .0) ≤ lineMost) × (length (e .1) ≤ lineMost) × EntriesShort more
 
--- what calls share: 256 names, 8,192 bytes; each number of ed2 has its name; the output fits the room
-pub record SharedSmall (room : ℕ) (w : Shared) : Type 0 where
+-- what calls share: 256 names, 8,192 bytes; each number of ed2 has its name; each output fits its room
+pub record SharedSmall (room : Rooms) (w : Shared) : Type 0 where
   pub names : length (w .store) ≤ namesMost
   pub bytes : size (w .store) ≤ memoryMost
   pub entries : EntriesShort (w .store)
   pub symbols : w .symbols ≤ length (w .store)
-  pub output : length (w .output) ≤ room
+  pub first : length (w .output .first) ≤ room .first
+  pub second : length (w .output .second) ≤ room .second
 
 -- a pending line has at most 200 bytes
 abbrev pub PendingSmall : Option Bytes → Type 0
@@ -101,7 +102,7 @@ PendingSmall none = Unit {0}
 PendingSmall (some l) = length l ≤ lineMost
 
 -- a state, whatever its pending line: an input line that is too long ends the run while it is pending
-pub record Small (room : ℕ) (s : State) : Type 0 where
+pub record Small (room : Rooms) (s : State) : Type 0 where
   pub shared : SharedSmall room (s .shared)
   pub frames : FramesSmall (s .calls) (s .frames)
   pub few : length (s .frames) ≤ 12

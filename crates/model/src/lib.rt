@@ -74,6 +74,13 @@ pub enum Effect {
     Owns,
 }
 
+// Where a line is written: channel 0 drops it, 3 is the first output, 4 the second.
+pub enum Channel {
+    Nowhere,
+    First,
+    Second,
+}
+
 // The comparisons of function 6.
 pub enum Comparison {
     Equal,
@@ -118,12 +125,13 @@ pub struct Fitted {
     pub places: u64,
 }
 
-// What a run answers: the lengths are of what was written to output and store.
+// What a run answers: the lengths are of what was written to the output, the second output and the store.
 #[repr(C)]
 pub struct Ran {
     pub number: u64,
     pub line: u64,
     pub events: u64,
     pub output: u64,
+    pub second: u64,
     pub store: u64,
 }

@@ -11,15 +11,15 @@ use Rattle.model.specs.declared.Checked.{Checked}
 use Rattle.model.specs.declared.Fitted.{Fitted}
 use Rattle.model.specs.declared.Ran.{Ran}
 use Rattle.model.specs.Text.{Bytes, part, lines}
-use Rattle.model.specs.Machine.{Result}
+use Rattle.model.specs.Machine.{rooms, Result}
 use Rattle.model.specs.Results.{checkText, fitLine, runText, ranAs}
 use Rattle.model.specs.Runs.{Runs}
 use Rattle.buffer.specs.Written.{Written}
 use Rattle.buffer.proofs.Written.{written-length}
 use Rattle.scan.specs.Lines.{LineAt}
 use Rattle.scan.proofs.Lines.{lines-none}
-use Rattle.model.specs.Printed.{spaced, endRow, runPrinted, expandPrints, checkRow, pieceRow, fitRow, fitRows, fitPrints}
-use Rattle.printed.specs.Prints.{RoomFor, Prints}
+use Rattle.model.specs.Printed.{spaced, endRow, expandRuns, runPrinted, expandPrints, expandWrites, checkRow, pieceRow, fitRow, fitRows, fitPrints}
+use Rattle.printed.specs.Prints.{RoomFor, Prints, Leaves}
 use Rattle.model.proofs.Printed.{end-row-long, check-row-long, fit-prints-long}
 use Rattle.printed.proofs.Adding.{prints-none, prints-as, prints-more, room-as, room-first, room-next}
 
@@ -32,50 +32,69 @@ written-prints {o} {s} {w} {o′} h =
     let z : w ≡ 0 + length s = omega arith in
     record { adds = record { is = subst (λ (n : ℕ). Written o s n o′) z h }; ends = z; long = written-length h; fits = h .fits }
 
--- a run in the first 65,536 bytes of out
-module _ (text out : Bytes) {store output′ store′ : Bytes} {r : Ran}
-    (x : Runs (runText 1000000 2048 51456 (length (take 65536 out)) (length store) text) (take 65536 out) store r output′ store′)
-    (h : 65603 ≤ length out) (s : length store ≡ 8704) (kept : length output′ ≡ length (take 65536 out)) where
+-- a run in the first 65,536 bytes of out, and in all of second
+module _ (text out second : Bytes) {store output′ second′ store′ : Bytes} {r : Ran}
+    (x : Runs (runText 1000000 2048 51456 (rooms (length (take 65536 out)) (length second)) (length store) text) (take 65536 out) second store r output′ second′ store′)
+    (h : 65603 ≤ length out) (s : length store ≡ 8704) where
   whole : Result
-  whole = runText 1000000 2048 51456 65536 8704 text
+  whole = expandRuns (length second) text
 
-  ran : Runs whole (take 65536 out) store r output′ store′
-  unfolding whole
-  ran = subst (λ (n : ℕ). Runs (runText 1000000 2048 51456 65536 n text) (take 65536 out) store r output′ store′) s
-      (subst (λ (n : ℕ). Runs (runText 1000000 2048 51456 n (length store) text) (take 65536 out) store r output′ store′) (length-take-le 65536 out (omega arith)) x)
+  ran : Runs whole (take 65536 out) second store r output′ second′ store′
+  unfolding whole expandRuns
+  ran = subst (λ (n : ℕ). Runs (runText 1000000 2048 51456 (rooms 65536 (length second)) n text) (take 65536 out) second store r output′ second′ store′) s
+      (subst (λ (n : ℕ). Runs (runText 1000000 2048 51456 (rooms n (length second)) (length store) text) (take 65536 out) second store r output′ second′ store′)
+      (length-take-le 65536 out (omega arith)) x)
 
-  short : length (whole .output) ≤ 65536
-  short =
-      let a = ap (λ (l : Bytes). length l) (ran .writes) in
-      let b = length-append (whole .output) (drop (length (whole .output)) (take 65536 out)) in
-      let c = length-take-le 65536 out (omega arith) in
-      omega arith
+  module _ (kept : length output′ ≡ length (take 65536 out)) where
+    short : length (whole .output .first) ≤ 65536
+    short =
+        let a = ap (λ (l : Bytes). length l) (ran .writes) in
+        let b = length-append (whole .output .first) (drop (length (whole .output .first)) (take 65536 out)) in
+        let c = length-take-le 65536 out (omega arith) in
+        omega arith
 
-  out-written : Prints out 0 (whole .output) (r .output) (output′ ++ drop 65536 out)
-  unfolding ranAs
-  out-written =
-      let n : ℕ = length (whole .output) in
-      let c = length-take-le 65536 out (omega arith) in
-      let d = short in
-      let e : r .output ≡ n = ap (λ (y : Ran). y .output) (ran .is) in
-      written-prints (record {
-        is = ap (λ (l : Bytes). l ++ drop 65536 out) (ran .writes) ∙ append-assoc (whole .output) (drop n (take 65536 out)) (drop 65536 out)
-            ∙ ap (λ (l : Bytes). whole .output ++ l) (sym (drop-append-le n (take 65536 out) (drop 65536 out) (omega arith)) ∙ ap (λ (l : Bytes). drop n l) (take-append-drop 65536 out))
-            ∙ ap (λ (k : ℕ). whole .output ++ drop k out) (sym e);
-        long = sym e;
-        fits = omega arith;
-      })
+    out-written : Prints out 0 (whole .output .first) (r .output) (output′ ++ drop 65536 out)
+    unfolding ranAs
+    out-written =
+        let n : ℕ = length (whole .output .first) in
+        let c = length-take-le 65536 out (omega arith) in
+        let d = short in
+        let e : r .output ≡ n = ap (λ (y : Ran). y .output) (ran .is) in
+        written-prints (record {
+          is = ap (λ (l : Bytes). l ++ drop 65536 out) (ran .writes) ∙ append-assoc (whole .output .first) (drop n (take 65536 out)) (drop 65536 out)
+              ∙ ap (λ (l : Bytes). whole .output .first ++ l) (sym (drop-append-le n (take 65536 out) (drop 65536 out) (omega arith)) ∙ ap (λ (l : Bytes). drop n l) (take-append-drop 65536 out))
+              ∙ ap (λ (k : ℕ). whole .output .first ++ drop k out) (sym e);
+          long = sym e;
+          fits = omega arith;
+        })
 
-  pub run-room : RoomFor (output′ ++ drop 65536 out) (r .output) (endRow (r .number) (r .line) (r .events))
-  run-room =
-      let p = out-written in
-      let e = end-row-long (r .number) (r .line) (r .events) in
-      let d = short in
-      record { fits = omega (arith, p .ends, p .long) }
+    second-written : length second′ ≡ length second → Prints second 0 (whole .output .second) (r .second) second′
+    unfolding ranAs
+    second-written l =
+        let e : r .second ≡ length (whole .output .second) = ap (λ (y : Ran). y .second) (ran .is) in
+        written-prints (record {
+          is = ran .writes-second ∙ ap (λ (k : ℕ). whole .output .second ++ drop k second) (sym e);
+          long = sym e;
+          fits = omega (arith, ran .written-second);
+        })
 
-  pub run-prints : {k : ℕ} {o : Bytes} → Prints (output′ ++ drop 65536 out) (r .output) (endRow (r .number) (r .line) (r .events)) k o → Prints out 0 (expandPrints text) k o
-  unfolding whole expandPrints runPrinted ranAs
-  run-prints p = prints-as (ap (λ (y : Ran). whole .output ++ endRow (y .number) (y .line) (y .events)) (ran .is)) (prints-more out-written p)
+    pub run-leaves : length second′ ≡ length second → Leaves (expandRuns (length second) text) out second r (output′ ++ drop 65536 out) second′
+    unfolding whole
+    run-leaves l =
+        let p = out-written in
+        let e = end-row-long (r .number) (r .line) (r .events) in
+        let d = short in
+        record { is = ran .is; prints = p; writes = second-written l; room = record { fits = omega (arith, p .ends, p .long) } }
+
+-- the output, then the row that ends it
+pub run-prints : {out second : Bytes} (n : ℕ) (text : Bytes) {r : Ran} {o p : Bytes} → Leaves (expandRuns n text) out second r o p
+    → {k : ℕ} {o′ : Bytes} → Prints o (r .output) (endRow (r .number) (r .line) (r .events)) k o′ → Prints out 0 (expandPrints n text) k o′
+unfolding expandPrints runPrinted ranAs
+run-prints n text l p = prints-as (ap (λ (y : Ran). expandRuns n text .output .first ++ endRow (y .number) (y .line) (y .events)) (l .is)) (prints-more (l .prints) p)
+
+pub run-writes : {out second : Bytes} (n : ℕ) (text : Bytes) {r : Ran} {o p : Bytes} → Leaves (expandRuns n text) out second r o p → Prints second 0 (expandWrites n text) (r .second) p
+unfolding expandWrites
+run-writes n text l = l .writes
 
 -- ---- a row of check_text
 

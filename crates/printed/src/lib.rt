@@ -14,8 +14,8 @@ ghost use Prim.Native.Nat.{_+_, _*_, _≤_};
 ghost use lib.ListN.{length};
 ghost use Rattle.model.specs.Store.{decimal};
 ghost use Rattle.model.specs.Results.{checkText};
-ghost use Rattle.model.specs.Printed.{spaced, endRow, expandPrints, checkRow, pieceRow, fitRow, fitPrints};
-ghost use Rattle.printed.specs.Prints.{RoomFor, Prints};
+ghost use Rattle.model.specs.Printed.{spaced, endRow, expandRuns, expandPrints, expandWrites, checkRow, pieceRow, fitRow, fitPrints};
+ghost use Rattle.printed.specs.Prints.{RoomFor, Prints, Leaves};
 
 // The room for what expand prints: all of a run's output, and its end in at most 67 bytes.
 pub const EXPAND_ROOM: usize = 65603;
@@ -76,14 +76,34 @@ fn add_end(out: &mut [u8], at: usize, r: Ran) -> usize
     add_bytes(out, end, b"\n")
 }
 
-// What expand prints for a text.
-pub fn print_run(text: &[u8], out: &mut [u8]) -> usize
+// Runs a text as expand does: the output goes to the front of out, where the row that ends it has room behind it, and all of `second` is
+// channel 4's room.
+fn run_text(text: &[u8], out: &mut [u8], second: &mut [u8]) -> Ran
     requires { ⌜ 65603 ≤ length (now out) ⌝ }
-    ensures { λ r. ⌜ Prints (now (out .entry)) 0 (expandPrints (now (text .entry))) r (now (out .exit)) ⌝ }
+    ensures { λ r. ⌜ Leaves (expandRuns (length (now (second .entry))) (now (text .entry))) (now (out .entry)) (now (second .entry)) r (now (out .exit)) (now (second .exit)) ⌝ }
 {
     let mut store = [0u8; STORE_LEAST];
-    let r = with_row::run(text, FUEL_MOST, &mut out[0..TEXT_MOST], &mut store);
-    add_end(out, r.output as usize, r)
+    with_row::run(text, FUEL_MOST, &mut out[0..TEXT_MOST], second, &mut store)
+}
+
+// How many bytes expand prints, and how many it writes to channel 4's file.
+pub struct Shown {
+    pub printed: usize,
+    pub second: usize,
+}
+
+// What expand prints for a text, in out, and what it writes to channel 4's file, in second.
+pub fn print_run(text: &[u8], out: &mut [u8], second: &mut [u8]) -> Shown
+    requires { ⌜ 65603 ≤ length (now out) ⌝ }
+    ensures { λ r. ⌜ Prints (now (out .entry)) 0 (expandPrints (length (now (second .entry))) (now (text .entry))) (r .printed) (now (out .exit)) ⌝ }
+    ensures { λ r. ⌜ Prints (now (second .entry)) 0 (expandWrites (length (now (second .entry))) (now (text .entry))) (r .second) (now (second .exit)) ⌝ }
+{
+    let r = run_text(text, out, second);
+    let printed = add_end(out, r.output as usize, r);
+    Shown {
+        printed,
+        second: r.second as usize,
+    }
 }
 
 // A file's name, with what checking its text answers.

@@ -10,7 +10,7 @@ use Rattle.model.specs.declared.Ran.{Ran}
 use Rattle.model.specs.Text.{Bytes}
 use Rattle.model.specs.Store.{listing}
 use Rattle.model.specs.Load.{load}
-use Rattle.model.specs.Machine.{Next, running, after, initial, Result, outcome, run}
+use Rattle.model.specs.Machine.{rooms, outputs, Next, running, after, noOutput, initial, Result, outcome, run}
 use Rattle.model.specs.Results.{ranAs}
 use Rattle.nodes.specs.declared.Node.{Node}
 use Rattle.buffer.specs.Written.{Written}
@@ -30,33 +30,37 @@ use Rattle.prepare.specs.declared.Tables.{Tables}
 use Rattle.prepare.specs.Prepares.{Prepares}
 use Rattle.answer.specs.declared.Answer.{Answer}
 use Rattle.answer.specs.Answers.{turn, endNumber, resultAfter}
+use Rattle.answer.specs.Kept.{Extends}
 use Rattle.input.specs.Expands.{Expands}
 use Rattle.model.specs.Runs.{Runs}
 use Rattle.run.specs.Inner.{refusal, ReadyToRun, startOf, EndsRun}
 
 -- ---- the same answer for an equal result
 
-pub same-runs : {x y : Result} {output store : Bytes} {r : Ran} {output′ store′ : Bytes} → x ≡ y → Runs x output store r output′ store′ → Runs y output store r output′ store′
-same-runs {output = output} {store = store} {r = r} {output′ = output′} {store′ = store′} e h = subst (λ (z : Result). Runs z output store r output′ store′) e h
+pub same-runs : {x y : Result} {output second store : Bytes} {r : Ran} {output′ second′ store′ : Bytes} → x ≡ y → Runs x output second store r output′ second′ store′
+    → Runs y output second store r output′ second′ store′
+same-runs {output = output} {second = second} {store = store} {r = r} {output′ = output′} {second′ = second′} {store′ = store′} e h =
+    subst (λ (z : Result). Runs z output second store r output′ second′ store′) e h
 
 -- ---- nothing is written
 
-pub refuses : {k n : ℕ} {output store : Bytes} {r : Ran} → r ≡ ranAs (refusal k n) → Runs (refusal k n) output store r output store
-unfolding ranAs
+pub refuses : {k n : ℕ} {output second store : Bytes} {r : Ran} → r ≡ ranAs (refusal k n) → Runs (refusal k n) output second store r output second store
+unfolding ranAs noOutput
 refuses {r = r} e =
     let w : r .output ≡ 0 = ap (λ (x : Ran). x .output) e in
+    let v : r .second ≡ 0 = ap (λ (x : Ran). x .second) e in
     let l : r .store ≡ 0 = ap (λ (x : Ran). x .store) e in
-    record { is = e; writes = refl; lists = refl; written = omega arith; listed = omega arith }
+    record { is = e; writes = refl; writes-second = refl; lists = refl; written = omega arith; written-second = omega arith; listed = omega arith }
 
-pub refused-as : {a b k n : ℕ} → a ≡ k → b ≡ n → record { number = a; line = b; events = 0; output = 0; store = 0 } ≡ ranAs (refusal k n)
-unfolding ranAs
-refused-as e f = λ i. record { number = e i; line = f i; events = 0; output = 0; store = 0 }
+pub refused-as : {a b k n : ℕ} → a ≡ k → b ≡ n → record { number = a; line = b; events = 0; output = 0; second = 0; store = 0 } ≡ ranAs (refusal k n)
+unfolding ranAs noOutput
+refused-as e f = λ i. record { number = e i; line = f i; events = 0; output = 0; second = 0; store = 0 }
 
 -- a text that is refused
-pub refused-runs : {text : Bytes} {row : List Node} {t : Tables} (fuel : ℕ) {output store : Bytes} {r : Ran} → Prepares text row t → ¬ (t .loading .number ≡ 0)
-    → r ≡ ranAs (refusal (t .loading .number) (t .loading .line)) → Runs (run fuel (length output) (load text)) output store r output store
+pub refused-runs : {text : Bytes} {row : List Node} {t : Tables} (fuel : ℕ) {output second store : Bytes} {r : Ran} → Prepares text row t → ¬ (t .loading .number ≡ 0)
+    → r ≡ ranAs (refusal (t .loading .number) (t .loading .line)) → Runs (run fuel (rooms (length output) (length second)) (load text)) output second store r output second store
 unfolding run
-refused-runs fuel {output = output} p z e = same-runs (ap (run fuel (length output)) (sym (loads-refused (p .all) z))) (refuses e)
+refused-runs fuel {output = output} {second = second} p z e = same-runs (ap (run fuel (rooms (length output) (length second))) (sym (loads-refused (p .all) z))) (refuses e)
 
 -- ---- a text that is prepared is ready for its expansion
 
@@ -89,51 +93,76 @@ ready {text} {row} {t} p z b =
 -- ---- the expansion of a text that is ready
 
 -- the answer, once memory is listed
-pub ended-as : {q : Answer} {memory store store′ : Bytes} {a b c d e k n : ℕ} → Lists memory (q .state .index) store n store′ → k ≡ endNumber (turn q) → a ≡ k
-    → b ≡ q .state .line → c ≡ q .state .events → d ≡ q .state .written → e ≡ n → EndsRun q memory store (record { number = a; line = b; events = c; output = d; store = e }) store′
-ended-as {q} {memory} {store} {store′} {e = e} h z u v w x y =
+pub ended-as : {q : Answer} {memory store store′ : Bytes} {a b c d e f k n : ℕ} → Lists memory (q .state .index) store n store′ → k ≡ endNumber (turn q) → a ≡ k
+    → b ≡ q .state .line → c ≡ q .state .events → d ≡ q .state .written → f ≡ q .state .second → e ≡ n
+    → EndsRun q memory store (record { number = a; line = b; events = c; output = d; second = f; store = e }) store′
+ended-as {q} {memory} {store} {store′} {e = e} h z u v w x s y =
     record {
-      is = λ i. record { number = (u ∙ z) i; line = v i; events = w i; output = x i; store = e };
+      is = λ i. record { number = (u ∙ z) i; line = v i; events = w i; output = x i; second = s i; store = e };
       lists = subst (λ (k : ℕ). Written store (listing (held (q .state .index .count) memory)) k store′) (sym y) (h .is);
     }
+
+-- an output's first bytes are what was written, and the others are unchanged
+extended : {o : Bytes} {w : ℕ} {o′ : Bytes} {w′ : ℕ} → Extends o w o′ w′ → o′ ≡ take w′ o′ ++ drop (length (take w′ o′)) o
+extended {o} {w} {o′} {w′} e =
+    sym (take-append-drop w′ o′) ∙ ap (λ (z : Bytes). take w′ o′ ++ z) (e .rest) ∙ ap (λ (n : ℕ). take w′ o′ ++ drop n o) (sym (length-take-le w′ o′ (omega (arith, e .long, e .fits))))
 
 module _ {text : Bytes} {row : List Node} {count : ℕ} {bodies : List ℕ} {l : Loading} (y : ReadyToRun text row count bodies l) where
   pub prepared : Prepared (l .marks) text row count bodies
   prepared = record { table = y .table; book = y .book }
 
-  module _ {x : Index} {fuel : ℕ} {s : State} (is : s ≡ startOf l x fuel) where
-    pub starts-within : (s .at ≤ length text) × (s .line ≤ 65536)
-    starts-within = subst (λ (z : State). (z .at ≤ length text) × (z .line ≤ 65536)) (sym is) (y .at, y .line)
+  module _ {x : Index} {fuel : ℕ} {s : State} (is : s ≡ startOf l x fuel) {memory : Bytes} (h : Holds memory x []) where
+    pub starts-sound : {output second : Bytes} → fuel ≤ 1000000 → Sound text s (outputs output second) memory
+    starts-sound {output} {second} f =
+        subst (λ (z : State). Sound text z (outputs output second) memory) (sym is)
+        (record {
+          within = y .at;
+          lines = omega (arith, y .line, y .book .short);
+          written = omega arith;
+          second = omega arith;
+          kept = h .kept;
+          symbols = omega arith;
+          calls = omega arith;
+          total = omega arith;
+        })
 
-    module _ {memory : Bytes} (h : Holds memory x []) where
-      pub starts-sound : {output : Bytes} → fuel ≤ 1000000 → Sound s output memory
-      starts-sound {output} f =
-          subst (λ (z : State). Sound z output memory) (sym is)
-          (record { written = omega arith; kept = h .kept; symbols = omega arith; calls = omega arith; total = omega arith })
+    module _ {output second : Bytes} {q : Answer} {output′ second′ memory′ : Bytes}
+        (e : Expands (l .marks) text row count bodies s (outputs output second) memory q (outputs output′ second′) memory′) where
+      begins : _≡_ {A = Next} (running (initial (y .table))) (running (stateOf text none [] (startOf l x fuel) (outputs output second) memory))
+      unfolding initial noOutput
+      begins = λ i. running (record {
+        input = y .input i;
+        line = y .last i;
+        pending = none;
+        frames = [];
+        calls = 0;
+        shared = record { symbols = 0; store = sym (h .is) i; output = noOutput };
+        events = 0;
+      })
 
-      module _ {output : Bytes} {q : Answer} {output′ memory′ : Bytes} (e : Expands (l .marks) text row count bodies s output memory q output′ memory′) where
-        begins : _≡_ {A = Next} (running (initial (y .table))) (running (stateOf text none [] (startOf l x fuel) output memory))
-        unfolding initial
-        begins = λ i. running (record { input = y .input i; line = y .last i; pending = none; frames = []; calls = 0; shared = record { symbols = 0; store = sym (h .is) i; output = [] }; events = 0 })
+      expands : Expands (l .marks) text row count bodies (startOf l x fuel) (outputs output second) memory q (outputs output′ second′) memory′
+      expands = subst (λ (z : State). Expands (l .marks) text row count bodies z (outputs output second) memory q (outputs output′ second′) memory′) is e
 
-        expands : Expands (l .marks) text row count bodies (startOf l x fuel) output memory q output′ memory′
-        expands = subst (λ (z : State). Expands (l .marks) text row count bodies z output memory q output′ memory′) is e
+      -- what the run of the loaded text comes to
+      whole : resultAfter q (outputs output′ second′) memory′ ≡ run fuel (rooms (length output) (length second)) (load text)
+      unfolding run
+      whole = sym (ap (run fuel (rooms (length output) (length second))) (y .loads)
+          ∙ ap (λ (z : Next). outcome (after fuel (rooms (length output) (length second)) (y .table) z)) begins ∙ expands .same (y .table) (y .book))
 
-        -- what the run of the loaded text comes to
-        whole : resultAfter q output′ memory′ ≡ run fuel (length output) (load text)
-        unfolding run
-        whole = sym (ap (run fuel (length output)) (y .loads) ∙ ap (λ (z : Next). outcome (after fuel (length output) (y .table) z)) begins ∙ expands .same (y .table) (y .book))
-
-        pub loaded-runs : {store : Bytes} {r : Ran} {store′ : Bytes} → EndsRun q memory′ store r store′ → Runs (run fuel (length output) (load text)) output store r output′ store′
-        unfolding ranAs
-        loaded-runs {store} {r} {store′} d =
-            let w = length-take-le (q .state .written) output′ (e .sound .written) in
-            let o : r .output ≡ q .state .written = ap (λ (z : Ran). z .output) (d .is) in
-            same-runs whole (record {
-              is = d .is ∙ (λ i. record { number = endNumber (turn q); line = q .state .line; events = q .state .events; output = sym w i; store = sym (d .lists .long) i });
-              writes = sym (take-append-drop (q .state .written) output′) ∙ ap (λ (z : Bytes). take (q .state .written) output′ ++ z) (e .extends .rest)
-                  ∙ ap (λ (n : ℕ). take (q .state .written) output′ ++ drop n output) (sym w);
-              lists = d .lists .is ∙ ap (λ (n : ℕ). listing (held (q .state .index .count) memory′) ++ drop n store) (sym (d .lists .long));
-              written = omega (arith, e .sound .written);
-              listed = omega (arith, d .lists .fits, written-length (d .lists));
-            })
+      pub loaded-runs : {store : Bytes} {r : Ran} {store′ : Bytes} → EndsRun q memory′ store r store′
+          → Runs (run fuel (rooms (length output) (length second)) (load text)) output second store r output′ second′ store′
+      unfolding ranAs
+      loaded-runs {store} {r} {store′} d =
+          let w = length-take-le (q .state .written) output′ (e .sound .written) in
+          let v = length-take-le (q .state .second) second′ (e .sound .second) in
+          let o : r .output ≡ q .state .written = ap (λ (z : Ran). z .output) (d .is) in
+          let p : r .second ≡ q .state .second = ap (λ (z : Ran). z .second) (d .is) in
+          same-runs whole (record {
+            is = d .is ∙ (λ i. record { number = endNumber (turn q); line = q .state .line; events = q .state .events; output = sym w i; second = sym v i; store = sym (d .lists .long) i });
+            writes = extended (e .extends .first);
+            writes-second = extended (e .extends .second);
+            lists = d .lists .is ∙ ap (λ (n : ℕ). listing (held (q .state .index .count) memory′) ++ drop n store) (sym (d .lists .long));
+            written = omega (arith, e .sound .written);
+            written-second = omega (arith, e .sound .second);
+            listed = omega (arith, d .lists .fits, written-length (d .lists));
+          })

@@ -8,7 +8,7 @@ use Rattle.model.specs.declared.Ran.{Ran}
 use Rattle.model.specs.Text.{Bytes, lines}
 use Rattle.model.specs.Store.{listing}
 use Rattle.model.specs.Load.{Loaded, loaded, load}
-use Rattle.model.specs.Machine.{Result}
+use Rattle.model.specs.Machine.{noOutput, Result}
 use Rattle.buffer.specs.Written.{Written}
 use Rattle.nodes.specs.declared.Node.{Node}
 use Rattle.store.specs.declared.Index.{Index}
@@ -21,7 +21,7 @@ use Rattle.answer.specs.Answers.{turn, endNumber}
 
 -- the result of a text that is refused, or of illegal arguments
 abbrev pub refusal : ℕ → ℕ → Result
-refusal k n = record { number = k; line = n; events = 0; output = []; store = [] }
+refusal k n = record { number = k; line = n; events = 0; output = noOutput; store = [] }
 
 -- a text is loaded: the tree of its templates stands in the row, with `count` nodes, and `bodies` says where their bodies start
 pub record ReadyToRun (text : Bytes) (row : List Node) (count : ℕ) (bodies : List ℕ) (r : Loading) : Type 0 where
@@ -35,9 +35,9 @@ pub record ReadyToRun (text : Bytes) (row : List Node) (count : ℕ) (bodies : L
 
 -- the state before the first input line
 abbrev pub startOf : Loading → Index → ℕ → State
-startOf r x fuel = record { at = r .input; line = r .line; calls = 0; symbols = 0; index = x; written = 0; events = 0; fuel = fuel }
+startOf r x fuel = record { at = r .input; line = r .line; calls = 0; symbols = 0; index = x; written = 0; second = 0; events = 0; fuel = fuel }
 
 -- r is the answer of a run that ended with q, and what memory holds is listed in the store
 pub record EndsRun (q : Answer) (memory store : Bytes) (r : Ran) (store′ : Bytes) : Type 0 where
-  pub is : r ≡ record { number = endNumber (turn q); line = q .state .line; events = q .state .events; output = q .state .written; store = r .store }
+  pub is : r ≡ record { number = endNumber (turn q); line = q .state .line; events = q .state .events; output = q .state .written; second = q .state .second; store = r .store }
   pub lists : Written store (listing (held (q .state .index .count) memory)) (r .store) store′

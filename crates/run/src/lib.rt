@@ -1,11 +1,12 @@
 // The run of a text that is prepared (document 01, "Events, store and result"): its input is expanded with the caller's fuel into
-// the caller's output, and the names that were stored are listed in the caller's store.
+// the caller's outputs, and the names that were stored are listed in the caller's store.
 ghost use mathlib.Core.Path.{_≡_};
 ghost use mathlib.Core.List.{[]};
 ghost use Prim.Native.Nat.{_≤_};
 ghost use lib.ListN.{length};
 ghost use Rattle.model.specs.Load as Load;
 ghost use Rattle.model.specs.Machine as Machine;
+ghost use Rattle.model.specs.Machine.{rooms};
 ghost use Rattle.model.specs.Results.{ranAs};
 ghost use Rattle.store.specs.Memory.{Kept, Holds};
 ghost use Rattle.prepare.specs.Prepares.{Prepares};
@@ -37,6 +38,7 @@ pub fn refuse(number: usize, line: usize) -> Ran
         line: widen(line),
         events: 0,
         output: 0,
+        second: 0,
         store: 0,
     }
 }
@@ -52,6 +54,7 @@ fn start(loading: Loading, index: Index, fuel: usize) -> State
         symbols: 0,
         index,
         written: 0,
+        second: 0,
         events: 0,
         fuel,
     }
@@ -69,6 +72,7 @@ fn end(q: Answer, memory: &[u8], store: &mut [u8]) -> Ran
         line: widen(s.line),
         events: widen(s.events),
         output: widen(s.written),
+        second: widen(s.second),
         store: widen(n),
     }
 }
@@ -83,14 +87,15 @@ fn run_loaded(
     loading: Loading,
     fuel: usize,
     output: &mut [u8],
+    second: &mut [u8],
     memory: &mut [u8],
     index: Index,
     store: &mut [u8],
 ) -> Ran
     requires { ⌜ ReadyToRun (now text) (now nodes) count (now bodies) loading
         × Holds (now memory) index [] × (fuel ≤ fuelMost) × (storeLeast ≤ length (now store)) × (deadLeast ≤ length (now dead)) ⌝ }
-    ensures { λ r. ⌜ Runs (Machine.run fuel (length (now (output .entry))) (Load.load (now (text .entry))))
-        (now (output .entry)) (now (store .entry)) r (now (output .exit)) (now (store .exit)) ⌝ }
+    ensures { λ r. ⌜ Runs (Machine.run fuel (rooms (length (now (output .entry))) (length (now (second .entry)))) (Load.load (now (text .entry))))
+        (now (output .entry)) (now (second .entry)) (now (store .entry)) r (now (output .exit)) (now (second .exit)) (now (store .exit)) ⌝ }
 {
     let s = start(loading, index, fuel);
     let q = expand_input(
@@ -101,6 +106,7 @@ fn run_loaded(
         dead,
         bodies,
         output,
+        second,
         memory,
         s,
     );
@@ -115,11 +121,12 @@ pub fn run_prepared(
     t: Tables,
     fuel: usize,
     output: &mut [u8],
+    second: &mut [u8],
     store: &mut [u8],
 ) -> Ran
     requires { ⌜ Prepares (now text) (now nodes) t × (fuel ≤ fuelMost) × (storeLeast ≤ length (now store)) × (deadLeast ≤ length (now dead)) ⌝ }
-    ensures { λ r. ⌜ Runs (Machine.run fuel (length (now (output .entry))) (Load.load (now (text .entry))))
-        (now (output .entry)) (now (store .entry)) r (now (output .exit)) (now (store .exit)) ⌝ }
+    ensures { λ r. ⌜ Runs (Machine.run fuel (rooms (length (now (output .entry))) (length (now (second .entry)))) (Load.load (now (text .entry))))
+        (now (output .entry)) (now (second .entry)) (now (store .entry)) r (now (output .exit)) (now (second .exit)) (now (store .exit)) ⌝ }
 {
     let loading = t.loading;
     if loading.number != 0 {
@@ -138,6 +145,7 @@ pub fn run_prepared(
         loading,
         fuel,
         output,
+        second,
         &mut memory,
         index,
         store,

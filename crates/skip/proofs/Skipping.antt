@@ -2,8 +2,8 @@
 use mathlib.Core.Path.{_≡_, refl, sym, ap, ap₂, subst, _∙_}
 use mathlib.Core.Bool.{Bool, true, false, not}
 use mathlib.Core.Option.{Option, none, some}
-use mathlib.Core.List.{List, _∷_}
-use Prim.Native.Nat.{ℕ, _+_, _-_, _*_, _≤_}
+use mathlib.Core.List.{List}
+use Prim.Native.Nat.{ℕ, _+_, _-_, _*_}
 use native.Mathlib.Omega.{arith}
 use borrow.Author.Tests.{ltb-true}
 use lib.IntN.{ℤ, pos, negsuc, natAbs}
@@ -13,12 +13,12 @@ use Rattle.model.specs.declared.Marks.{Marks}
 use Rattle.model.specs.declared.Comparison.{Comparison}
 use Rattle.model.specs.Text.{Bytes, part, same}
 use Rattle.model.specs.Value.{valueOf}
-use Rattle.model.specs.Machine.{skips, skipIn, stepped, param, skipBy, compares, skipIf, skipCompared, wanted}
+use Rattle.model.specs.Machine.{skips, stepped, param, skipBy, compares, skipIf, skipCompared, wanted, Outputs}
 use Rattle.model.proofs.Choices.{false-not-true, when-true, when-false}
 use Rattle.store.specs.Memory.{held}
 use Rattle.store.specs.declared.Index.{Index}
 use Rattle.state.specs.declared.State.{State}
-use Rattle.state.specs.State.{sharedOf, stateOf, Sound}
+use Rattle.state.specs.State.{sharedOf, Sound}
 use Rattle.call.specs.declared.Head.{Head}
 use Rattle.call.specs.Call.{Laid, laid, frameOf, Placed}
 use Rattle.call.specs.Params.{Lies}
@@ -30,9 +30,10 @@ use Rattle.value.specs.Reads.{Values}
 use Rattle.write.specs.Layout.{bare}
 use Rattle.write.proofs.Fields.{lies-param}
 use Rattle.answer.specs.declared.Answer.{Answer}
-use Rattle.answer.specs.Answers.{turn, Turn, Continues, Offers, Back, Halts, goesOn, endsWith, isOffer, offeredLength, settle}
-use Rattle.answer.specs.Kept.{Extends, Stays, Comes}
-use Rattle.answer.proofs.Following.{extends-none, stays-same}
+use Rattle.answer.specs.Answers.{turn, goesOn, endsWith}
+use Rattle.answer.specs.Kept.{ExtendsBoth, Stays, Comes}
+use Rattle.answer.proofs.Expansion.{unoffered-short}
+use Rattle.answer.proofs.Following.{both-none, stays-same}
 use Rattle.answer.proofs.Coming.{comes-as, came-on, came-end}
 use Rattle.landing.specs.Landing.{LandsSkip}
 use Rattle.finish.proofs.Storing.{first-param, second-param}
@@ -45,23 +46,17 @@ param-values {m} {nums} {bytes} {memory = memory} {x = x} {v = v} l h = record {
 -- ---- a skip by a value
 
 -- a skip that is landed is what its step comes to
-lands-come : {m : Marks} {text : Bytes} {c : Head} {n : ℕ} {nums : List ℕ} {bytes : Bytes} {s : State} {o memory b : Bytes} {r : Answer} → Sound s o memory → Placed text (laid c nums bytes) → LandsSkip m text c n s r
+lands-come : {m : Marks} {text : Bytes} {c : Head} {n : ℕ} {nums : List ℕ} {bytes : Bytes} {s : State} {o : Outputs} {memory b : Bytes} {r : Answer} → Sound text s o memory → Placed text (laid c nums bytes) → LandsSkip m text c n s r
     → Comes m text (skips n (frameOf m text (laid c nums bytes)) (sharedOf s o memory)) s o b r nums bytes o memory
 unfolding stepped
 lands-come {m} {text} {c} {n} {nums} {bytes} {s} {o} {memory} {b} {r} h q l = record {
-  same = λ fs. ap (λ (x : State). settle (skipIn m n (frameOf m text (laid c nums bytes) ∷ fs) (sharedOf s o memory) (stateOf text none fs x o memory))) (l .state) ∙ l .same fs nums bytes b o memory;
-  sound = subst (λ (x : State). Sound x o memory) (sym (l .state)) h;
+  same = λ fs. l .same fs nums bytes b o memory;
+  sound = subst (λ (x : State). Sound text x o memory) (sym (l .state)) h;
   placed = l .placed nums bytes q;
-  short = no-offer (turn r) (l .settled);
+  short = unoffered-short (turn r) (l .settled);
   stays = subst (Stays s) (sym (l .state)) (stays-same s);
-  extends = subst (λ (x : State). Extends o (s .written) o (x .written)) (sym (l .state)) (extends-none (h .written));
+  extends = subst (λ (x : State). ExtendsBoth o s o x) (sym (l .state)) (both-none h);
 }
-  where
-    no-offer : (t : Turn) → isOffer t ≡ false → offeredLength t ≤ 200
-    no-offer Continues e = omega arith
-    no-offer (Offers n) e = false-not-true (sym e)
-    no-offer (Back n) e = omega arith
-    no-offer (Halts k) e = omega arith
 
 module _ {m : Marks} {text : Bytes} {c : Head} {v : ℤ} {s : State} {r : Answer} (f : SFits width v) where
   pub skips-negative : ltZ (readBack v) (pos 0) ≡ true → r ≡ endsWith 18 s → SkipsLines m text c v s r
@@ -126,7 +121,7 @@ skips-text {m} {text} {b} {c = c} {memory = memory} {s = s} e f g = record {
 -- ---- values
 
 -- by what the two values are
-compared : (m : Marks) (k : Comparison) (c : Laid) (s : State) (memory text o : Bytes) (i j : Option ℤ) → valueOf m (held (s .index .count) memory) (param (frameOf m text c) 1) ≡ i
+compared : (m : Marks) (k : Comparison) (c : Laid) (s : State) (memory text : Bytes) (o : Outputs) (i j : Option ℤ) → valueOf m (held (s .index .count) memory) (param (frameOf m text c) 1) ≡ i
     → valueOf m (held (s .index .count) memory) (param (frameOf m text c) 2) ≡ j
     → skipCompared m k (valueOf m (held (s .index .count) memory) (param (frameOf m text c) 1)) (valueOf m (held (s .index .count) memory) (param (frameOf m text c) 2)) (frameOf m text c) (sharedOf s o memory)
     ≡ skipCompared m k i j (frameOf m text c) (sharedOf s o memory)

@@ -9,7 +9,7 @@ use Rattle.model.specs.declared.Marks.{Marks}
 use Rattle.model.specs.declared.Comparison.{Comparison}
 use Rattle.model.specs.Text.{Bytes, same}
 use Rattle.model.specs.Value.{valueOf}
-use Rattle.model.specs.Machine.{param, skipBy, skipIf, skipCompared, wanted}
+use Rattle.model.specs.Machine.{param, skipBy, skipIf, skipCompared, wanted, Outputs}
 use Rattle.store.specs.declared.Index.{Index}
 use Rattle.store.specs.Memory.{held}
 use Rattle.state.specs.declared.State.{State}
@@ -24,7 +24,7 @@ use Rattle.answer.specs.Kept.{Comes}
 
 -- a skip by the value v
 pub record SkipsLines (m : Marks) (text : Bytes) (c : Head) (v : ℤ) (s : State) (r : Answer) : Type 0 where
-  pub comes : (nums : List ℕ) (bytes o memory b : Bytes) → Placed text (laid c nums bytes) → Sound s o memory
+  pub comes : (nums : List ℕ) (bytes : Bytes) (o : Outputs) (memory b : Bytes) → Placed text (laid c nums bytes) → Sound text s o memory
       → Comes m text (skipBy (some v) (frameOf m text (laid c nums bytes)) (sharedOf s o memory)) s o b r nums bytes o memory
 
 -- v is the value of parameter d
@@ -37,22 +37,22 @@ pub record Agrees (nums : List ℕ) (bytes : Bytes) (q : Bool) : Type 0 where
 
 -- F4, by parameter d
 pub record SkipsBy (m : Marks) (text : Bytes) (c : Laid) (d : ℕ) (memory : Bytes) (s : State) (r : Answer) : Type 0 where
-  pub comes : (o b : Bytes) → Placed text c → Sound s o memory
+  pub comes : (o : Outputs) (b : Bytes) → Placed text c → Sound text s o memory
       → Comes m text (skipBy (valueOf m (held (s .index .count) memory) (param (frameOf m text c) d)) (frameOf m text c) (sharedOf s o memory)) s o b r (c .nums) (c .bytes) o memory
 
 -- by parameter 3, where a test holds
 pub record SkipsIf (m : Marks) (text : Bytes) (q : Bool) (c : Laid) (memory : Bytes) (s : State) (r : Answer) : Type 0 where
-  pub comes : (o b : Bytes) → Placed text c → Sound s o memory
+  pub comes : (o : Outputs) (b : Bytes) → Placed text c → Sound text s o memory
       → Comes m text (skipIf m q (frameOf m text c) (sharedOf s o memory)) s o b r (c .nums) (c .bytes) o memory
 
 -- F5
 pub record SkipsText (m : Marks) (text : Bytes) (q : Bool) (c : Laid) (memory : Bytes) (s : State) (r : Answer) : Type 0 where
-  pub comes : (o b : Bytes) → Placed text c → Sound s o memory
+  pub comes : (o : Outputs) (b : Bytes) → Placed text c → Sound text s o memory
       → Comes m text (skipIf m (wanted q (same (param (frameOf m text c) 1) (param (frameOf m text c) 2))) (frameOf m text c) (sharedOf s o memory)) s o b r (c .nums) (c .bytes) o memory
 
 -- F6
 pub record SkipsValue (m : Marks) (text : Bytes) (k : Comparison) (c : Laid) (memory : Bytes) (s : State) (r : Answer) : Type 0 where
-  pub comes : (o b : Bytes) → Placed text c → Sound s o memory
+  pub comes : (o : Outputs) (b : Bytes) → Placed text c → Sound text s o memory
       → Comes m text
       (skipCompared m k (valueOf m (held (s .index .count) memory) (param (frameOf m text c) 1)) (valueOf m (held (s .index .count) memory) (param (frameOf m text c) 2)) (frameOf m text c) (sharedOf s o memory))
       s o b r (c .nums) (c .bytes) o memory

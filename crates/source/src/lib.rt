@@ -1,11 +1,11 @@
-// What a program reads: a whole descriptor or a whole file into a lent buffer, with a failed read told from the end; and its messages
-// about files.
+// What a program reads: a whole descriptor or a whole file into a lent buffer, with a failed read told from the end; what its arguments
+// are; and its messages about files.
 ghost use mathlib.Core.Path.{_≡_};
 ghost use mathlib.Core.Bool.{true, false};
 ghost use mathlib.Core.List.{[], _∷_};
 ghost use Prim.Native.Nat.{_+_, _≤_};
 ghost use lib.ListN.{length};
-ghost use Rattle.model.specs.Text.{same};
+ghost use Rattle.model.specs.Text.{same, startsWith};
 ghost use Rattle.source.specs.Answer.{gotOf};
 use libc::STDERR_FILENO;
 
@@ -97,6 +97,23 @@ pub fn is_help_asked() -> bool {
     let mut space = [0u8; 131072];
     let n = os::arg(1, &mut space);
     asks_help(&space[..n])
+}
+
+// Whether an argument is an option, and no name: it begins with a minus.
+pub fn is_option(argument: &[u8]) -> bool
+    ensures { λ r. ⌜ r ≡ startsWith 45 (now (argument .entry)) ⌝ }
+{
+    if argument.len() == 0 {
+        return false;
+    }
+    argument[0] == b'-'
+}
+
+// Whether it is the option that the file for channel 4 follows.
+pub fn asks_second(argument: &[u8]) -> bool
+    ensures { λ r. ⌜ r ≡ same (now (argument .entry)) (45 ∷ 52 ∷ []) ⌝ }
+{
+    buffer::same_bytes(argument, b"-4")
 }
 
 // Says of a file, after the program's name, what is wrong with it.

@@ -9,7 +9,7 @@ use borrow.Author.Tests.{ltb-false}
 use Rattle.model.specs.declared.Ran.{Ran}
 use Rattle.model.specs.Text.{Bytes}
 use Rattle.model.specs.Load.{Loaded, loaded, load}
-use Rattle.model.specs.Machine.{run}
+use Rattle.model.specs.Machine.{Rooms, rooms, run}
 use Rattle.model.specs.Results.{shortRow, shortDead, illegal, runText, ranAs}
 use Rattle.model.specs.Runs.{Runs}
 use Rattle.model.specs.Demands.{FollowsExpansion}
@@ -26,7 +26,7 @@ unfolding illegal shortRow shortDead
 tested fuel rows dead store = record {
   is = refl;
   few = λ e. ltb-false _ _ (or-false (ltb 1000000 fuel) _ (past-fuel e) .0);
-  nodes = λ e. ltb-false _ _ (or-false (ltb rows 2048) _ (rooms e) .0);
+  nodes = λ e. ltb-false _ _ (or-false (ltb rows 2048) _ (lent e) .0);
   places = λ e. ltb-false _ _ (last e .0);
   room = λ e. ltb-false _ _ (last e .1);
 }
@@ -34,17 +34,17 @@ tested fuel rows dead store = record {
     past-fuel : (ltb fuel 1 || (ltb 1000000 fuel || (ltb rows 2048 || (ltb dead 51456 || ltb store 8704)))) ≡ false → (ltb 1000000 fuel || (ltb rows 2048 || (ltb dead 51456 || ltb store 8704))) ≡ false
     past-fuel e = or-false (ltb fuel 1) _ e .1
 
-    rooms : (ltb fuel 1 || (ltb 1000000 fuel || (ltb rows 2048 || (ltb dead 51456 || ltb store 8704)))) ≡ false → (ltb rows 2048 || (ltb dead 51456 || ltb store 8704)) ≡ false
-    rooms e = or-false (ltb 1000000 fuel) _ (past-fuel e) .1
+    lent : (ltb fuel 1 || (ltb 1000000 fuel || (ltb rows 2048 || (ltb dead 51456 || ltb store 8704)))) ≡ false → (ltb rows 2048 || (ltb dead 51456 || ltb store 8704)) ≡ false
+    lent e = or-false (ltb 1000000 fuel) _ (past-fuel e) .1
 
     last : (ltb fuel 1 || (ltb 1000000 fuel || (ltb rows 2048 || (ltb dead 51456 || ltb store 8704)))) ≡ false → (ltb dead 51456 ≡ false) × (ltb store 8704 ≡ false)
-    last e = or-false _ _ (or-false (ltb rows 2048) _ (rooms e) .1)
+    last e = or-false _ _ (or-false (ltb rows 2048) _ (lent e) .1)
 
 pub legal-fuel : {fuel rows dead store f : ℕ} {b : Bool} → TestsRooms fuel rows dead store b → b ≡ false → f ≡ fuel → f ≤ 1000000
 legal-fuel h e u = omega (arith, h .few e)
 
 -- ---- illegal arguments, and legal ones
-module _ (fuel rows dead room : ℕ) (text : Bytes) where
+module _ (fuel rows dead : ℕ) (room : Rooms) (text : Bytes) where
   when-illegal : (store : ℕ) → illegal fuel rows dead store ≡ true → refusal 1 0 ≡ runText fuel rows dead room store text
   unfolding runText
   when-illegal store e = sym (when-true _ _ e)
@@ -53,20 +53,22 @@ module _ (fuel rows dead room : ℕ) (text : Bytes) where
   unfolding runText
   when-legal store e = sym (when-false _ _ e)
 
-module _ (fuel rows dead : ℕ) (text output store : Bytes) {b : Bool} (h : TestsRooms fuel rows dead (length store) b) where
-  pub illegal-runs : {r : Ran} → b ≡ true → r ≡ ranAs (refusal 1 0) → Runs (runText fuel rows dead (length output) (length store) text) output store r output store
-  illegal-runs e a = same-runs (when-illegal fuel rows dead (length output) text (length store) (sym (h .is) ∙ e)) (refuses a)
+module _ (fuel rows dead : ℕ) (text output second store : Bytes) where
+  abbrev room : Rooms
+  room = rooms (length output) (length second)
 
-  -- legal ones
-  pub legal-runs : {f : ℕ} {r : Ran} {output′ store′ : Bytes} → b ≡ false → f ≡ fuel → Runs (run f (length output) (load text)) output store r output′ store′
-      → Runs (runText fuel rows dead (length output) (length store) text) output store r output′ store′
-  legal-runs e u a = same-runs (ap (λ (n : ℕ). run n (length output) (load text)) u ∙ when-legal fuel rows dead (length output) text (length store) (sym (h .is) ∙ e)) a
+  module _ {b : Bool} (h : TestsRooms fuel rows dead (length store) b) where
+    pub illegal-runs : {r : Ran} → b ≡ true → r ≡ ranAs (refusal 1 0) → Runs (runText fuel rows dead room (length store) text) output second store r output second store
+    illegal-runs e a = same-runs (when-illegal fuel rows dead room text (length store) (sym (h .is) ∙ e)) (refuses a)
 
--- ---- what document 01 demands
+    -- legal ones
+    pub legal-runs : {f : ℕ} {r : Ran} {output′ second′ store′ : Bytes} → b ≡ false → f ≡ fuel → Runs (run f room (load text)) output second store r output′ second′ store′
+        → Runs (runText fuel rows dead room (length store) text) output second store r output′ second′ store′
+    legal-runs e u a = same-runs (ap (λ (n : ℕ). run n room (load text)) u ∙ when-legal fuel rows dead room text (length store) (sym (h .is) ∙ e)) a
 
-module _ (fuel rows dead : ℕ) (text output store : Bytes) {r : Ran} {output′ store′ : Bytes}
-    (h : Runs (runText fuel rows dead (length output) (length store) text) output store r output′ store′) (t : Loaded) (loads : load text ≡ loaded t)
-    (legal : illegal fuel rows dead (length store) ≡ false) where
-  pub follows-expansion : FollowsExpansion t fuel output store r output′ store′
-  follows-expansion = run-follows text t loads fuel output store
-      (same-runs (sym (when-legal fuel rows dead (length output) text (length store) legal) ∙ ap (run fuel (length output)) loads) h)
+  -- what document 01 demands of them
+
+  pub follows-expansion : {r : Ran} {output′ second′ store′ : Bytes} → Runs (runText fuel rows dead room (length store) text) output second store r output′ second′ store′
+      → (t : Loaded) → load text ≡ loaded t → illegal fuel rows dead (length store) ≡ false → FollowsExpansion t fuel output second store r output′ second′ store′
+  follows-expansion h t loads legal =
+      run-follows text t loads fuel output second store (same-runs (sym (when-legal fuel rows dead room text (length store) legal) ∙ ap (run fuel room) loads) h)

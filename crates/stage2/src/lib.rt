@@ -8,6 +8,7 @@ ghost use lib.ListN.{length};
 ghost use mathlib.Core.Bool.{true, false};
 ghost use Rattle.model.specs.Load as Load;
 ghost use Rattle.model.specs.Load.{Loaded, loaded};
+ghost use Rattle.model.specs.Machine.{rooms};
 ghost use Rattle.model.specs.Results.{shortRow, checkedAs, checkText, noPieces, fittedIn, fitLine, illegal, runText};
 ghost use Rattle.model.specs.FirstReading.{FitsFirst};
 ghost use Rattle.prepare.specs.Prepares.{Prepares};
@@ -175,24 +176,28 @@ fn count_of(n: u64) -> usize
     n as usize
 }
 
-// Runs a text. No more than 2,048 nodes and 51,456 bytes of the lent rows are used; what they hold is free.
+// Runs a text. No more than 2,048 nodes and 51,456 bytes of the lent rows are used; what they hold is free. Channel 3 is the output, and
+// channel 4 the second one; either may have any length.
 pub fn run(
     text: &[u8],
     fuel: u64,
     nodes: &mut [Node],
     dead: &mut [u8],
     output: &mut [u8],
+    second: &mut [u8],
     store: &mut [u8],
 ) -> Ran
-    ensures { λ r. ⌜ Runs (runText fuel (length (now (nodes .entry))) (length (now (dead .entry))) (length (now (output .entry))) (length (now (store .entry))) (now (text .entry)))
-        (now (output .entry)) (now (store .entry)) r (now (output .exit)) (now (store .exit)) ⌝ }
+    ensures { λ r. ⌜ Runs (runText fuel (length (now (nodes .entry))) (length (now (dead .entry)))
+        (rooms (length (now (output .entry))) (length (now (second .entry)))) (length (now (store .entry))) (now (text .entry)))
+        (now (output .entry)) (now (second .entry)) (now (store .entry)) r (now (output .exit)) (now (second .exit)) (now (store .exit)) ⌝ }
     ensures { λ r. ⌜ ((t : Loaded) → Load.load (now (text .entry)) ≡ loaded t
         → illegal fuel (length (now (nodes .entry))) (length (now (dead .entry))) (length (now (store .entry))) ≡ false
-        → FollowsExpansion t fuel (now (output .entry)) (now (store .entry)) r (now (output .exit)) (now (store .exit))) ⌝ }
+        → FollowsExpansion t fuel (now (output .entry)) (now (second .entry)) (now (store .entry)) r
+        (now (output .exit)) (now (second .exit)) (now (store .exit))) ⌝ }
 {
     if is_illegal(fuel, nodes.len(), dead.len(), store.len()) {
         return refuse(1, 0);
     }
     let t = prepare(text, nodes);
-    run_prepared(text, nodes, dead, t, count_of(fuel), output, store)
+    run_prepared(text, nodes, dead, t, count_of(fuel), output, second, store)
 }

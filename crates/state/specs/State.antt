@@ -1,4 +1,4 @@
--- What a run's state by value, with the lent output and memory, stands for in the expansion.
+-- What a run's state by value, with the lent outputs and memory, stands for in the expansion.
 use mathlib.Core.Option.{Option}
 use mathlib.Core.List.{List}
 use Prim.Native.Nat.{ℕ, _+_, _-_, _≤_}
@@ -6,23 +6,27 @@ use lib.ListN.{length, take, drop}
 use Rattle.model.specs.Limits.{fuelMost}
 use Rattle.model.specs.Text.{Bytes, lines}
 use Rattle.model.specs.Machine as Machine
-use Rattle.model.specs.Machine.{Frame, Shared}
+use Rattle.model.specs.Machine.{Frame, Outputs, outputs, Shared}
 use Rattle.store.specs.declared.Index.{Index}
 use Rattle.store.specs.Memory.{held, Kept}
 use Rattle.state.specs.declared.State.{State}
 
 -- what every call shares
-abbrev pub sharedOf : State → (output memory : Bytes) → Shared
-sharedOf s output memory = record { symbols = s .symbols; store = held (s .index .count) memory; output = take (s .written) output }
+abbrev pub sharedOf : State → Outputs → (memory : Bytes) → Shared
+sharedOf s o memory = record { symbols = s .symbols; store = held (s .index .count) memory; output = outputs (take (s .written) (o .first)) (take (s .second) (o .second)) }
 
 -- the expansion's state, with a line that is perhaps to be offered, and the open calls
-abbrev pub stateOf : Bytes → Option Bytes → List Frame → State → (output memory : Bytes) → Machine.State
-stateOf text pending frames s output memory =
-    record { input = lines (drop (s .at) text); line = s .line; pending = pending; frames = frames; calls = s .calls; shared = sharedOf s output memory; events = s .events }
+abbrev pub stateOf : Bytes → Option Bytes → List Frame → State → Outputs → (memory : Bytes) → Machine.State
+stateOf text pending frames s o memory =
+    record { input = lines (drop (s .at) text); line = s .line; pending = pending; frames = frames; calls = s .calls; shared = sharedOf s o memory; events = s .events }
 
 -- what every function of a run asks of its state
-pub record Sound (s : State) (output memory : Bytes) : Type 0 where
-  pub written : s .written ≤ length output
+pub record Sound (text : Bytes) (s : State) (o : Outputs) (memory : Bytes) : Type 0 where
+  -- each line that is read has a byte at least, so that lines are never too many to be counted
+  pub within : s .at ≤ length text
+  pub lines : s .line + length text ≤ fuelMost + s .at
+  pub written : s .written ≤ length (o .first)
+  pub second : s .second ≤ length (o .second)
   pub kept : Kept memory (s .index)
   -- each number of ed2 has its name
   pub symbols : s .symbols ≤ s .index .count
@@ -32,19 +36,19 @@ pub record Sound (s : State) (output memory : Bytes) : Type 0 where
 -- ---- changes of one part
 
 abbrev pub countedEvent : State → State
-countedEvent s = record { at = s .at; line = s .line; calls = s .calls; symbols = s .symbols; index = s .index; written = s .written; events = s .events + 1; fuel = s .fuel - 1 }
+countedEvent s = record { at = s .at; line = s .line; calls = s .calls; symbols = s .symbols; index = s .index; written = s .written; second = s .second; events = s .events + 1; fuel = s .fuel - 1 }
 
 abbrev pub withIndex : State → Index → State
-withIndex s x = record { at = s .at; line = s .line; calls = s .calls; symbols = s .symbols; index = x; written = s .written; events = s .events; fuel = s .fuel }
+withIndex s x = record { at = s .at; line = s .line; calls = s .calls; symbols = s .symbols; index = x; written = s .written; second = s .second; events = s .events; fuel = s .fuel }
 
 abbrev pub withSymbol : State → Index → State
-withSymbol s x = record { at = s .at; line = s .line; calls = s .calls; symbols = s .symbols + 1; index = x; written = s .written; events = s .events; fuel = s .fuel }
+withSymbol s x = record { at = s .at; line = s .line; calls = s .calls; symbols = s .symbols + 1; index = x; written = s .written; second = s .second; events = s .events; fuel = s .fuel }
 
-abbrev pub withWritten : State → ℕ → State
-withWritten s n = record { at = s .at; line = s .line; calls = s .calls; symbols = s .symbols; index = s .index; written = n; events = s .events; fuel = s .fuel }
+abbrev pub withWritten : State → (first second : ℕ) → State
+withWritten s n k = record { at = s .at; line = s .line; calls = s .calls; symbols = s .symbols; index = s .index; written = n; second = k; events = s .events; fuel = s .fuel }
 
 abbrev pub withInput : State → (at line : ℕ) → State
-withInput s at line = record { at = at; line = line; calls = s .calls; symbols = s .symbols; index = s .index; written = s .written; events = s .events; fuel = s .fuel }
+withInput s at line = record { at = at; line = line; calls = s .calls; symbols = s .symbols; index = s .index; written = s .written; second = s .second; events = s .events; fuel = s .fuel }
 
 abbrev pub withCall : State → State
-withCall s = record { at = s .at; line = s .line; calls = s .calls + 1; symbols = s .symbols; index = s .index; written = s .written; events = s .events; fuel = s .fuel }
+withCall s = record { at = s .at; line = s .line; calls = s .calls + 1; symbols = s .symbols; index = s .index; written = s .written; second = s .second; events = s .events; fuel = s .fuel }

@@ -1,4 +1,4 @@
-// What a run carries from one event to the next, by value. Output and memory are lent slices beside it.
+// What a run carries from one event to the next, by value. The outputs and memory are lent slices beside it.
 // An event asks that fuel is left, and what is counted has to be at most 1,000,000, so that no sum is too large. Nothing else is asked.
 ghost use mathlib.Core.Path.{_≡_};
 ghost use Prim.Native.Nat.{_+_, _≤_, _<_};
@@ -19,6 +19,8 @@ pub struct State {
     pub index: Index,
     // how many bytes of the output are written
     pub written: usize,
+    // and how many of the second output
+    pub second: usize,
     pub events: usize,
     pub fuel: usize,
 }
@@ -45,6 +47,7 @@ pub fn set_index(s: State, index: Index) -> State
         symbols: s.symbols,
         index,
         written: s.written,
+        second: s.second,
         events: s.events,
         fuel: s.fuel,
     }
@@ -62,17 +65,19 @@ pub fn count_symbol(s: State, index: Index) -> State
         symbols: s.symbols + 1,
         index,
         written: s.written,
+        second: s.second,
         events: s.events,
         fuel: s.fuel,
     }
 }
 
-// So many bytes of the output are written.
-pub fn set_written(s: State, written: usize) -> State
-    ensures { λ r. ⌜ r ≡ withWritten s written ⌝ }
+// So many bytes of the outputs are written.
+pub fn set_written(s: State, written: usize, second: usize) -> State
+    ensures { λ r. ⌜ r ≡ withWritten s written second ⌝ }
 {
     let mut t = s;
     t.written = written;
+    t.second = second;
     t
 }
 

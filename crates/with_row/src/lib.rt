@@ -4,6 +4,7 @@ ghost use mathlib.Core.Bool.{false};
 ghost use Prim.Native.Nat.{_≤_};
 ghost use lib.ListN.{length};
 ghost use Rattle.model.specs.Load.{Loaded, loaded, load};
+ghost use Rattle.model.specs.Machine.{rooms};
 ghost use Rattle.model.specs.Results.{checkText, fitLine, illegal, runText};
 ghost use Rattle.model.specs.FirstReading.{FitsFirst};
 ghost use Rattle.model.specs.Runs.{Runs};
@@ -47,13 +48,15 @@ pub fn fit(text: &[u8], line: &[u8]) -> Fitted
 }
 
 // Runs a text.
-pub fn run(text: &[u8], fuel: u64, output: &mut [u8], store: &mut [u8]) -> Ran
-    ensures { λ r. ⌜ Runs (runText fuel 2048 51456 (length (now (output .entry))) (length (now (store .entry))) (now (text .entry)))
-        (now (output .entry)) (now (store .entry)) r (now (output .exit)) (now (store .exit)) ⌝ }
+pub fn run(text: &[u8], fuel: u64, output: &mut [u8], second: &mut [u8], store: &mut [u8]) -> Ran
+    ensures { λ r. ⌜ Runs (runText fuel 2048 51456
+        (rooms (length (now (output .entry))) (length (now (second .entry)))) (length (now (store .entry))) (now (text .entry)))
+        (now (output .entry)) (now (second .entry)) (now (store .entry)) r (now (output .exit)) (now (second .exit)) (now (store .exit)) ⌝ }
     ensures { λ r. ⌜ ((t : Loaded) → load (now (text .entry)) ≡ loaded t → illegal fuel 2048 51456 (length (now (store .entry))) ≡ false
-        → FollowsExpansion t fuel (now (output .entry)) (now (store .entry)) r (now (output .exit)) (now (store .exit))) ⌝ }
+        → FollowsExpansion t fuel (now (output .entry)) (now (second .entry)) (now (store .entry)) r
+        (now (output .exit)) (now (second .exit)) (now (store .exit))) ⌝ }
 {
     let mut row = [make_node(); NODES_MOST];
     let mut dead = [0u8; DEAD_LEAST];
-    stage2::run(text, fuel, &mut row, &mut dead, output, store)
+    stage2::run(text, fuel, &mut row, &mut dead, output, second, store)
 }

@@ -6,11 +6,12 @@ use Prim.Native.Nat.{ℕ, _+_, _-_, _≤_, _<_}
 use lib.Dec.{leb}
 use lib.ListN.{getD, take}
 use Rattle.model.specs.declared.Marks.{Marks}
+use Rattle.model.specs.declared.Channel.{Channel}
 use Rattle.model.specs.Text.{Bytes, part}
-use Rattle.model.specs.Machine.{Frame, param, field, fields}
+use Rattle.model.specs.Machine.{Outputs, Frame, param, field, fields}
 use Rattle.call.specs.Call.{slots, Laid, laid, frameOf}
 use Rattle.answer.specs.declared.Answer.{Answer}
-use Rattle.write.specs.Output.{AddsAt, Writes}
+use Rattle.write.specs.Output.{AddsAt, Puts, Writes}
 
 -- whether a byte names a parameter
 abbrev pub isField : ℕ → Bool
@@ -59,9 +60,12 @@ pub record PutsPart (m : Marks) (text : Bytes) (at to : ℕ) (c : Laid) (o : Byt
 pub record PutsLayout (m : Marks) (text : Bytes) (at to : ℕ) (c : Laid) (o : Bytes) (w : ℕ) (o′ : Bytes) : Type 0 where
   pub adds : AddsAt o w (layoutOf m text c (part text at to)) (to - at) o′
 
--- the layout and a byte 10 are written and the answer is r, or there is no room for them.
---   text at to c   the layout text[at..to], with the parameters of c
---   r o            the answer and the output before it
---   a o′           the answer and the output after it
-pub record WritesLayout (m : Marks) (text : Bytes) (at to : ℕ) (c : Laid) (r : Answer) (o : Bytes) (a : Answer) (o′ : Bytes) : Type 0 where
-  pub writes : Writes (layoutOf m text c (part text at to)) r o a o′
+-- and a byte 10 after it, as a line does
+pub record PutsLayoutLine (m : Marks) (text : Bytes) (at to : ℕ) (c : Laid) (o : Bytes) (w r : ℕ) (o′ : Bytes) : Type 0 where
+  pub puts : Puts (layoutOf m text c (part text at to)) o w r o′
+
+-- the layout text[at..to], with the parameters of c, is written to a channel as a line is.
+--   r o    the answer and the outputs before it
+--   a o′   the answer and the outputs after it
+pub record WritesLayout (m : Marks) (ch : Channel) (text : Bytes) (at to : ℕ) (c : Laid) (r : Answer) (o : Outputs) (a : Answer) (o′ : Outputs) : Type 0 where
+  pub writes : Writes ch (layoutOf m text c (part text at to)) r o a o′

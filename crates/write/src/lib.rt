@@ -1,10 +1,11 @@
-// What is written to the output: a line, or a layout with the parameters in its fields, and a byte 10 after it.
+// What is written to an output: a line, or a layout with the parameters in its fields, and a byte 10 after it.
 use answer::Answer;
 use answer::end_with;
 use answer::go_back;
 use buffer::copy;
 use buffer::wide;
 use call::param_len;
+use model::Channel;
 use model::LINE_MOST;
 use model::Marks;
 use state::State;
@@ -12,49 +13,88 @@ use state::set_written;
 ghost use mathlib.Core.Path.{_≡_};
 ghost use Prim.Native.Nat.{_+_, _-_, _≤_, _<_};
 ghost use lib.ListN.{length, replicate};
-ghost use Rattle.write.specs.Output.{AddsAt, WritesLine, ClosesLine};
-ghost use Rattle.write.specs.Layout.{bare, NamesField, RunEnds, PutsField, PutsPart, PutsLayout, WritesLayout};
+ghost use Rattle.write.specs.Output.{AddsAt, PutsLine, wroteTo, AnswersWritten, WritesLine, PassesThrough};
+ghost use Rattle.write.specs.Layout.{bare, NamesField, RunEnds, PutsField, PutsPart, PutsLayout, PutsLayoutLine, WritesLayout};
 ghost use Rattle.call.specs.Call.{Sized};
-ghost use Rattle.answer.specs.Answers.{goesBack};
+ghost use Rattle.model.specs.Machine.{outputs};
 
-// A byte 10 ends a line. The answer is r, with what is written up to there.
-fn end_line(output: &mut [u8], at: usize, r: Answer) -> Answer
-    requires { ⌜ at < length (now output) ⌝ }
-    ensures { λ a. ⌜ ClosesLine (now (output .entry)) at r a (now (output .exit)) ⌝ }
+// The first n bytes of a line, and a byte 10 after them, come after the first w bytes of an output. The answer is how many it then has: w
+// where there is no room for them.
+fn put_line(line: &[u8], n: usize, output: &mut [u8], w: usize) -> usize
+    requires { ⌜ (n ≤ length (now line)) × (w ≤ length (now output)) ⌝ }
+    ensures { λ r. ⌜ PutsLine (now (line .entry)) n (now (output .entry)) w r (now (output .exit)) ⌝ }
 {
-    output[at] = b'\n';
+    if output.len() - w <= n {
+        return w;
+    }
+    let content = &line[0..n];
+    copy(output, w, content);
+    output[w + n] = b'\n';
+    w + n + 1
+}
+
+// The answer r, with so many bytes of the outputs written.
+fn count_written(r: Answer, written: usize, second: usize) -> Answer
+    ensures { λ a. ⌜ a ≡ wroteTo r written second ⌝ }
+{
     let call = r.call;
     let s = r.state;
     Answer {
         kind: r.kind,
         count: r.count,
         call,
-        state: set_written(s, at + 1),
+        state: set_written(s, written, second),
     }
 }
 
-// The first n bytes of a line and a byte 10 after them. The answer is r with the line written; without room for it the run
-// ends with 13.
-pub fn write_line(line: &[u8], n: usize, output: &mut [u8], r: Answer) -> Answer
-    requires { ⌜ (n ≤ length (now line)) × (r .state .written ≤ length (now output)) ⌝ }
-    ensures { λ a. ⌜ WritesLine (now (line .entry)) n r (now (output .entry)) a (now (output .exit)) ⌝ }
+// The same; where these are no more than before there was no room, and the run ends with 13.
+fn answer_written(r: Answer, written: usize, second: usize) -> Answer
+    ensures { λ a. ⌜ AnswersWritten r written second a ⌝ }
 {
     let s = r.state;
-    let w = s.written;
-    if output.len() - w <= n {
-        return end_with(13, s);
+    if written != s.written {
+        return count_written(r, written, second);
     }
-    let content = &line[0..n];
-    copy(output, w, content);
-    end_line(output, w + n, r)
+    if second != s.second {
+        return count_written(r, written, second);
+    }
+    end_with(13, s)
 }
 
-// A line without a reading is written as it is, and is done with.
+// The first n bytes of a line and a byte 10 after them go to a channel. The answer is r with the line written; without room for it the run
+// ends with 13.
+pub fn write_line(
+    ch: Channel,
+    line: &[u8],
+    n: usize,
+    output: &mut [u8],
+    second: &mut [u8],
+    r: Answer,
+) -> Answer
+    requires { ⌜ (n ≤ length (now line)) × (r .state .written ≤ length (now output)) × (r .state .second ≤ length (now second)) ⌝ }
+    ensures { λ a. ⌜ WritesLine ch (now (line .entry)) n r (outputs (now (output .entry)) (now (second .entry))) a (outputs (now (output .exit)) (now (second .exit))) ⌝ }
+{
+    let s = r.state;
+    match ch {
+        Channel::Nowhere => r,
+        Channel::First => {
+            let w = put_line(line, n, output, s.written);
+            answer_written(r, w, s.second)
+        }
+        Channel::Second => {
+            let w = put_line(line, n, second, s.second);
+            answer_written(r, s.written, w)
+        }
+    }
+}
+
+// A line without a reading is written to the first output as it is, and is done with.
 pub fn pass_through(line: &[u8], n: usize, output: &mut [u8], s: State) -> Answer
     requires { ⌜ (n ≤ length (now line)) × (s .written ≤ length (now output)) ⌝ }
-    ensures { λ a. ⌜ WritesLine (now (line .entry)) n (goesBack 0 s) (now (output .entry)) a (now (output .exit)) ⌝ }
+    ensures { λ a. ⌜ PassesThrough (now (line .entry)) n s (now (output .entry)) a (now (output .exit)) ⌝ }
 {
-    write_line(line, n, output, go_back(0, s))
+    let w = put_line(line, n, output, s.written);
+    answer_written(go_back(0, s), w, s.second)
 }
 
 // The byte b, n times from offset `at` on.
@@ -179,8 +219,8 @@ fn write_fields(
     }
 }
 
-// The layout text[at..to] and a byte 10 after it, as a line is written.
-pub fn write_layout(
+// The layout text[at..to] and a byte 10 after it come after the first w bytes of an output, as a line does.
+fn put_layout(
     m: Marks,
     text: &[u8],
     at: usize,
@@ -188,20 +228,52 @@ pub fn write_layout(
     nums: &[usize],
     params: &[u8],
     output: &mut [u8],
+    w: usize,
+) -> usize
+    requires { ⌜ (at ≤ to) × (to ≤ length (now text)) ⌝ }
+    requires { ⌜ Sized (now nums) (now params) ⌝ }
+    requires { ⌜ w ≤ length (now output) ⌝ }
+    ensures { λ r. ⌜ PutsLayoutLine m (now (text .entry)) at to (bare (now (nums .entry)) (now (params .entry)))
+        (now (output .entry)) w r (now (output .exit)) ⌝ }
+{
+    let long = to - at;
+    if output.len() - w <= long {
+        return w;
+    }
+    write_fields(m, text, at, to, nums, params, output, w);
+    output[w + long] = b'\n';
+    w + long + 1
+}
+
+// The layout text[at..to] and a byte 10 after it go to a channel, as a line does.
+pub fn write_layout(
+    m: Marks,
+    ch: Channel,
+    text: &[u8],
+    at: usize,
+    to: usize,
+    nums: &[usize],
+    params: &[u8],
+    output: &mut [u8],
+    second: &mut [u8],
     r: Answer,
 ) -> Answer
     requires { ⌜ (at ≤ to) × (to ≤ length (now text)) ⌝ }
     requires { ⌜ Sized (now nums) (now params) ⌝ }
-    requires { ⌜ r .state .written ≤ length (now output) ⌝ }
-    ensures { λ a. ⌜ WritesLayout m (now (text .entry)) at to (bare (now (nums .entry)) (now (params .entry))) r
-        (now (output .entry)) a (now (output .exit)) ⌝ }
+    requires { ⌜ (r .state .written ≤ length (now output)) × (r .state .second ≤ length (now second)) ⌝ }
+    ensures { λ a. ⌜ WritesLayout m ch (now (text .entry)) at to (bare (now (nums .entry)) (now (params .entry))) r
+        (outputs (now (output .entry)) (now (second .entry))) a (outputs (now (output .exit)) (now (second .exit))) ⌝ }
 {
     let s = r.state;
-    let n = to - at;
-    let w = s.written;
-    if output.len() - w <= n {
-        return end_with(13, s);
+    match ch {
+        Channel::Nowhere => r,
+        Channel::First => {
+            let w = put_layout(m, text, at, to, nums, params, output, s.written);
+            answer_written(r, w, s.second)
+        }
+        Channel::Second => {
+            let w = put_layout(m, text, at, to, nums, params, second, s.second);
+            answer_written(r, s.written, w)
+        }
     }
-    write_fields(m, text, at, to, nums, params, output, w);
-    end_line(output, w + n, r)
 }

@@ -1,5 +1,5 @@
-//! Prints how many random texts gave each number, and how many places the lines
-//! of texts about places take up: `distribution [SEED] [COUNT]`.
+//! Prints how many random texts gave each number and wrote to each output, and how
+//! many places the lines of texts about places take up: `distribution [SEED] [COUNT]`.
 
 use std::collections::BTreeMap;
 use std::env;
@@ -15,6 +15,7 @@ fn main() {
     let count = argument(2, 20_000);
     for size in [Size::Small, Size::Large] {
         print(&format!("{size:?}"), seed, count, |generator| generator.text(size));
+        print(&format!("{size:?}, about outputs"), seed, count, |generator| generator.output_text(size));
     }
     for size in [Size::Small, Size::Large] {
         let make = |generator: &mut Generator| generator.places_text(size);
@@ -23,22 +24,25 @@ fn main() {
     }
 }
 
-/// The numbers of the runs of texts.
+/// The numbers of the runs of texts, and how many of them wrote to each output.
 fn print(kind: &str, seed: u64, count: u64, make: impl Fn(&mut Generator) -> Vec<u8>) {
     let mut generator = Generator::new(seed);
     let mut store = vec![0; STORE_ROOM];
     let mut numbers: BTreeMap<u64, u64> = BTreeMap::new();
-    let (mut events, mut bytes) = (0, 0);
+    let (mut events, mut bytes, mut outputs, mut seconds) = (0, 0, 0, 0);
     let start = Instant::now();
     for _ in 0..count {
         let text = make(&mut generator);
-        let mut output = vec![0; generator.room()];
-        let ran = run(&text, generator.fuel(), NODE_ROW, DEAD_ROW, &mut output, &mut store);
+        let (mut output, mut second) = (vec![0; generator.room()], vec![0; generator.room()]);
+        let ran = run(&text, generator.fuel(), NODE_ROW, DEAD_ROW, &mut output, &mut second, &mut store);
         *numbers.entry(ran.number).or_default() += 1;
         events += ran.events;
         bytes += text.len() as u64;
+        outputs += u64::from(ran.output > 0);
+        seconds += u64::from(ran.second > 0);
     }
     println!("{kind}: {count} texts, {bytes} bytes, {events} events, {:?}", start.elapsed());
+    println!("{outputs} wrote to channel 3, {seconds} to channel 4");
     for (number, texts) in numbers {
         println!("{number:4} {texts:7}");
     }

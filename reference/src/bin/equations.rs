@@ -7,18 +7,19 @@
 //! the definitions, from which the names to unfold are read.
 
 use stage2_reference::generate::{Generator, Size};
-use std::fmt::Write;
+use std::fmt::{Display, Write};
 
 const NODES: usize = 2048;
 const DEAD: usize = 51456;
 const STORE: usize = 8704;
 
-/// Of so many texts one each is about characters, about values and about places,
-/// beside those that any text may hold.
+/// Of so many texts one each is about characters, about outputs, about values and
+/// about places, beside those that any text may hold.
 const ROUND: u64 = 13;
 
-/// Where these three stand in a round.
+/// Where these four stand in a round.
 const CHARACTERS: u64 = 0;
+const OUTPUTS: u64 = 3;
 const VALUES: u64 = 6;
 const PLACES: u64 = 9;
 
@@ -47,57 +48,88 @@ fn main() {
 
 /// The three equations of one text.
 fn equations(k: u64, generator: &mut Generator, unfolds: &str) -> String {
-    let text = match k % ROUND {
-        CHARACTERS => generator.character_text(),
-        VALUES => generator.value_text(),
-        PLACES => generator.places_text(Size::Small),
-        _ => generator.text(Size::Small),
-    };
-    let line = generator.line(&text, Size::Small);
-    let fuel = generator.fuel().clamp(1, 60);
-    let room = generator.room().min(400);
-    let dead = if k % SHORT_ROW == 1 { DEAD - 1 } else { DEAD };
-    let mut output = vec![0; room];
-    let mut store = vec![0; STORE];
-    let checked = stage2_reference::check(&text, NODES);
-    let fitted = stage2_reference::fit(&text, NODES, dead, &line);
-    let ran = stage2_reference::run(&text, fuel, NODES, dead, &mut output, &mut store);
+    let case = Case::any(k, generator);
     let mut page = String::new();
-    let mut theorem = |name: &str, left: String, right: String| {
+    for (name, left, right) in [case.check(), case.fit(), case.run()] {
         write!(page, "\n{name}{k} : {left} ≡ {right}\nunfolding {unfolds}\n{name}{k} = refl\n")
             .expect("a string takes all text");
-    };
-    let shown = list(&text);
-    theorem(
-        "check",
-        format!("checkText {NODES} {shown}"),
-        format!("record {{ number = {}; line = {} }}", checked.number, checked.line),
-    );
-    theorem(
-        "fit",
-        format!("fitLine {NODES} {dead} {shown} {}", list(&line)),
-        format!(
+    }
+    page
+}
+
+/// What the three calls are given.
+struct Case {
+    text: Vec<u8>,
+    line: Vec<u8>,
+    fuel: u64,
+    room: usize,
+    second_room: usize,
+    dead: usize,
+}
+
+/// The name of an equation and its two sides.
+type Equation = (&'static str, String, String);
+
+impl Case {
+    fn any(k: u64, generator: &mut Generator) -> Case {
+        let text = match k % ROUND {
+            CHARACTERS => generator.character_text(),
+            OUTPUTS => generator.output_text(Size::Small),
+            VALUES => generator.value_text(),
+            PLACES => generator.places_text(Size::Small),
+            _ => generator.text(Size::Small),
+        };
+        Case {
+            line: generator.line(&text, Size::Small),
+            fuel: generator.fuel().clamp(1, 60),
+            room: generator.room().min(400),
+            second_room: generator.room().min(400),
+            dead: if k % SHORT_ROW == 1 { DEAD - 1 } else { DEAD },
+            text,
+        }
+    }
+
+    fn check(&self) -> Equation {
+        let checked = stage2_reference::check(&self.text, NODES);
+        let right = format!("record {{ number = {}; line = {} }}", checked.number, checked.line);
+        ("check", format!("checkText {NODES} {}", list(&self.text)), right)
+    }
+
+    fn fit(&self) -> Equation {
+        let fitted = stage2_reference::fit(&self.text, NODES, self.dead, &self.line);
+        let right = format!(
             "record {{ number = {}; line = {}; start = {}; length = {}; places = {} }}",
             fitted.number,
             fitted.line,
             list(&fitted.start),
             list(&fitted.length),
             fitted.places
-        ),
-    );
-    theorem(
-        "run",
-        format!("runText {fuel} {NODES} {dead} {room} {STORE} {shown}"),
-        format!(
+        );
+        let left = format!("fitLine {NODES} {} {} {}", self.dead, list(&self.text), list(&self.line));
+        ("fit", left, right)
+    }
+
+    fn run(&self) -> Equation {
+        let Case { fuel, room, second_room, dead, .. } = *self;
+        let (mut output, mut second, mut store) = (vec![0; room], vec![0; second_room], vec![0; STORE]);
+        let ran = stage2_reference::run(&self.text, fuel, NODES, dead, &mut output, &mut second, &mut store);
+        let right = format!(
             "record {{ number = {}; line = {}; events = {}; output = {}; store = {} }}",
             ran.number,
             ran.line,
             ran.events,
-            list(&output[..ran.output as usize]),
+            both(list(&output[..ran.output as usize]), list(&second[..ran.second as usize])),
             list(&store[..ran.store as usize])
-        ),
-    );
-    page
+        );
+        let rooms = both(room, second_room);
+        let left = format!("runText {fuel} {NODES} {dead} {rooms} {STORE} {}", list(&self.text));
+        ("run", left, right)
+    }
+}
+
+/// What both outputs have, as a record of the checker's.
+fn both<T: Display>(first: T, second: T) -> String {
+    format!("(record {{ first = {first}; second = {second} }})")
 }
 
 /// Numbers as a list of the checker's.

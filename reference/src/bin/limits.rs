@@ -11,11 +11,13 @@ use std::{env, fs, io};
 
 const FLAG: &str = "$!$!0 (+-*/)\n";
 
-/// A text and what `expand` writes for it.
+/// A text and what `expand` writes for it; with room for channel 4 where that has
+/// a file too.
 struct Vector {
     name: String,
     text: String,
     out: String,
+    second: Option<String>,
 }
 
 fn main() -> ExitCode {
@@ -33,8 +35,10 @@ fn main() -> ExitCode {
 }
 
 fn write(folder: &Path, vector: &Vector) -> io::Result<()> {
-    fs::write(folder.join(format!("{}.text", vector.name)), &vector.text)?;
-    fs::write(folder.join(format!("{}.out", vector.name)), &vector.out)
+    let file = |ending| folder.join(format!("{}.{ending}", vector.name));
+    fs::write(file("text"), &vector.text)?;
+    fs::write(file("out"), &vector.out)?;
+    vector.second.iter().try_for_each(|second| fs::write(file("second"), second))
 }
 
 fn vectors() -> Vec<Vector> {
@@ -50,12 +54,20 @@ fn vectors() -> Vec<Vector> {
     output(&mut all);
     fuel(&mut all);
     separators(&mut all);
+    copies(&mut all);
+    copies_into_full_rooms(&mut all);
+    both_outputs(&mut all);
     all
 }
 
 /// Adds a vector; `body` is what follows the flag line.
 fn add(all: &mut Vec<Vector>, name: &str, body: String, out: String) {
-    all.push(Vector { name: name.to_string(), text: FLAG.to_string() + &body, out });
+    all.push(Vector { name: name.to_string(), text: FLAG.to_string() + &body, out, second: None });
+}
+
+/// Adds a vector with what is written to channel 4.
+fn add_both(all: &mut Vec<Vector>, name: &str, body: String, out: String, second: String) {
+    all.push(Vector { name: name.to_string(), text: FLAG.to_string() + &body, out, second: Some(second) });
 }
 
 /// The output's last line.
@@ -239,6 +251,12 @@ fn fuel(all: &mut Vec<Vector>) {
     add(all, "number-11-before-number-20", text(999_998, &long), end(11, 7, 1_000_000));
     let offered = "T$\n999997!F7\n!F8\nx\n$$\nT\n".to_string();
     add(all, "number-20-at-a-built-line", offered, end(20, 7, 1_000_000));
+    // The copy is one event, whatever it copies.
+    let copy = |passes: u64, rest: &str| format!("T !$\n{passes}!F7\n!F8\n!F2\n$$\nT .\na\nb\n.\n{rest}");
+    let copied = |end: String| "a\nb\n".to_string() + &end;
+    add(all, "limit-fuel-used-exactly-by-a-copy", copy(999_997, ""), copied(end(0, 10, 1_000_000)));
+    add(all, "number-20-after-a-copy", copy(999_997, "c\n"), copied(end(20, 11, 1_000_000)));
+    add(all, "number-20-before-a-copy", copy(999_998, ""), end(20, 7, 1_000_000));
 }
 
 fn separators(all: &mut Vec<Vector>) {
@@ -257,4 +275,74 @@ fn separators(all: &mut Vec<Vector>) {
     let input = format!("{}b\nD:{}\n", row(199), row(99));
     let out = "198\n197\n".to_string() + &end(0, 11, 6);
     add(all, "fitting-equal-separators-at-the-last-place", last.to_string() + &input, out);
+}
+
+fn copies(all: &mut Vec<Vector>) {
+    let row = |byte: &str, count: usize| byte.repeat(count);
+
+    let x = row("x", 200);
+    let copied = format!("C3 !$\n!F23\n$\nC4 !$\n!F24\n$$\nC3 .\n{x}\n.\nC4 .\n{x}$ ignored\n.\n");
+    let written = x.clone() + "\n";
+    add_both(all, "limit-copied-200", copied, written.clone() + &end(0, 13, 4), written);
+
+    let long = |code: &str| format!("COPY !$\n{code}\nafter!F1\n$$\nCOPY END\na\n{x}x\nb\n");
+    add(all, "number-11-copied-201", long("!F2"), "a\n".to_string() + &end(11, 8, 2));
+    let name = "number-11-copied-201-to-the-second-output";
+    add_both(all, name, long("!F24"), end(11, 8, 2), "a\n".to_string());
+    let no_room = format!("COPY !$\n!F24\n$$\nCOPY END\n{x}x\n");
+    add(all, "number-11-before-number-13-at-a-copied-line", no_room, end(11, 6, 2));
+
+    // Lines that are dropped are not measured, the stopping one neither.
+    let dropped = format!("DROP !$\n!F20\n$$\nDROP END\n{x}x\n{}\nEND\nlast\n", row("x", 5_000));
+    add(all, "limit-copy-drops-lines-of-201", dropped, "last\n".to_string() + &end(0, 9, 3));
+    let (calls, y) = ("COPY !$\n!F2\n$\nDROP !$\n!F20\n$$\n", row("y", 201));
+    let stops = format!("{calls}COPY x\na\n{x}x\nDROP y\nb\n{y}\nlast\n");
+    add(all, "limit-copy-stops-at-a-line-of-201", stops, "a\nlast\n".to_string() + &end(0, 14, 5));
+
+    // A line of 199 bytes is only a beginning of the parameter.
+    let short = row("x", 199);
+    let whole = format!("!$\n!F2\n$$\n{x}\n{short}\nB\n{x}\n");
+    add(all, "limit-copy-stops-at-200-bytes", whole, format!("{short}\nB\n") + &end(0, 8, 2));
+}
+
+fn copies_into_full_rooms(all: &mut Vec<Vector>) {
+    // 511 lines of 128 bytes leave 128 of 65,536, which a line of 101 and one of
+    // 27 bytes fill.
+    let row = |byte: &str, count: usize| byte.repeat(count);
+    let line = row("A", 127);
+    let b = row("b", 100);
+    let text = |channel: &str, rest: &str| {
+        format!("T !$\n511!F7\n{line}!F1{channel}\n!F8\n!F2{channel}\nafter!F1\n$$\nT .\n{b}\n{rest}.\n")
+    };
+    let written = format!("{}{b}\n", (line.clone() + "\n").repeat(511));
+    // The line offered, the opening line, two lines a pass and the copy.
+    let events = 2 + 2 * 511 + 1;
+    let fits = row("c", 26) + "\n";
+
+    let out = "after\n".to_string() + &end(0, 12, events + 1);
+    let name = "limit-copy-fills-the-second-output";
+    add_both(all, name, text("4", &fits), out, written.clone() + &fits);
+    let name = "number-13-midway-through-a-copy-to-the-second-output";
+    add_both(all, name, text("4", &format!("c{fits}")), end(13, 11, events), written.clone());
+    // There is no room for the byte 10 of an empty line.
+    let empty = text("", &format!("{fits}\n"));
+    add(all, "number-13-midway-through-a-copy", empty, written + &fits + &end(13, 12, events));
+}
+
+fn both_outputs(all: &mut Vec<Vector>) {
+    // 512 lines of 127 bytes and byte 10 fill a room.
+    let (a, b) = ("A".repeat(127), "B".repeat(127));
+    let written = |line: &str| format!("{line}\n").repeat(512);
+
+    let each = format!("T !$\n512!F7\n{a}!F1\n{b}!F14\n!F8\nC!F10\n!F20\n$$\nT .\na\n.\n");
+    let out = written(&a) + &end(0, 12, 2 + 3 * 512 + 2);
+    add_both(all, "limit-outputs-65536-each", each, out, written(&b));
+
+    let first = format!("T$\n512!F7\n{a}!F1\n!F8\nstyle!F14\n$$\nT\nx\n");
+    let out = written(&a) + &end(13, 9, 2 + 2 * 512 + 2);
+    add_both(all, "number-13-first-output-full-second-not", first, out, "style\n".to_string());
+
+    let second = format!("T$\n512!F7\n{a}!F14\n!F8\nroom!F1\n!90!F14\n$$\nT\n");
+    let out = "room\n".to_string() + &end(13, 9, 2 + 2 * 512 + 2);
+    add_both(all, "number-13-second-output-no-room-for-byte-10", second, out, written(&a));
 }

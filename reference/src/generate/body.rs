@@ -10,7 +10,10 @@ use super::Size;
 const FAULTS: [&[u8]; 4] = [b"A", b"1A", b"9223372036854775808", b"B1"];
 
 /// Function 1 with the digits it may have.
-const CHANNELS: [&[u8]; 4] = [b"1", b"1", b"13", b"10"];
+const CHANNELS: [&[u8]; 6] = [b"1", b"1", b"13", b"14", b"14", b"10"];
+
+/// Function 2 with the digits it may have; a blank before the digit makes it none.
+const COPIES: [&[u8]; 7] = [b"2", b"2", b"23", b"24", b"24", b"20", b"2 4"];
 
 /// How likely each conversion is; 5 and 8 are likelier where there are
 /// characters of several bytes.
@@ -43,7 +46,7 @@ impl Bodies<'_> {
     }
 
     fn statement(&mut self, depth: usize) -> Lines {
-        match self.random.weighted(&[22, 14, 7, 10, 9, 9, 12, 10, 8, 8, 2]) {
+        match self.random.weighted(&[22, 14, 7, 10, 9, 9, 12, 10, 8, 8, 6, 2]) {
             0 => vec![self.offered()],
             1 => vec![self.written()],
             2 => self.laid_out(),
@@ -54,7 +57,8 @@ impl Bodies<'_> {
             7 if depth < 4 => self.each(depth),
             8 if depth < 4 => self.times(depth),
             9 => self.comparison(),
-            10 => {
+            10 => self.copied(),
+            11 => {
                 let digit = self.random.pick(b"09");
                 vec![self.function(&[digit])]
             }
@@ -184,6 +188,32 @@ impl Bodies<'_> {
             layout.push(self.style.escape());
         }
         vec![owner, layout]
+    }
+
+    /// A copy, mostly with a parameter 1 of its own.
+    fn copied(&mut self) -> Lines {
+        let mut lines = Lines::new();
+        if self.random.chance(70) {
+            let stop = self.stop();
+            lines.push(self.assign(&stop, b'1'));
+        }
+        let channel = self.random.pick(&COPIES);
+        lines.push(self.function(channel));
+        lines
+    }
+
+    /// What stops a copy: what input lines often begin with, a row, or nothing.
+    fn stop(&mut self) -> Vec<u8> {
+        match self.random.weighted(&[50, 25, 15, 10]) {
+            0 => vec![self.style.literal(self.random)],
+            1 => {
+                let template = &self.templates[self.random.below(self.templates.len())];
+                let start = template.iter().copied().take_while(|byte| *byte != self.style.placeholder());
+                start.filter(|&byte| !self.is_reserved(byte)).collect()
+            }
+            2 => self.row(2),
+            _ => Vec::new(),
+        }
     }
 
     fn assigned(&mut self) -> Vec<u8> {

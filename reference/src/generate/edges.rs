@@ -33,12 +33,16 @@ pub fn text(random: &mut Random, size: Size) -> Vec<u8> {
 /// Contents of 199 to 202 bytes where they are measured.
 fn long_content(random: &mut Random) -> String {
     let row = "A".repeat(random.between(199, 202));
-    match random.below(5) {
+    match random.below(6) {
         0 => format!("{row}$\n$$\n"),
         1 => format!("T$\n{row}\n$$\nT\n"),
         2 => format!("T$\n!F1\n{row}\n$$\nT\n"),
         3 => format!("T$\n$$\n{row}$\n"),
-        _ => format!("T!$\n!F4\n$$\nT1\n{row}\n"),
+        4 => format!("T!$\n!F4\n$$\nT1\n{row}\n"),
+        _ => {
+            let (channel, stop) = (random.pick(&["", "3", "4", "0"]), random.pick(&["A", "B"]));
+            format!("T!$\n!F2{channel}\n$$\nT{stop}\n{row}\nB\nA\n")
+        }
     }
 }
 

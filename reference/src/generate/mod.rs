@@ -6,6 +6,7 @@ mod body;
 mod characters;
 mod edges;
 mod mutation;
+mod outputs;
 mod places;
 mod random;
 mod style;
@@ -43,7 +44,7 @@ impl Generator {
     /// A text. About nine of ten load.
     pub fn text(&mut self, size: Size) -> Vec<u8> {
         loop {
-            let text = match self.random.weighted(&[70, 19, 11, 7, 7, 7]) {
+            let text = match self.random.weighted(&[70, 19, 11, 7, 7, 7, 8]) {
                 0 => self.plain_text(size),
                 1 => {
                     let mut text = self.plain_text(size);
@@ -53,7 +54,8 @@ impl Generator {
                 2 => edges::text(&mut self.random, size),
                 3 => self.character_text(),
                 4 => self.value_text(),
-                _ => self.places_text(size),
+                5 => self.places_text(size),
+                _ => self.output_text(size),
             };
             if size == Size::Large || text.len() <= SMALL_TEXT {
                 return text;
@@ -75,6 +77,11 @@ impl Generator {
     /// A text with many placeholders, equal separators and lines of equal bytes.
     pub fn places_text(&mut self, size: Size) -> Vec<u8> {
         places::text(&mut self.random, size)
+    }
+
+    /// A text that writes to both outputs and copies input lines to them.
+    pub fn output_text(&mut self, size: Size) -> Vec<u8> {
+        outputs::text(&mut self.random, size)
     }
 
     /// An expression near the ends of the range in the session's marks, and names
@@ -141,7 +148,7 @@ impl Generator {
         }
     }
 
-    /// An output room: none, a byte, a few bytes, or plenty.
+    /// A room for an output: none, a byte, a few bytes, or plenty.
     pub fn room(&mut self) -> usize {
         let random = &mut self.random;
         match random.weighted(&[3, 3, 20, 74]) {

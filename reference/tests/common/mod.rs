@@ -12,17 +12,34 @@ use stage2_reference::{run, Ran, DEAD_ROW, NODE_ROW, STORE_ROOM};
 pub struct Left {
     pub ran: Ran,
     pub output: Vec<u8>,
+    pub second: Vec<u8>,
     pub store: Vec<u8>,
 }
 
+/// How many bytes of room both outputs have.
+#[derive(Clone, Copy, Debug)]
+pub struct Rooms {
+    pub output: usize,
+    pub second: usize,
+}
+
+impl From<usize> for Rooms {
+    /// As many for each.
+    fn from(room: usize) -> Rooms {
+        Rooms { output: room, second: room }
+    }
+}
+
 /// Runs a text and gives what was written, after checking that nothing else was.
-pub fn run_text(text: &[u8], fuel: u64, room: usize) -> Left {
-    let mut output = pattern(room);
+pub fn run_text(text: &[u8], fuel: u64, rooms: impl Into<Rooms>) -> Left {
+    let rooms = rooms.into();
+    let (mut output, mut second) = (pattern(rooms.output), pattern(rooms.second));
     let mut store = pattern(STORE_ROOM + 100);
-    let ran = run(text, fuel, NODE_ROW, DEAD_ROW, &mut output, &mut store);
+    let ran = run(text, fuel, NODE_ROW, DEAD_ROW, &mut output, &mut second, &mut store);
     let output = written(output, ran.output);
+    let second = written(second, ran.second);
     let store = written(store, ran.store);
-    Left { ran, output, store }
+    Left { ran, output, second, store }
 }
 
 /// The first bytes of a room, after checking that the others are unchanged.

@@ -17,7 +17,7 @@ go-back-requires c κs = search needs
 returns : tie.Need-returns
 returns c =
     let read = c .before .before .before in
-    let pre = read .before .before .before .before .before .before .before .before .before .pre in
+    let pre = read .before .before .before .before .before .before .before .before .before .before .pre in
     steps-back (pre .1) (read .read-code .ensures) (pre .0) (not-true _ (c .before .if1 .taken)) (c .go-back .ensures)
 
 end-with-requires : tie.Need-end-with-requires
@@ -27,7 +27,7 @@ returns-2 : tie.Need-returns-2
 returns-2 c =
     let found = c .before .before .before in
     let read = found .before .before in
-    let pre = read .before .before .before .before .before .before .before .before .before .pre in
+    let pre = read .before .before .before .before .before .before .before .before .before .before .pre in
     steps-spent (pre .1) (read .read-code .ensures) (pre .0) (not-false _ (found .if1 .left)) (c .before .if2 .taken) (c .end-with .ensures)
 
 move-to-requires : tie.Need-move-to-requires
@@ -38,11 +38,11 @@ count-event-requires c κs = search needs
 
 carry-requires : tie.Need-carry-requires
 carry-requires c κs =
-    let counted = c .before .before .before .before .before in
+    let counted = c .before .before .before .before .before .before in
     let moved = counted .before in
     let found = moved .before .before .before in
     let read = found .before .before in
-    let pre = read .before .before .before .before .before .before .before .before .before .pre in
+    let pre = read .before .before .before .before .before .before .before .before .before .before .pre in
     let code = read .read-code .ensures in
     let moves = moved .move-to .ensures in
     let some-fuel = pos-of-ne-zero (moved .before .if2 .left) in (
@@ -68,15 +68,18 @@ same-length-4 c = search needs
 same-length-5 : tie.Need-same-length-5
 same-length-5 c = search needs
 
+same-length-6 : tie.Need-same-length-6
+same-length-6 c = search needs
+
 returns-3 : tie.Need-returns-3
 returns-3 c =
-    let built = c .before .before .before .before .before in
-    let carried = built .before .before .before .before .before in
-    let counted = carried .before .before .before .before .before .before in
+    let built = c .before .before .before .before .before .before in
+    let carried = built .before .before .before .before .before .before in
+    let counted = carried .before .before .before .before .before .before .before in
     let moved = counted .before in
     let found = moved .before .before .before in
     let read = found .before .before in
-    let pre = read .before .before .before .before .before .before .before .before .before .pre in
+    let pre = read .before .before .before .before .before .before .before .before .before .before .pre in
     let some-fuel = pos-of-ne-zero (moved .before .if2 .left) in
     steps-on (pre .1) (read .read-code .ensures) _ (not-false _ (found .if1 .left)) some-fuel (moved .move-to .ensures) (counted .count-event .ensures) (carried .carry .ensures)
 
@@ -97,4 +100,5 @@ step-spec =
     same-length-3
     same-length-4
     same-length-5
+    same-length-6
     returns-3)

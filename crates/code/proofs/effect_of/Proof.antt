@@ -47,6 +47,9 @@ enum-told-13 c = search needs
 enum-told-14 : tie.Need-enum-told-14
 enum-told-14 c = search needs
 
+enum-told-15 : tie.Need-enum-told-15
+enum-told-15 c = search needs
+
 returns : tie.Need-returns
 unfolding effectOf
 returns c = λ text to. rw (c .enum-told .given .1) refl
@@ -103,6 +106,10 @@ returns-14 : tie.Need-returns-14
 unfolding effectOf
 returns-14 c = λ text to. rw (c .enum-told14 .given .1) refl
 
+returns-15 : tie.Need-returns-15
+unfolding effectOf
+returns-15 c = λ text to. rw (c .enum-told15 .given .1) refl
+
 pub effect-of-spec : {M : Type 1} → statement M
 effect-of-spec =
     tie.close
@@ -121,6 +128,7 @@ effect-of-spec =
     enum-told-12
     enum-told-13
     enum-told-14
+    enum-told-15
     returns
     returns-2
     returns-3
@@ -134,4 +142,5 @@ effect-of-spec =
     returns-11
     returns-12
     returns-13
-    returns-14)
+    returns-14
+    returns-15)

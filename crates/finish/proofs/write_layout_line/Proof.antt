@@ -1,7 +1,7 @@
--- write_layout_line writes the layout, or drops it; with none the call goes on.
+-- write_layout_line writes the layout that follows to its channel, and the call goes on past it.
 use borrow.Author.Needs.{needs}
 use borrow.Author.Tests.{not-true, not-false}
-use Rattle.finish.proofs.Lines.{on-room, no-layout, drops-layout, writes-layout}
+use Rattle.finish.proofs.Lines.{on-first, on-second, no-layout, writes-layout}
 use Rattle.finish.proofs.write_layout_line.Statement.{statement}
 use Rattle.finish.proofs.write_layout_line.Tie as tie
 
@@ -14,7 +14,7 @@ go-on-requires c κs = search needs
 returns : tie.Need-returns
 returns c =
     let read = c .before .before .before in
-    let q = read .before .before .before .before .before .pre .0 in
+    let q = read .before .before .before .before .before .before .pre .0 in
     search (no-layout, not-true, needs)
 
 move-to-requires : tie.Need-move-to-requires
@@ -23,29 +23,23 @@ move-to-requires c κs = search needs
 go-on-requires-2 : tie.Need-go-on-requires-2
 go-on-requires-2 c κs = search needs
 
-returns-2 : tie.Need-returns-2
-returns-2 c =
-    let read = c .before .before .before .before .before in
-    let q = read .before .before .before .before .before .pre .0 in
-    search (drops-layout, not-false, needs)
-
-go-on-requires-3 : tie.Need-go-on-requires-3
-go-on-requires-3 c κs = search needs
-
 write-layout-requires : tie.Need-write-layout-requires
 write-layout-requires c κs =
     let read = c .before .before .before .before .before .before in
-    let pre = read .before .before .before .before .before .pre in
-    ((search needs, search needs), (search needs, on-room (c .go-on3 .ensures) (pre .1)))
+    let pre = read .before .before .before .before .before .before .pre in
+    ((search needs, search needs), (search needs, (on-first (c .go-on2 .ensures) (pre .1 .0), on-second (c .go-on2 .ensures) (pre .1 .1))))
 
 same-length : tie.Need-same-length
 same-length c = search needs
 
-returns-3 : tie.Need-returns-3
-returns-3 c =
-    let moved = c .before .before .before .before .before .before in
+same-length-2 : tie.Need-same-length-2
+same-length-2 c = search needs
+
+returns-2 : tie.Need-returns-2
+returns-2 c =
+    let moved = c .before .before .before .before .before .before .before .before in
     let read = moved .before .before .before in
-    let q = read .before .before .before .before .before .pre .0 in
+    let q = read .before .before .before .before .before .before .pre .0 in
     search (writes-layout, not-false, needs)
 
 pub write-layout-line-spec : {M : Type 1} → statement M
@@ -57,7 +51,7 @@ write-layout-line-spec =
     returns
     move-to-requires
     go-on-requires-2
-    returns-2
-    go-on-requires-3 write-layout-requires
+    write-layout-requires
     same-length
-    returns-3)
+    same-length-2
+    returns-2)

@@ -1,43 +1,23 @@
--- print_run runs in the first 65,536 bytes of out, and adds the row after what was written.
+-- print_run adds the row that ends a run behind its output.
 use borrow.Author.Needs.{needs}
-use lib.ListN.{length-replicate}
-use Rattle.printed.proofs.Rows.{run-room, run-prints}
+use Rattle.printed.proofs.Rows.{run-prints, run-writes}
 use Rattle.printed.proofs.print_run.Statement.{statement}
 use Rattle.printed.proofs.print_run.Tie as tie
 
-sub-run : tie.Need-sub-run
-sub-run c = search needs
-
-part-run-start : tie.Need-part-run-start
-part-run-start c = search needs
-
-part-run-end : tie.Need-part-run-end
-part-run-end c = search needs
-
-slice-aggregate-run : tie.Need-slice-aggregate-run
-slice-aggregate-run c = search needs
-
-run-requires : tie.Need-run-requires
-run-requires c κs = search needs
+run-text-requires : tie.Need-run-text-requires
+run-text-requires c κs = search needs
 
 add-end-requires : tie.Need-add-end-requires
-add-end-requires c κs = search (run-room, length-replicate, needs)
+add-end-requires c κs = search needs
 
 same-length : tie.Need-same-length
 same-length c = search needs
 
+same-length-2 : tie.Need-same-length-2
+same-length-2 c = search needs
+
 returns : tie.Need-returns
-returns c = search (run-prints, length-replicate, needs)
+returns c = (search run-prints, search run-writes)
 
 pub print-run-spec : {M : Type 1} → statement M
-print-run-spec =
-    tie.close
-    (tie.spec
-    sub-run
-    part-run-start
-    part-run-end
-    slice-aggregate-run
-    run-requires
-    add-end-requires
-    same-length
-    returns)
+print-run-spec = tie.close (tie.spec run-text-requires add-end-requires same-length same-length-2 returns)

@@ -25,6 +25,9 @@ widen-requires-4 c κs = search needs
 widen-requires-5 : tie.Need-widen-requires-5
 widen-requires-5 c κs = search needs
 
+widen-requires-6 : tie.Need-widen-requires-6
+widen-requires-6 c κs = search needs
+
 same-length : tie.Need-same-length
 same-length c = search needs
 
@@ -42,5 +45,6 @@ end-spec =
     widen-requires-3
     widen-requires-4
     widen-requires-5
+    widen-requires-6
     same-length
     returns)

@@ -1,0 +1,102 @@
+//! The repository's files, and `expand` called on its texts.
+
+// No test file uses all of it.
+#![allow(dead_code)]
+
+use std::ffi::OsStr;
+use std::fs::{self, File};
+use std::path::{Path, PathBuf};
+use std::process::{Command, Output, Stdio};
+use std::sync::atomic::{AtomicUsize, Ordering};
+
+pub fn root() -> PathBuf {
+    Path::new(env!("CARGO_MANIFEST_DIR")).join("..").canonicalize().unwrap()
+}
+
+pub fn read(path: &Path) -> Vec<u8> {
+    fs::read(path).unwrap_or_else(|_| panic!("{} cannot be read", path.display()))
+}
+
+/// The files of a folder with an ending, in order of their names.
+pub fn files(folder: &Path, ending: &str) -> Vec<PathBuf> {
+    let entries = fs::read_dir(folder).unwrap_or_else(|_| panic!("{} cannot be read", folder.display()));
+    let mut files: Vec<PathBuf> = entries.map(|entry| entry.unwrap().path()).collect();
+    files.retain(|file| file.extension() == Some(OsStr::new(ending)));
+    files.sort();
+    files
+}
+
+/// A file for a test, which is removed with this.
+pub struct Scratch(PathBuf);
+
+impl Scratch {
+    pub fn new(name: &str, bytes: &[u8]) -> Scratch {
+        // Tests run at the same time.
+        static COUNT: AtomicUsize = AtomicUsize::new(0);
+        let own = format!("{}-{}-{name}", std::process::id(), COUNT.fetch_add(1, Ordering::Relaxed));
+        let path = Path::new(env!("CARGO_TARGET_TMPDIR")).join(own);
+        fs::write(&path, bytes).unwrap();
+        Scratch(path)
+    }
+
+    pub fn path(&self) -> &Path {
+        &self.0
+    }
+
+    pub fn name(&self) -> &str {
+        self.0.to_str().unwrap()
+    }
+}
+
+impl Drop for Scratch {
+    fn drop(&mut self) {
+        let _ = fs::remove_file(&self.0);
+    }
+}
+
+/// What a call of a program of the repository answers.
+pub fn answer(program: &str, call: impl FnOnce(&mut Command) -> &mut Command) -> Output {
+    let path = root().join(program);
+    call(&mut Command::new(&path))
+        .output()
+        .unwrap_or_else(|_| panic!("{} cannot be run: run `rt check` first", path.display()))
+}
+
+/// What `expand` answers with a file as its standard input.
+pub fn expanded(program: &str, text: &Path) -> Output {
+    let file = File::open(text).unwrap_or_else(|_| panic!("{} cannot be opened", text.display()));
+    answer(program, |command| command.stdin(Stdio::from(file)))
+}
+
+/// What `expand` answers for a file and a file for channel 4, and what it writes
+/// to that.
+pub fn expanded_with_second(program: &str, text: &Path) -> (Output, Vec<u8>) {
+    let second = Scratch::new("second", b"what was there before");
+    let output = answer(program, |command| command.arg(text).arg("-4").arg(second.path()));
+    (output, read(second.path()))
+}
+
+/// Compares what `expand` prints for a text with the file beside it. Where there
+/// is one for the second output too, channel 4 has its room.
+pub fn assert_expanded(text: &Path) {
+    let (program, second) = ("target/bin/expand", text.with_extension("second"));
+    let output = if second.is_file() {
+        let (output, written) = expanded_with_second(program, text);
+        assert_bytes(&written, &second);
+        output
+    } else {
+        expanded(program, text)
+    };
+    assert!(output.status.success(), "{}: expand did not end well", text.display());
+    assert!(output.stderr.is_empty(), "{}: expand wrote to standard error", text.display());
+    assert_bytes(&output.stdout, &text.with_extension("out"));
+}
+
+/// Compares bytes with those of a file. Long ones are not printed.
+fn assert_bytes(got: &[u8], path: &Path) {
+    let expected = read(path);
+    if expected.len() < 2_000 {
+        assert_eq!(got.escape_ascii().to_string(), expected.escape_ascii().to_string(), "{}", path.display());
+    }
+    assert!(got == expected, "{}", path.display());
+}

@@ -1,0 +1,3 @@
+-- The laws of copying.
+mod Names
+mod Lines
