@@ -52,13 +52,15 @@ typedef struct {
     uint64_t line;   /* the section's last line, or the line of the fault; 0 for numbers 1 and 2 */
 } stage2_checked;
 
-/* What fitting a line gives. Fields that say nothing are 0. */
+/* What fitting a line gives. Fields that say nothing are 0. An atom is a byte that is no bracket, or a bracket with its partner and
+ * all between them; a piece is a row of atoms. */
 typedef struct {
     uint64_t number;    /* 0, or 1 to 9 where the text does not load, or 11 for a line over 200 bytes */
     uint64_t line;      /* number 0: the template's line in the text, 0 for no call. 1 to 9: the line of the fault */
     uint64_t start[9];  /* where each parameter's piece starts in the line, counted from 0 */
     uint64_t length[9]; /* and how many bytes it has */
     uint64_t places;    /* number 0: how many places were taken up, at most the tree's nodes times (the line's count + 1) */
+    uint64_t bytes;     /* number 0: how many bytes were read where atoms were looked for, at most places times the line's count */
 } stage2_fitted;
 
 /* What a run gives. Fields that say nothing are 0. */

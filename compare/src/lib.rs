@@ -1,6 +1,9 @@
 //! The proved calls, wrapped so that they can be called from safe Rust, with
 //! answers of the reference's types.
 
+pub mod cases;
+pub mod lent;
+
 use stage2_reference::{Checked, Fitted, Ran};
 
 /// An element of the lent node row.
@@ -28,6 +31,7 @@ struct RawFitted {
     start: [u64; 9],
     length: [u64; 9],
     places: u64,
+    bytes: u64,
 }
 
 #[repr(C)]
@@ -90,7 +94,14 @@ pub fn fit(text: &[u8], nodes: &mut [Node], dead: &mut [u8], line: &[u8]) -> Fit
             line.len(),
         )
     };
-    Fitted { number: raw.number, line: raw.line, start: raw.start, length: raw.length, places: raw.places }
+    Fitted {
+        number: raw.number,
+        line: raw.line,
+        start: raw.start,
+        length: raw.length,
+        places: raw.places,
+        bytes: raw.bytes,
+    }
 }
 
 /// Runs a text. `output` is channel 3, `second` channel 4.

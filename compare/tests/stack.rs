@@ -7,6 +7,7 @@ use std::ffi::c_void;
 use std::ptr;
 
 use common::Rows;
+use stage2_compare::cases::nested as nested_brackets;
 use stage2_compare::{check, fit, run};
 use stage2_reference::{self as reference, DEAD_ROW, FUEL_LIMIT, NODE_ROW, STORE_ROOM};
 
@@ -129,7 +130,7 @@ fn a_check_and_a_fit_take_no_more_than_the_header_says() {
         let taken = stack_of(&mut || checked = Some(check(text.as_bytes(), nodes)));
         println!("{taken} bytes of stack: {checked:?}");
         most = most.max(taken);
-        for line in deepest().into_iter().chain([String::new()]) {
+        for line in deepest().into_iter().chain([String::new(), nested_brackets(100), "(".repeat(99)]) {
             let mut fitted = None;
             let taken = stack_of(&mut || fitted = Some(fit(text.as_bytes(), nodes, dead, line.as_bytes())));
             println!("{taken} bytes of stack: {fitted:?}");

@@ -1,7 +1,7 @@
 //! An independent implementation of document 01, STAGE2 for name tables and
-//! export, with requests 1 (UTF-8), 2 (values of 64 bits), 3 (places) and 4 (two
-//! outputs, and input lines copied to them) of document 02. It is written from
-//! the documents alone so that others can be compared with it.
+//! export, with requests 1 (UTF-8), 2 (values of 64 bits), 3 (places), 4 (two
+//! outputs, and input lines copied to them) and 5 (bytes read) of document 02. It
+//! is written from the documents alone so that others can be compared with it.
 //!
 //! The public calls are [`check`], [`fit`] and [`run`]. Each takes the text
 //! itself.
@@ -22,6 +22,7 @@ mod utf8;
 mod value;
 
 pub use number::Number;
+pub use search::Looks;
 
 /// The largest legal fuel.
 pub const FUEL_LIMIT: u64 = 1_000_000;
@@ -44,7 +45,8 @@ pub struct Checked {
 }
 
 /// What fitting a line gives: the template's line, 0 for no call, where the nine
-/// pieces lie in the line, and how many places were taken up.
+/// pieces lie in the line, how many places were taken up, and how many bytes were
+/// read where an atom was looked for.
 #[derive(Clone, Copy, Debug, Default, PartialEq, Eq)]
 pub struct Fitted {
     pub number: u64,
@@ -52,6 +54,7 @@ pub struct Fitted {
     pub start: [u64; 9],
     pub length: [u64; 9],
     pub places: u64,
+    pub bytes: u64,
 }
 
 /// What a run gives; `output` (channel 3), `second` (channel 4) and `store` are
@@ -90,7 +93,7 @@ pub fn fit(text: &[u8], nodes: usize, dead: usize, line: &[u8]) -> Fitted {
         return Fitted { number: Number::LongInput.into(), ..Fitted::default() };
     }
     let fitting = search::fit(&program.tree, line, &program.marks);
-    let mut fitted = Fitted { places: fitting.places, ..Fitted::default() };
+    let mut fitted = Fitted { places: fitting.places, bytes: fitting.looks.bytes, ..Fitted::default() };
     if let Some(reading) = fitting.reading {
         fitted.line = program.macros[reading.template].line;
         fitted.start = reading.pieces.map(|piece| piece.start as u64);
@@ -104,6 +107,13 @@ pub fn fit(text: &[u8], nodes: usize, dead: usize, line: &[u8]) -> Fitted {
 pub fn most_places(text: &[u8], line: &[u8]) -> Option<u64> {
     let program = load::load(text, NODE_ROW).ok()?;
     Some((program.tree.size() * (line.len() + 1)) as u64)
+}
+
+/// How often fitting a line looks for an atom, by what it finds. `None` if the text
+/// does not load, or the line is too long.
+pub fn looks(text: &[u8], line: &[u8]) -> Option<Looks> {
+    let program = load::load(text, NODE_ROW).ok()?;
+    (line.len() <= text::LINE_LIMIT).then(|| search::fit(&program.tree, line, &program.marks).looks)
 }
 
 /// Expands a text's input lines with at most `fuel` events. Bytes of `output`,

@@ -39,12 +39,12 @@ pub fn fit_rows(text: &[u8], lines_text: &[u8]) -> String {
     lines(lines_text).map(|line| fit_row(&fit(text, NODE_ROW, DEAD_ROW, line))).collect()
 }
 
-/// Number, template's line, start and length of each piece, then places.
+/// Number, template's line, start and length of each piece, then places and bytes.
 fn fit_row(fitted: &Fitted) -> String {
     let mut row = format!("{} {}", fitted.number, fitted.line);
     for (start, length) in fitted.start.iter().zip(&fitted.length) {
         row.push_str(&format!(" {start} {length}"));
     }
-    row.push_str(&format!(" {}\n", fitted.places));
+    row.push_str(&format!(" {} {}\n", fitted.places, fitted.bytes));
     row
 }

@@ -19,12 +19,25 @@ pub struct Reading {
     pub pieces: [Piece; PLACEHOLDER_LIMIT],
 }
 
+/// How often a search looked for the next atom, by what it found, and how many
+/// bytes it read there.
+#[derive(Clone, Copy, Debug, Default, PartialEq, Eq)]
+pub struct Looks {
+    pub atoms: u64,
+    pub right_brackets: u64,
+    /// Left brackets without a partner.
+    pub left_brackets: u64,
+    pub line_ends: u64,
+    pub bytes: u64,
+}
+
 /// What fitting a line comes to: the first of all its readings, if it has any,
-/// and how many places were taken up.
+/// how many places were taken up, and the looks for atoms.
 #[derive(Clone, Copy, Debug, PartialEq, Eq)]
 pub struct Fitting {
     pub reading: Option<Reading>,
     pub places: u64,
+    pub looks: Looks,
 }
 
 /// Fits a line of at most 200 bytes against the templates of a tree.
@@ -33,13 +46,15 @@ pub fn fit(tree: &Tree, line: &[u8], marks: &Marks) -> Fitting {
         tree,
         line,
         atoms: Atoms::of(line, marks),
+        right_bracket: marks.right,
         pieces: Default::default(),
         dead: DeadPlaces::none(tree, line),
         places: 0,
+        looks: Looks::default(),
     };
     let template = search.take_up(ROOT, 0, 0);
-    let pieces = search.pieces;
-    Fitting { reading: template.map(|template| Reading { template, pieces }), places: search.places }
+    let Search { pieces, places, looks, .. } = search;
+    Fitting { reading: template.map(|template| Reading { template, pieces }), places, looks }
 }
 
 /// The places that were found to lead nowhere: a bit for each node at each
@@ -76,10 +91,12 @@ struct Search<'a> {
     tree: &'a Tree,
     line: &'a [u8],
     atoms: Atoms,
+    right_bracket: u8,
     pieces: [Piece; PLACEHOLDER_LIMIT],
     dead: DeadPlaces,
     /// How many places were taken up.
     places: u64,
+    looks: Looks,
 }
 
 impl Search<'_> {
@@ -130,8 +147,23 @@ impl Search<'_> {
                 self.pieces[filled] = Piece { start, length: end - start };
                 return found;
             }
-            end = self.atoms.end(end)?;
+            end = self.look(end)?;
         }
         None
+    }
+
+    /// Looks for the atom at `at`; gives where it ends, if there is one.
+    fn look(&mut self, at: usize) -> Option<usize> {
+        let Looks { atoms, right_brackets, left_brackets, line_ends, bytes } = &mut self.looks;
+        let (end, rest) = (self.atoms.end(at), &self.line[at..]);
+        let (count, read) = match (end, rest.first()) {
+            (Some(end), _) => (atoms, end - at),
+            (None, None) => (line_ends, 0),
+            (None, Some(&byte)) if byte == self.right_bracket => (right_brackets, 1),
+            (None, Some(_)) => (left_brackets, rest.len()),
+        };
+        *count += 1;
+        *bytes += read as u64;
+        end
     }
 }

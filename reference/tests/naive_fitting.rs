@@ -1,5 +1,5 @@
-//! Fitting against a function that lists all readings, and places against the
-//! words of request 3, carried out over beginnings of templates.
+//! Fitting against a function that lists all readings, and places and bytes against
+//! the words of requests 3 and 5, carried out over beginnings of templates.
 
 mod common;
 
@@ -7,7 +7,7 @@ use std::cmp::Ordering;
 use std::collections::HashSet;
 
 use common::Dice;
-use stage2_reference::{fit, most_places, Fitted, DEAD_ROW, NODE_ROW};
+use stage2_reference::{fit, looks, most_places, Fitted, Looks, DEAD_ROW, NODE_ROW};
 
 /// One element of a reading.
 #[derive(Clone, Copy, Debug, PartialEq, Eq)]
@@ -68,7 +68,7 @@ fn line_of(place: usize) -> u64 {
 }
 
 /// Lists all readings by all templates and takes the first; says nothing of
-/// places.
+/// places and bytes.
 fn naive(templates: &[Vec<u8>], line: &[u8]) -> Fitted {
     let mut all: Vec<(Vec<Element>, u64)> = Vec::new();
     for (place, template) in templates.iter().enumerate() {
@@ -117,7 +117,7 @@ const END: u8 = b'$';
 /// of a template that it stands for.
 type Place = (Vec<u8>, usize);
 
-/// Request 3's fitting, word by word.
+/// Request 3's fitting, with what request 5 counts, word by word.
 struct Placing<'a> {
     /// With their ends.
     templates: Vec<Vec<u8>>,
@@ -128,13 +128,21 @@ struct Placing<'a> {
     taken: Vec<Place>,
     /// How often a marked place was met again.
     met_again: u64,
+    /// Where an atom was looked for, in this order.
+    looks: Vec<Place>,
 }
 
 impl Placing<'_> {
-    /// Takes up the root; gives the template's line, 0 for none, and the places.
+    /// Takes up the root; gives the template's line, 0 for none, places and looks.
     fn of<'a>(templates: &[Vec<u8>], line: &'a [u8]) -> (u64, Placing<'a>) {
-        let templates = templates.iter().map(|template| [&template[..], &[END]].concat()).collect();
-        let mut placing = Placing { templates, line, dead: HashSet::new(), taken: Vec::new(), met_again: 0 };
+        let mut placing = Placing {
+            templates: templates.iter().map(|template| [&template[..], &[END]].concat()).collect(),
+            line,
+            dead: HashSet::new(),
+            taken: Vec::new(),
+            met_again: 0,
+            looks: Vec::new(),
+        };
         let found = placing.take_up(Vec::new(), 0);
         (found.map_or(0, line_of), placing)
     }
@@ -179,7 +187,33 @@ impl Placing<'_> {
             return piece;
         }
         // and last, on a placeholder, that node past the next atom
-        self.take_up(node.to_vec(), atom_end(self.line, at)?)
+        self.looks.push((node.to_vec(), at));
+        let past = (node.to_vec(), atom_end(self.line, at)?);
+        // A node's places are taken up from left to right: pieces are balanced, so all of
+        // them lie at the same depth of brackets, and none inside an atom that is passed.
+        assert!(!self.dead.contains(&past), "a marked place past an atom: {past:?}");
+        self.take_up(past.0, past.1)
+    }
+
+    /// The looks by what they found, and the bytes read there.
+    fn counted(&self) -> Looks {
+        let mut looks = Looks::default();
+        for &(_, at) in &self.looks {
+            let rest = &self.line[at..];
+            let (count, bytes) = match (atom_end(self.line, at), rest.first()) {
+                // the atom's length
+                (Some(end), _) => (&mut looks.atoms, end - at),
+                // 1 at a right bracket
+                (None, Some(b')')) => (&mut looks.right_brackets, 1),
+                // 0 at the line's end
+                (None, None) => (&mut looks.line_ends, 0),
+                // the rest of the line where a left bracket has no partner
+                (None, Some(_)) => (&mut looks.left_brackets, rest.len()),
+            };
+            *count += 1;
+            looks.bytes += bytes as u64;
+        }
+        looks
     }
 
     /// Whether each place was taken up once, and none beyond the tree and the line.
@@ -196,22 +230,26 @@ impl Placing<'_> {
     }
 }
 
-/// Compares the places of fitting a line with request 3's words; gives the answer
-/// and how often a marked place was met again.
-fn compare_places(text: &[u8], templates: &[Vec<u8>], line: &[u8]) -> (Fitted, u64) {
+/// Compares places and bytes of fitting a line with the requests' words; gives the
+/// answer, and how it came about.
+fn compare_places<'a>(text: &[u8], templates: &[Vec<u8>], line: &'a [u8]) -> (Fitted, Placing<'a>) {
     let got = fit(text, NODE_ROW, DEAD_ROW, line);
     let (template_line, placing) = Placing::of(templates, line);
     let shown = (String::from_utf8_lossy(text), String::from_utf8_lossy(line));
-    assert_eq!((got.line, got.places), (template_line, placing.taken.len() as u64), "{shown:?}");
+    let counted = placing.counted();
+    let expected = (template_line, placing.taken.len() as u64, counted.bytes);
+    assert_eq!((got.line, got.places, got.bytes), expected, "{shown:?}");
+    assert_eq!(looks(text, line), Some(counted), "{shown:?}");
     assert!(placing.is_bounded(), "{shown:?}");
     assert!(got.places <= most_places(text, line).unwrap(), "{shown:?}");
-    (got, placing.met_again)
+    assert!(got.bytes <= got.places * line.len() as u64, "{shown:?}");
+    (got, placing)
 }
 
 /// Compares fitting a line with the list of all its readings, and its places.
 fn compare(text: &[u8], templates: &[Vec<u8>], line: &[u8]) -> Fitted {
     let (got, _) = compare_places(text, templates, line);
-    let expected = Fitted { places: got.places, ..naive(templates, line) };
+    let expected = Fitted { places: got.places, bytes: got.bytes, ..naive(templates, line) };
     let shown = (String::from_utf8_lossy(text), String::from_utf8_lossy(line));
     assert_eq!(got, expected, "{shown:?}");
     for at in 0..line.len() {
@@ -277,6 +315,35 @@ impl Dice {
         line.extend(self.row(b"AB()", 3));
         line
     }
+
+    /// Different templates that go through some brackets one by one before they look
+    /// for atoms.
+    fn bracketed_templates(&mut self) -> Vec<Vec<u8>> {
+        let mut templates: Vec<Vec<u8>> = Vec::new();
+        for _ in 0..1 + self.below(12) {
+            let mut template = vec![b'('; self.below(6) as usize];
+            template.extend(self.row(b"!!!!()A", 7));
+            template.extend(self.row(b"B)", 1));
+            if !templates.contains(&template) {
+                templates.push(template);
+            }
+        }
+        templates
+    }
+
+    /// Nested brackets with partners or without, some of which are moved.
+    fn bracketed_line(&mut self) -> Vec<u8> {
+        let depth = 1 + self.below(99) as usize;
+        let rights = [0, depth, depth, depth.saturating_sub(1), depth + 1][self.below(5) as usize];
+        let mut line = [vec![b'('; depth], self.row(b"AB()", 2), vec![b')'; rights]].concat();
+        line.truncate(200);
+        for _ in 0..self.below(6) {
+            let from = self.below(line.len() as u64) as usize;
+            let byte = line.remove(from);
+            line.insert(self.below(line.len() as u64 + 1) as usize, byte);
+        }
+        line
+    }
 }
 
 fn placeholders(template: &[u8]) -> usize {
@@ -321,38 +388,84 @@ fn every_short_line() {
     }
 }
 
-/// Long lines, whose readings are too many to be listed.
-#[test]
-fn long_lines_take_up_each_place_once() {
-    let mut dice = Dice(3);
-    let (mut calls, mut none, mut again, mut many) = (0, 0, 0, 0);
-    for _ in 0..1_000 {
-        let templates = dice.busy_templates();
+/// Of the lines compared, how many are of each sort.
+#[derive(Debug, Default)]
+struct Seen {
+    calls: u32,
+    none: u32,
+    met_again: u32,
+    many_places: u32,
+    many_bytes: u32,
+    right_brackets: u32,
+    left_brackets: u32,
+    line_ends: u32,
+}
+
+/// Compares long lines, whose readings are too many to be listed, four for each
+/// row of templates.
+fn compare_long(
+    seed: u64,
+    count: u32,
+    templates: fn(&mut Dice) -> Vec<Vec<u8>>,
+    line: fn(&mut Dice) -> Vec<u8>,
+) -> Seen {
+    let mut dice = Dice(seed);
+    let mut seen = Seen::default();
+    for _ in 0..count {
+        let templates = templates(&mut dice);
         if templates.is_empty() {
             continue;
         }
         let text = text_of(&templates);
         for _ in 0..4 {
-            let line = dice.busy_line();
-            let (fitted, met_again) = compare_places(&text, &templates, &line);
-            calls += u32::from(fitted.line > 0);
-            none += u32::from(fitted.line == 0);
-            again += u32::from(met_again > 0);
-            many += u32::from(fitted.places > 1_000);
+            let line = line(&mut dice);
+            let (fitted, placing) = compare_places(&text, &templates, &line);
+            let looks = placing.counted();
+            for (count, is_so) in [
+                (&mut seen.calls, fitted.line > 0),
+                (&mut seen.none, fitted.line == 0),
+                (&mut seen.met_again, placing.met_again > 0),
+                (&mut seen.many_places, fitted.places > 1_000),
+                (&mut seen.many_bytes, fitted.bytes > 1_000),
+                (&mut seen.right_brackets, looks.right_brackets > 0),
+                (&mut seen.left_brackets, looks.left_brackets > 0),
+                (&mut seen.line_ends, looks.line_ends > 0),
+            ] {
+                *count += u32::from(is_so);
+            }
         }
     }
-    // Lines fit and don't, the marks are needed, and the search is long.
-    assert!(calls > 400 && none > 2_000, "{calls} {none}");
-    assert!(again > 800 && many > 300, "{again} {many}");
+    println!("{seen:?}");
+    seen
 }
 
-/// The places taken up, each as its node and position.
+#[test]
+fn long_lines_take_up_each_place_once() {
+    let seen = compare_long(3, 1_000, Dice::busy_templates, Dice::busy_line);
+    // Lines fit and don't, the marks are needed, and the search is long.
+    assert!(seen.calls > 400 && seen.none > 2_000, "{seen:?}");
+    assert!(seen.met_again > 800 && seen.many_places > 300, "{seen:?}");
+}
+
+#[test]
+fn long_brackets_are_read_at_each_look() {
+    let seen = compare_long(4, 3_000, Dice::bracketed_templates, Dice::bracketed_line);
+    // Lines fit and don't, much is read, and atoms are looked for where there is none.
+    assert!(seen.calls > 1_000 && seen.none > 1_000 && seen.many_bytes > 1_000, "{seen:?}");
+    assert!(seen.right_brackets > 1_000 && seen.left_brackets > 1_000 && seen.line_ends > 1_000, "{seen:?}");
+}
+
+/// Places, each as its node and position.
+fn shown(places: &[Place]) -> Vec<String> {
+    places.iter().map(|(node, at)| format!("{} {at}", String::from_utf8_lossy(node))).collect()
+}
+
+/// The places taken up.
 #[test]
 fn places_in_order() {
     let taken = |templates: &[Vec<u8>], line: &str| -> Vec<String> {
         compare(&text_of(templates), templates, line.as_bytes());
-        let (_, placing) = Placing::of(templates, line.as_bytes());
-        placing.taken.iter().map(|(node, at)| format!("{} {at}", String::from_utf8_lossy(node))).collect()
+        shown(&Placing::of(templates, line.as_bytes()).1.taken)
     };
     let three = rows(["AB!", "!B", "!=!"]);
     assert_eq!(taken(&three, "AB"), [" 0", "A 1", "AB 2", "AB! 2", "AB!$ 2"]);
@@ -364,4 +477,30 @@ fn places_in_order() {
     // The second placeholder's places are dead when the first is lengthened.
     let two = rows(["!A!B"]);
     assert_eq!(taken(&two, "AA"), [" 0", "! 0", "!A 1", "!A! 1", "!A! 2", "! 1", "!A 2", "! 2"]);
+}
+
+/// The places where an atom is looked for, and the bytes read there.
+#[test]
+fn looks_in_order() {
+    let looked = |templates: &[Vec<u8>], line: &str| -> (Vec<String>, u64) {
+        let fitted = compare(&text_of(templates), templates, line.as_bytes());
+        (shown(&Placing::of(templates, line.as_bytes()).1.looks), fitted.bytes)
+    };
+    let none = (vec![], 0);
+    let at = |places: &[&str], bytes| (places.iter().map(|place| place.to_string()).collect(), bytes);
+    let one = rows(["!B"]);
+    // A byte, an atom, a right bracket, and left brackets without a partner.
+    assert_eq!(looked(&one, "AB"), at(&["! 0"], 1));
+    assert_eq!(looked(&one, "(A)B"), at(&["! 0"], 3));
+    assert_eq!(looked(&one, "A)B"), at(&["! 0", "! 1"], 2));
+    assert_eq!(looked(&one, "A((B)B"), at(&["! 0", "! 1"], 6));
+    // The line's end.
+    assert_eq!(looked(&one, ""), at(&["! 0"], 0));
+    assert_eq!(looked(&one, "A"), at(&["! 0", "! 1"], 1));
+    // None on the root and on literals, and none where a child leads on.
+    assert_eq!(looked(&one, "B"), none);
+    assert_eq!(looked(&rows(["(A)B", "A"]), "(A)"), none);
+    // Each node looks, but not at its marked place a second time.
+    assert_eq!(looked(&rows(["!!B"]), "(A)"), at(&["!! 0", "!! 3", "! 0", "! 3"], 6));
+    assert_eq!(looked(&rows(["!A!B"]), "AA"), at(&["!A! 1", "!A! 2", "! 0", "! 1", "! 2"], 3));
 }

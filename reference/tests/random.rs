@@ -6,7 +6,7 @@ use std::collections::{BTreeMap, BTreeSet};
 
 use common::{run_text, Left, Rooms};
 use stage2_reference::generate::{Generator, Size, SMALL_TEXT};
-use stage2_reference::{check, fit, most_places, Fitted, Ran, DEAD_ROW, NODE_ROW};
+use stage2_reference::{check, fit, looks, most_places, Fitted, Ran, DEAD_ROW, NODE_ROW};
 
 /// Calls `test` with random texts of both sizes.
 fn for_texts(seed: u64, count: usize, test: impl FnMut(&mut Generator, &[u8])) {
@@ -233,29 +233,67 @@ fn texts_about_values_reach_their_numbers() {
     }
 }
 
-/// Places are counted for number 0 alone, from the root on and within the bound.
+/// Fits every line of random texts, and calls `test` with each text, line and answer.
+/// Places and bytes are counted for number 0 alone, from the root on and within their
+/// bounds.
+fn for_fitted(
+    make: fn(&mut Generator, Size) -> Vec<u8>,
+    size: Size,
+    mut test: impl FnMut(&[u8], &[u8], Fitted),
+) {
+    let mut generator = Generator::new(17);
+    for _ in 0..4_000 {
+        let text = make(&mut generator, size);
+        for line in text.split(|&byte| byte == b'\n') {
+            let fitted = fit(&text, NODE_ROW, DEAD_ROW, line);
+            let bound = most_places(&text, line);
+            let legal = match fitted.number {
+                0 => {
+                    (1..=bound.unwrap()).contains(&fitted.places)
+                        && fitted.bytes <= fitted.places * line.len() as u64
+                }
+                _ => (fitted.places, fitted.bytes) == (0, 0),
+            };
+            assert!(legal, "{fitted:?} of {bound:?}: {} {}", shown(&text), shown(line));
+            test(&text, line, fitted);
+        }
+    }
+}
+
 /// Texts about places have many of them, for calls and for others.
 #[test]
 fn texts_about_places_keep_the_search_busy() {
     for (size, many) in [(Size::Small, 100), (Size::Large, 1_000)] {
-        let mut generator = Generator::new(17);
         let (mut calls, mut others) = (0, 0);
-        for _ in 0..4_000 {
-            let text = generator.places_text(size);
-            for line in text.split(|&byte| byte == b'\n') {
-                let fitted = fit(&text, NODE_ROW, DEAD_ROW, line);
-                let bound = most_places(&text, line);
-                let legal = match fitted.number {
-                    0 => (1..=bound.unwrap()).contains(&fitted.places),
-                    _ => fitted.places == 0,
-                };
-                assert!(legal, "{fitted:?} of {bound:?}: {} {}", shown(&text), shown(line));
-                calls += u32::from(fitted.line > 0 && fitted.places >= many);
-                others += u32::from(fitted.line == 0 && fitted.places >= many);
-            }
-        }
+        for_fitted(Generator::places_text, size, |_, _, fitted| {
+            calls += u32::from(fitted.line > 0 && fitted.places >= many);
+            others += u32::from(fitted.line == 0 && fitted.places >= many);
+        });
         println!("{size:?}: {calls} {others}");
         assert!(calls > 100 && others > 500, "{size:?}: {calls} {others}");
+    }
+}
+
+/// Texts about brackets have many bytes read, for calls and for others, and looks
+/// for atoms where there is none.
+#[test]
+fn texts_about_brackets_are_looked_at_everywhere() {
+    for (size, many) in [(Size::Small, 50), (Size::Large, 500)] {
+        let mut counts: BTreeMap<&str, u32> = BTreeMap::new();
+        for_fitted(Generator::brackets_text, size, |text, line, fitted| {
+            let looks = looks(text, line).unwrap_or_default();
+            for (what, occurs) in [
+                ("a call with many bytes", fitted.line > 0 && fitted.bytes >= many),
+                ("no call, with many bytes", fitted.line == 0 && fitted.bytes >= many),
+                ("a right bracket", looks.right_brackets > 0),
+                ("a left bracket without a partner", looks.left_brackets > 0),
+                ("the line's end", looks.line_ends > 0),
+            ] {
+                *counts.entry(what).or_default() += u32::from(occurs);
+            }
+        });
+        println!("{size:?}: {counts:#?}");
+        assert!(counts.values().all(|&count| count > 200), "{size:?}: {counts:#?}");
     }
 }
 
@@ -351,10 +389,12 @@ fn small_texts_are_small_and_a_seed_decides() {
         assert!(first.character_text().len() <= SMALL_TEXT);
         assert!(first.value_text().len() <= SMALL_TEXT);
         assert!(first.places_text(Size::Small).len() <= SMALL_TEXT);
+        assert!(first.brackets_text(Size::Small).len() <= SMALL_TEXT);
         assert!(first.output_text(Size::Small).len() <= SMALL_TEXT);
         second.character_text();
         second.value_text();
         second.places_text(Size::Small);
+        second.brackets_text(Size::Small);
         second.output_text(Size::Small);
     }
     assert_ne!(Generator::new(4).text(Size::Small), Generator::new(5).text(Size::Small));

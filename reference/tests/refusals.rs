@@ -137,8 +137,9 @@ fn a_long_line_is_fitted_after_loading() {
 #[test]
 fn a_fitted_line_is_taken_whole() {
     let text = b"$!$!0 (+-*/)\nA!$\n$$\n";
-    // The root, the byte, the placeholder at five positions and the end.
-    let mut expected = Fitted { line: 2, places: 8, ..Fitted::default() };
+    // The root, the byte, the placeholder at five positions and the end; atoms are looked
+    // for at all but the last of the five.
+    let mut expected = Fitted { line: 2, places: 8, bytes: 4, ..Fitted::default() };
     expected.start[0] = 1;
     expected.length[0] = 4;
     assert_eq!(fit(text, NODE_ROW, DEAD_ROW, b"A\0\n$!"), expected);

@@ -6,8 +6,9 @@
 
 use std::time::{Duration, Instant};
 
-use stage2_compare::{run, Node};
-use stage2_reference::{self as reference, Ran, DEAD_ROW, FUEL_LIMIT, NODE_ROW, STORE_ROOM};
+use stage2_compare::cases::{bracket_lines, bracket_separators, each_depth};
+use stage2_compare::lent::Lent;
+use stage2_reference::{self as reference, Ran, DEAD_ROW, FUEL_LIMIT, NODE_ROW};
 
 /// How long both libraries are timed on a case.
 const LEAST: Duration = Duration::from_millis(1_500);
@@ -16,10 +17,10 @@ const FLAG: &str = "$!$!0 (+-*/)\n";
 
 fn main() {
     println!(
-        "{:50} {:>8} {:>12} {:>12} {:>6} {:>6}",
+        "{:60} {:>8} {:>12} {:>12} {:>6} {:>6}",
         "case", "events", "proved", "reference", "ratio", "input"
     );
-    let mut lent = Lent::new();
+    let mut lent = Lent::default();
     let mut print = |case: &str, text: &str, loading: Option<Times>| print(&mut lent, case, text, loading);
     print("1,000,000 events: passes of an iteration", &passes(), None);
     print("1,000,000 events: calls in an iteration", &calls(), None);
@@ -31,6 +32,14 @@ fn main() {
     for (end, fits) in [("", "nowhere"), ("b", "at the last place")] {
         let loading = print(&format!("nine placeholders, fits {fits}, no line"), &slow(end, 0), None);
         print(&format!("nine placeholders, fits {fits}, 300 x 200"), &slow(end, 300), Some(loading));
+    }
+    for (set, text) in [("( between nine", bracket_separators()), ("each depth", each_depth())] {
+        let loading = print(&format!("{set}, no line"), &text, None);
+        for (name, line) in bracket_lines() {
+            let fitted = reference::fit(text.as_bytes(), NODE_ROW, DEAD_ROW, line.as_bytes());
+            let case = format!("{set}, 250 of {name}: {} places, {} bytes", fitted.places, fitted.bytes);
+            print(&case, &(text.clone() + &(line + "\n").repeat(250)), Some(loading));
+        }
     }
     // Table 2.4.6 of the source: 0, 3 and 6 code lines, 1 to 100 macros.
     for codes in [0, 3, 6] {
@@ -125,37 +134,6 @@ impl Times {
     }
 }
 
-/// What every run is lent.
-struct Lent {
-    nodes: Vec<Node>,
-    dead: Vec<u8>,
-    output: Vec<u8>,
-    second: Vec<u8>,
-    store: Vec<u8>,
-}
-
-impl Lent {
-    fn new() -> Lent {
-        Lent {
-            nodes: vec![Node::default(); NODE_ROW],
-            dead: vec![0; DEAD_ROW],
-            output: vec![0; 65_536],
-            second: vec![0; 65_536],
-            store: vec![0; STORE_ROOM],
-        }
-    }
-
-    fn run_proved(&mut self, text: &[u8]) -> Ran {
-        let Lent { nodes, dead, output, second, store } = self;
-        run(text, FUEL_LIMIT, nodes, dead, output, second, store)
-    }
-
-    fn run_reference(&mut self, text: &[u8]) -> Ran {
-        let Lent { output, second, store, .. } = self;
-        reference::run(text, FUEL_LIMIT, NODE_ROW, DEAD_ROW, output, second, store)
-    }
-}
-
 /// One row: both libraries run the text and agree.
 fn print(lent: &mut Lent, case: &str, text: &str, loading: Option<Times>) -> Times {
     let text = text.as_bytes();
@@ -172,7 +150,7 @@ fn print(lent: &mut Lent, case: &str, text: &str, loading: Option<Times>) -> Tim
     let ran = lent.run_reference(text);
     let input = loading.map_or(String::new(), |times| format!("{:6.2}", shortest.beyond(times).ratio()));
     let (proved, reference) = (shown(shortest.proved), shown(shortest.reference));
-    println!("{case:50} {:8} {proved:>12} {reference:>12} {:6.2} {input}", ran.events, shortest.ratio());
+    println!("{case:60} {:8} {proved:>12} {reference:>12} {:6.2} {input}", ran.events, shortest.ratio());
     shortest
 }
 

@@ -1,10 +1,11 @@
-//! Looks for lines that take up many places: `worst_places [SEED] [ROUNDS]`.
+//! Looks for lines that take up many places, and for lines with many bytes read for
+//! atoms: `worst_places [SEED] [ROUNDS]`.
 //!
-//! Each round begins with a random text about places and a line, and changes them
-//! as long as no fewer places are taken up. Both libraries must agree on every
-//! line. Prints the most places that were found and the largest share of their
-//! bound, the nodes of the tree times the positions of the line, and how long the
-//! proved library takes for them.
+//! Each round begins with a random text about places, or about brackets, and a line,
+//! and changes them as long as the count does not fall. Both libraries must agree on
+//! every line. Prints the most places that were found, the largest share of their
+//! bound, the nodes of the tree times the positions of the line, and the most bytes,
+//! and how long the proved library takes for them.
 
 use std::env;
 use std::time::{Duration, Instant};
@@ -26,20 +27,33 @@ fn main() {
     println!("seed {seed}, {rounds} rounds of {CHANGES} changes");
     let mut generator = Generator::new(seed);
     let mut rows = Rows { nodes: vec![Node::default(); NODE_ROW], dead: vec![0; DEAD_ROW] };
-    let cases: Vec<Case> = (0..rounds).map(|_| rows.climb(&mut generator)).collect();
-    if let Some(case) = cases.iter().max_by_key(|case| case.places) {
+    let mut climb = |make: Make, count: Count| -> Vec<Case> {
+        (0..rounds).map(|_| rows.climb(&mut generator, make, count)).collect()
+    };
+    let busy = climb(Generator::places_text, |fitted| fitted.places);
+    let deep = climb(Generator::brackets_text, |fitted| fitted.bytes);
+    if let Some(case) = busy.iter().max_by_key(|case| case.fitted.places) {
         rows.print("most places", case);
     }
-    if let Some(case) = cases.iter().max_by(|a, b| a.share().total_cmp(&b.share())) {
+    if let Some(case) = busy.iter().max_by(|a, b| a.share().total_cmp(&b.share())) {
         rows.print("largest share", case);
+    }
+    if let Some(case) = deep.iter().max_by_key(|case| case.fitted.bytes) {
+        rows.print("most bytes", case);
     }
 }
 
-/// A line that was fitted, and how many places it took up.
+/// Makes the text that a round begins with.
+type Make = fn(&mut Generator, Size) -> Vec<u8>;
+
+/// What a round makes large.
+type Count = fn(&Fitted) -> u64;
+
+/// A line that was fitted, and the answer.
 struct Case {
     text: Vec<u8>,
     line: Vec<u8>,
-    places: u64,
+    fitted: Fitted,
 }
 
 impl Case {
@@ -49,7 +63,7 @@ impl Case {
     }
 
     fn share(&self) -> f64 {
-        self.places as f64 / self.bound().max(1) as f64
+        self.fitted.places as f64 / self.bound().max(1) as f64
     }
 }
 
@@ -68,12 +82,12 @@ impl Rows {
         let fitted = self.fit(&text, &line);
         let expected = reference::fit(&text, NODE_ROW, DEAD_ROW, &line);
         assert_eq!(fitted, expected, "{} line: {}", text.escape_ascii(), line.escape_ascii());
-        Case { text, line, places: fitted.places }
+        Case { text, line, fitted }
     }
 
     /// What a round comes to.
-    fn climb(&mut self, generator: &mut Generator) -> Case {
-        let text = generator.places_text(Size::Large);
+    fn climb(&mut self, generator: &mut Generator, make: Make, count: Count) -> Case {
+        let text = make(generator, Size::Large);
         let line = generator.line(&text, Size::Large);
         let mut best = self.compare(text, line);
         for change in 0..CHANGES {
@@ -83,7 +97,7 @@ impl Rows {
                 _ => (generator.changed(&best.text), best.line.clone()),
             };
             let tried = self.compare(text, line);
-            if tried.places >= best.places {
+            if count(&tried.fitted) >= count(&best.fitted) {
                 best = tried;
             }
         }
@@ -104,10 +118,9 @@ impl Rows {
     fn print(&mut self, what: &str, case: &Case) {
         let (time, bound, length) = (self.time(case), case.bound(), case.line.len());
         let nodes = bound / (length as u64 + 1);
-        println!(
-            "{what}: {} places of {bound}, {nodes} nodes times ({length} bytes + 1), {time:.1?}",
-            case.places
-        );
+        let Fitted { places, bytes, .. } = case.fitted;
+        println!("{what}: {places} places of {bound}, {nodes} nodes times ({length} bytes + 1), {time:.1?}");
+        println!("  {bytes} bytes read of {}, places times {length}", places * length as u64);
         let text = &case.text[..case.text.len().min(SHOWN)];
         println!("  text of {} bytes: {}", case.text.len(), text.escape_ascii());
         println!("  line: {}", case.line.escape_ascii());

@@ -46,6 +46,11 @@ pub fn for_places_texts(size: Size, test: impl FnMut(&mut Generator, &[u8])) {
     for_made(&format!("{size:?}, places"), |generator| generator.places_text(size), test);
 }
 
+/// Calls `test` with random texts about brackets, of a size.
+pub fn for_brackets_texts(size: Size, test: impl FnMut(&mut Generator, &[u8])) {
+    for_made(&format!("{size:?}, brackets"), |generator| generator.brackets_text(size), test);
+}
+
 /// Calls `test` with random texts about outputs, of a size.
 pub fn for_output_texts(size: Size, test: impl FnMut(&mut Generator, &[u8])) {
     for_made(&format!("{size:?}, outputs"), |generator| generator.output_text(size), test);

@@ -1,4 +1,4 @@
--- Where the first atom of a line from a place on ends.
+-- Where the first atom of a line from a place on ends, and how many bytes a look for it reads.
 use mathlib.Core.Path.{_≡_}
 use mathlib.Core.Bool.{true, false}
 use mathlib.Core.Option.{none, some}
@@ -8,6 +8,8 @@ use lib.ListN.{length, drop}
 use Rattle.model.specs.declared.Marks.{Marks}
 use Rattle.model.specs.Text.{Bytes, part}
 use Rattle.model.specs.Reading.{atom}
+use Rattle.model.specs.Places.{bytesOfLook}
+use Rattle.atom.specs.declared.Scanned.{Scanned}
 
 -- marks with these brackets; no atom asks for the others
 abbrev pub brackets : ℕ → ℕ → Marks
@@ -17,9 +19,10 @@ brackets l r = record { source = 0; placeholder = 0; code = 0; escape = 0; blank
 unfoldable pub depthPast : Marks → ℕ → ℕ → ℕ
 depthPast m b d = elim (eqb b (m .left)) [ true ↦ suc d | false ↦ elim (eqb b (m .right)) [ true ↦ d - 1 | false ↦ d ] ]
 
--- the line's first atom from place `at` on ends at place r; there is none where r is 0
-pub record AtomAt (m : Marks) (line : Bytes) (at r : ℕ) : Type 0 where
-  pub nowhere : r ≡ 0 → atom m (drop at line) ≡ none
-  pub found : 0 < r → atom m (drop at line) ≡ some (part line at r, drop r line)
-  pub ahead : 0 < r → at < r
-  pub within : r ≤ length line
+-- the line's first atom from place `at` on ends at the answer's end; there is none where that is 0. What was read is what the look reads
+pub record AtomAt (m : Marks) (line : Bytes) (at : ℕ) (r : Scanned) : Type 0 where
+  pub nowhere : r .end ≡ 0 → atom m (drop at line) ≡ none
+  pub found : 0 < r .end → atom m (drop at line) ≡ some (part line at (r .end), drop (r .end) line)
+  pub ahead : 0 < r .end → at < r .end
+  pub within : r .end ≤ length line
+  pub read : r .read ≡ bytesOfLook m (drop at line)

@@ -18,28 +18,36 @@ fn depth_past(left: u8, right: u8, b: u8, depth: usize) -> usize
     depth
 }
 
-// The end of the line's first atom from `at` on, or 0 where there is none. Each byte is read once.
-pub fn next_atom(line: &[u8], at: usize, left: u8, right: u8) -> usize
+// What a look for an atom comes to: where the atom ends, 0 where there is none, and how many bytes were read.
+pub struct Scanned {
+    pub end: usize,
+    pub read: usize,
+}
+
+// The line's first atom from `at` on. The depth is carried along from byte to byte, so no byte is read twice.
+pub fn scan_atom(line: &[u8], at: usize, left: u8, right: u8) -> Scanned
     ensures { λ r. ⌜ AtomAt (brackets left right) (now (line .entry)) at r ⌝ }
 {
     if line.len() <= at {
-        return 0;
+        return Scanned { end: 0, read: 0 };
     }
     let b = line[at];
     if b == right {
-        return 0;
+        return Scanned { end: 0, read: 1 };
     }
     let mut i = at + 1;
     if b != left {
-        return i;
+        return Scanned { end: i, read: 1 };
     }
     let mut depth = 1;
     while depth != 0 {
         if i == line.len() {
-            return 0;
+            let read = i - at;
+            return Scanned { end: 0, read };
         }
         depth = depth_past(left, right, line[i], depth);
         i += 1;
     }
-    i
+    let read = i - at;
+    Scanned { end: i, read }
 }

@@ -11,7 +11,7 @@ use Rattle.model.specs.declared.Marks.{Marks}
 use Rattle.model.specs.Text.{Bytes}
 use Rattle.model.specs.Reading.{chosen}
 use Rattle.model.specs.Parts.{Elem, lit, hole, stop, ReadingPart, byte, piece, elems, text, elements, pieces}
-use Rattle.model.specs.Places.{Found, Place, isIn, Tried, idle, orTry, takeUp, tryPast, tryAtom, tryByte, tryPiece, tryPlace, fitting, placesTaken}
+use Rattle.model.specs.Places.{Found, Place, isIn, Tried, idle, orTry, takeUp, afterLook, bytesOfLook, tryPast, tryAtom, tryByte, tryPiece, tryPlace, fitting, placesTaken, bytesRead}
 use Rattle.model.specs.Results.{nine}
 use Rattle.model.proofs.Choices.{false-not-true}
 use Rattle.model.proofs.Parts.{elems-same}
@@ -20,7 +20,7 @@ use Rattle.model.proofs.Unmarked.{unmarked}
 use Rattle.model.proofs.Renumbered.{Same, nothing, something}
 use Rattle.model.proofs.Places.{finds-none, finds-chosen}
 use Rattle.atom.specs.Atoms.{brackets}
-use Rattle.atom.proofs.Atoms.{atom-brackets}
+use Rattle.atom.proofs.Atoms.{atom-brackets, look-brackets}
 use Rattle.nodes.specs.declared.Node.{Node}
 use Rattle.nodes.specs.Rows.{noNode, elem, templateOf, kid, holey, height, holes, Tree, Stands}
 use Rattle.nodes.proofs.Rows.{kid-child, kid-falls, kid-lit, front-node, front-long}
@@ -68,13 +68,17 @@ module _ (m : Marks) (rows : List Node) (tree : Tree rows) (some-row : 0 < lengt
   told = done .says fuel (omega arith) [] clear .0 .told
 
   module _ (ts : List Bytes) (of : TreeOf m rows ts) where
-    -- and how many places it takes up
+    -- how many places it takes up
     counted : o .places ≡ placesTaken m ts line
     counted = done .says fuel (omega arith) [] clear .0 .places ∙ tree-fitting m rows tree ts of some-row line fuel (omega arith) .0
 
+    -- and how many bytes it reads
+    counted-bytes : o .bytes ≡ bytesRead m ts line
+    counted-bytes = done .says fuel (omega arith) [] clear .0 .bytes ∙ tree-fitting m rows tree ts of some-row line fuel (omega arith) .1
+
     -- the templates' tree has it too
     same : Same (result .found) (fitting m ts line .found)
-    same = tree-fitting m rows tree ts of some-row line fuel (omega arith) .1
+    same = tree-fitting m rows tree ts of some-row line fuel (omega arith) .2
 
     -- where nothing is found, the line is no call
     none-chosen : o .node ≡ 0 → chosen m ts line ≡ none
@@ -92,8 +96,8 @@ module _ (m : Marks) (rows : List Node) (tree : Tree rows) (some-row : 0 < lengt
         (f, e, t, sound m (kid rows) (holey rows) (kid-lit rows tree) fuel 0 line f (sym u ∙ e))
 
     -- it is the chosen one
-    some-chosen : (k places : ℕ) → k ≡ templateOf rows (o .node) → (ts : List Bytes) → TreeOf m rows ts → Chosen m ts line (choiceOf ps′ k places)
-    some-chosen k places u ts of =
+    some-chosen : (k : ℕ) → k ≡ templateOf rows (o .node) → (ts : List Bytes) → TreeOf m rows ts → Chosen m ts line (choiceOf ps′ k o)
+    some-chosen k u ts of =
         let (f, e, (p, n, r, s), (j, w, h, x)) = reading in
         let (g, found, parts) = same-some (subst (λ (x : Option Found). Same x (fitting m ts line .found)) e (same ts of)) in
         let c = finds-chosen m ts (of .distinct) (of .differ) line g found in
@@ -125,7 +129,7 @@ module _ (m : Marks) (rows : List Node) (tree : Tree rows) (some-row : 0 < lengt
 module _ (m : Marks) (kid : ℕ → Elem → ℕ) (holey : ℕ → Bool) where
   -- an atom is found by them
   atom-by : (F : ℕ → Bytes → List Place → Tried) (b : Bool) (p : ℕ) (s : Bytes) (ds : List Place) → tryAtom (brackets (m .left) (m .right)) F b p s ds ≡ tryAtom m F b p s ds
-  atom-by F true p s ds = ap (λ (o : Option (Bytes × Bytes)). tryPast F p o ds) (atom-brackets m s)
+  atom-by F true p s ds = ap₂ (λ (n : ℕ) (o : Option (Bytes × Bytes)). afterLook n (tryPast F p o ds)) (look-brackets m s) (atom-brackets m s)
   atom-by F false p s ds = refl
 
   -- and so the search
@@ -156,6 +160,7 @@ searched-by-brackets m {row} {line} {node} {at} {dead} {dead′} {pieces} {piece
           there = d .there;
         };
     few = done .comes .few;
+    read = done .comes .read;
   };
 }
 
@@ -183,7 +188,7 @@ module _ {m : Marks} {row : List Node} {line : Bytes} {o : Outcome} {dead dead�
       some-node = omega (arith, front-long (f .stands), f .root)
 
       -- where nothing is found, the line is no call
-      pub no-call : {c : Choice} → o .node ≡ 0 → c ≡ noChoice (o .places) → Chooses m row count line c
+      pub no-call : {c : Choice} → o .node ≡ 0 → c ≡ noChoice o → Chooses m row count line c
       unfolding nine
       no-call n q = rw q record {
         no-call = λ _ ts t. none-chosen m (take count row) (f .stands .tree) some-node line o dead dead′ pieces′ from-none clear ts (t .of) n;
@@ -191,16 +196,18 @@ module _ {m : Marks} {row : List Node} {line : Bytes} {o : Outcome} {dead dead�
         call = λ e. false-not-true e;
         within = λ i. omega (arith, zero-at 9 i);
         places = λ ts t. counted m (take count row) (f .stands .tree) some-node line o dead dead′ pieces′ from-none clear ts (t .of);
+        bytes = λ ts t. counted-bytes m (take count row) (f .stands .tree) some-node line o dead dead′ pieces′ from-none clear ts (t .of);
       }
 
       -- where something is found, the line is a call
-      pub is-call : {n : Node} {k : ℕ} {c : Choice} → ¬ (o .node ≡ 0) → n ≡ getD row (o .node) noNode → k ≡ n .template → c ≡ choiceOf pieces′ k (o .places) → Chooses m row count line c
+      pub is-call : {n : Node} {k : ℕ} {c : Choice} → ¬ (o .node ≡ 0) → n ≡ getD row (o .node) noNode → k ≡ n .template → c ≡ choiceOf pieces′ k o → Chooses m row count line c
       is-call {n} {k} w x y q =
           let is : k ≡ templateOf (take count row) (o .node) = y ∙ ap (λ (n : Node). n .template) (x ∙ sym (front-node row count (o .node) (found-below (f .stands) (f .root)))) in
           rw q record {
             no-call = λ e. false-not-true (sym e);
             blank = λ e. false-not-true (sym e);
-            call = λ _ ts t. some-chosen m (take count row) (f .stands .tree) some-node line o dead dead′ pieces′ from-none clear w k (o .places) is ts (t .of);
+            call = λ _ ts t. some-chosen m (take count row) (f .stands .tree) some-node line o dead dead′ pieces′ from-none clear w k is ts (t .of);
             within = some-within m (take count row) (f .stands .tree) some-node line o dead dead′ pieces′ from-none clear w;
             places = λ ts t. counted m (take count row) (f .stands .tree) some-node line o dead dead′ pieces′ from-none clear ts (t .of);
+            bytes = λ ts t. counted-bytes m (take count row) (f .stands .tree) some-node line o dead dead′ pieces′ from-none clear ts (t .of);
           }

@@ -7,6 +7,7 @@ use lib.ListN.{length, getD, take, drop, length-drop, drop-of-length-le}
 use lib.Seq.{drop-cons, take-all}
 use mathlib.Core.Bool.{true}
 use Rattle.fit.specs.declared.Choice.{Choice}
+use Rattle.fit.specs.declared.Outcome.{Outcome}
 use Rattle.fit.specs.Chosen.{choiceOf}
 
 next : (a : List ℕ) (i : ℕ) (l : List ℕ) → i < length a → drop (suc i) a ≡ l → drop i a ≡ getD a i 0 ∷ l
@@ -25,9 +26,9 @@ pub nine-kept : {a : List ℕ} {x₀ x₁ x₂ x₃ x₄ x₅ x₆ x₇ x₈ : �
 nine-kept {a} l e₀ e₁ e₂ e₃ e₄ e₅ e₆ e₇ e₈ = rw (e₀, e₁, e₂, e₃, e₄, e₅, e₆, e₇, e₈) (all-nine a l)
 
 -- the choice whose pieces are widened, part by part
-pub choice-widened : (ps : List ℕ) (t k : ℕ) (a b : List ℕ) → length ps ≡ 18 → a ≡ take (9 - 0) ps → b ≡ take (18 - 9) (drop 9 ps)
-    → _≡_ {A = Choice} record { found = true; template = t; starts = a; lens = b; places = k } (choiceOf ps t k)
-choice-widened ps t k a b l e f =
+pub choice-widened : (ps : List ℕ) (t : ℕ) (o : Outcome) (a b : List ℕ) → length ps ≡ 18 → a ≡ take (9 - 0) ps → b ≡ take (18 - 9) (drop 9 ps)
+    → _≡_ {A = Choice} record { found = true; template = t; starts = a; lens = b; places = o .places; bytes = o .bytes } (choiceOf ps t o)
+choice-widened ps t o a b l e f =
     let x : a ≡ take 9 ps = e in
     let y : b ≡ drop 9 ps = f ∙ take-all 9 (drop 9 ps) (omega (arith, length-drop 9 ps)) in
     rw (x, y) refl

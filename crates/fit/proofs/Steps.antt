@@ -16,15 +16,17 @@ use Rattle.model.specs.Limits.{lineMost, nodesMost}
 use Rattle.model.specs.declared.Marks.{Marks}
 use Rattle.model.specs.Text.{Bytes, part}
 use Rattle.model.specs.Parts.{Elem, lit, hole, stop}
-use Rattle.model.specs.Places.{Found, withByte, pieceFound, withAtom, Place, isIn, Tried, idle, within, orTry, takeUp, tryChild, tryEnd, tryAtom, tryByte, tryPiece, tryPlace}
+use Rattle.model.specs.Places.{Found, withByte, pieceFound, withAtom, Place, isIn, Tried, idle, within, orTry, takeUp, afterLook, bytesOfLook, tryChild, tryEnd, tryAtom, tryByte, tryPiece, tryPlace}
 use Rattle.model.proofs.Choices.{false-not-true}
 use Rattle.model.proofs.Atoms.{none-some}
+use Rattle.model.proofs.Looks.{look-atom, look-most}
 use Rattle.model.proofs.Search.{rest-end, rest-byte, rest-piece}
+use Rattle.atom.specs.declared.Scanned.{Scanned}
 use Rattle.atom.specs.Atoms.{AtomAt}
 use Rattle.nodes.specs.declared.Node.{Node}
 use Rattle.nodes.specs.Rows.{noNode, elem, firstOf, countOf, code, kid, holey, height, holes, Tree, ChildFor, Stands}
 use Rattle.nodes.proofs.Rows.{kid-child, kid-falls, kid-lit, holes-lit, holes-hole, front-node, front-long, front-within, front-child}
-use Rattle.fit.specs.Outcome.{blank, passAtom, elementOf, elementAt, withPieceAt, withPieces, StoresPiece, startsIn, lensIn, Told, Says, HoldsDead, endsAt}
+use Rattle.fit.specs.Outcome.{blank, onlyRead, passAtom, elementOf, elementAt, withPieceAt, withPieces, StoresPiece, startsIn, lensIn, Told, Says, HoldsDead, endsAt}
 use Rattle.fit.specs.Outcome.{Lent, Outcomes, sizeIn, placeTried, byteStep, pieceStep, atomStep, Asks, Comes, SearchedIn, ByteSearched, PieceSearched, AtomSearched}
 use Rattle.fit.specs.declared.Outcome.{Outcome}
 
@@ -46,7 +48,7 @@ element-end line end at le =
 -- ---- the atom in the front of a line
 
 -- the front as the code takes it
-pub atom-front : (m : Marks) (line : Bytes) (end at e : ℕ) → AtomAt m (take (end - 0) line) at e → AtomAt m (take end line) at e
+pub atom-front : (m : Marks) (line : Bytes) (end at : ℕ) (e : Scanned) → AtomAt m (take (end - 0) line) at e → AtomAt m (take end line) at e
 atom-front m line end at e h = let z : end - 0 ≡ end = omega arith in subst (λ (n : ℕ). AtomAt m (take n line) at e) z h
 
 -- ---- what an outcome says
@@ -105,11 +107,11 @@ suc-of (suc j) h = (j, refl)
 
 -- what two ways find, one of them finds
 try-inv : (a : Tried) (next : List Place → Tried) (f : Found) → orTry a next .found ≡ some f → (a .found ≡ some f) ⊎ (next (a .dead) .found ≡ some f)
-try-inv a next f e = by (a .found) (a .dead) (a .taken) e
+try-inv a next f e = by (a .found) (a .dead) (a .taken) (a .bytes) e
   where
-    by : (o : Option Found) (ns ts : List Place) → orTry (record { found = o; dead = ns; taken = ts }) next .found ≡ some f → (o ≡ some f) ⊎ (next ns .found ≡ some f)
-    by none ns ts h = inr h
-    by (some g) ns ts h = inl h
+    by : (o : Option Found) (ns ts : List Place) (c : ℕ) → orTry (record { found = o; dead = ns; taken = ts; bytes = c }) next .found ≡ some f → (o ≡ some f) ⊎ (next ns .found ≡ some f)
+    by none ns ts c h = inr h
+    by (some g) ns ts c h = inl h
 
 module _ (m : Marks) (kid : ℕ → Elem → ℕ) (holey : ℕ → Bool) where
   -- by the end or a byte none is found open
@@ -270,41 +272,51 @@ module _ {row : List Node} {dead pieces line : Bytes} {end node at : ℕ} (a : A
       l ∙ a .nine,
     )
 
-  module _ {m : Marks} {e : ℕ} (h : AtomAt m (take end line) at e) (z : ¬ (e ≡ 0)) where
+  module _ {m : Marks} {e : Scanned} (h : AtomAt m (take end line) at e) (z : ¬ (e .end ≡ 0)) where
     -- the search can go on past an atom
-    pub asks-atom : Asks row dead pieces line end node e
-    asks-atom = elsewhere a node e (a .there) (omega (arith, h .within, line-long)) (a .plain)
+    pub asks-atom : Asks row dead pieces line end node (e .end)
+    asks-atom = elsewhere a node (e .end) (a .there) (omega (arith, h .within, line-long)) (a .plain)
 
     -- the atom has a byte
-    atom-ahead : at < e
+    atom-ahead : at < e .end
     atom-ahead = h .ahead (omega (arith, z))
 
     -- so that it can be counted
-    pub atom-before : at ≤ e
+    pub atom-before : at ≤ e .end
     atom-before = omega (arith, atom-ahead)
 
     -- less is left of the line, so the measure falls
-    pub atom-less : 3 * (height row node + (end - e)) + 2 < 3 * (height row node + (end - at))
+    pub atom-less : 3 * (height row node + (end - e .end)) + 2 < 3 * (height row node + (end - at))
     atom-less = omega (arith, atom-ahead, h .within, line-long)
 
-    -- the piece stays within the line, so its length fits
-    pub atom-fits : {o : Outcome} {dead′ pieces′ : Bytes} → SearchedIn m row (take end line) node e dead dead′ pieces pieces′ o → o .rest + (e - at) < 2 ^ 64
-    atom-fits g = omega (arith, g .comes .each (a .made) (a .stands) (a .there) .short, atom-ahead, h .within, line-long, a .short)
+    -- the piece stays within the line, and few bytes are read, so both sums fit
+    pub atom-fits : {o : Outcome} {dead′ pieces′ : Bytes} → SearchedIn m row (take end line) node (e .end) dead dead′ pieces pieces′ o → (o .rest + (e .end - at) < 2 ^ 64) × (o .bytes + (e .end - at) < 2 ^ 64)
+    atom-fits g = (
+      omega (arith, g .comes .each (a .made) (a .stands) (a .there) .short, atom-ahead, h .within, line-long, a .short),
+      omega (arith, g .comes .read, h .within, line-long, a .short),
+    )
 
 -- ---- steps that take up nothing
 
--- a step that takes up no place leaves the rows as they are
-pub idle-comes : {row : List Node} {line : Bytes} {node at F : ℕ} {fuel : List Node → ℕ} {step : List Node → ℕ → List Place → Tried} {dead pieces : Bytes} {o : Outcome}
-    → ((made : ℕ) → Stands row made → node < made → (n : ℕ) (ds : List Place) → HoldsDead (length (take made row)) (suc (length line)) dead ds → fuel (take made row) ≤ n → step (take made row) n ds ≡ idle ds)
-    → o ≡ blank 0 0 → Comes row line node at fuel F step (record { dead = dead; dead′ = dead; pieces = pieces; pieces′ = pieces }) o
-idle-comes {row} {line} {node} {at} h e = rw e record {
+-- a look that leads nowhere leaves the rows as they are
+pub look-comes : {row : List Node} {line : Bytes} {node at F G c : ℕ} {fuel : List Node → ℕ} {step : List Node → ℕ → List Place → Tried} {dead pieces : Bytes} {o : Outcome}
+    → ((made : ℕ) → Stands row made → node < made → (n : ℕ) (ds : List Place) → HoldsDead (length (take made row)) (suc (length line)) dead ds → fuel (take made row) ≤ n → step (take made row) n ds ≡ afterLook c (idle ds))
+    → c ≤ G → o ≡ onlyRead c → Comes row line node at fuel F G step (record { dead = dead; dead′ = dead; pieces = pieces; pieces′ = pieces }) o
+look-comes {row} {line} {node} {at} h le e = rw e record {
   each = λ made s lt. record {
-    says = λ n l ds k. rw (h made s lt n ds k l) (record { told = (refl, refl); places = refl }, k);
+    says = λ n l ds k. rw (h made s lt n ds k l) (record { told = (refl, refl); places = refl; bytes = omega arith }, k);
     short = omega arith;
     there = omega (arith, lt, front-long s);
   };
   few = omega arith;
+  read = le;
 }
+
+-- and so does a step that takes up no place and reads nothing
+pub idle-comes : {row : List Node} {line : Bytes} {node at F G : ℕ} {fuel : List Node → ℕ} {step : List Node → ℕ → List Place → Tried} {dead pieces : Bytes} {o : Outcome}
+    → ((made : ℕ) → Stands row made → node < made → (n : ℕ) (ds : List Place) → HoldsDead (length (take made row)) (suc (length line)) dead ds → fuel (take made row) ≤ n → step (take made row) n ds ≡ idle ds)
+    → o ≡ blank 0 0 → Comes row line node at fuel F G step (record { dead = dead; dead′ = dead; pieces = pieces; pieces′ = pieces }) o
+idle-comes h e = look-comes (λ made s lt n ds k l. h made s lt n ds k l) (omega arith) e
 
 -- no child has the byte, nor the end
 no-child : (kid : ℕ → Elem → ℕ) (F : ℕ → ℕ → Bytes → List Place → Tried) (i p : ℕ) (s : Bytes) (ds : List Place) → kid i (elementOf s) ≡ 0 → tryByte kid F i p s ds ≡ idle ds
@@ -349,7 +361,7 @@ module _ (m : Marks) (rows : List Node) (line : Bytes) (node at c : ℕ) (o : Ou
       let d : drop at line ≡ [] = drop-of-length-le line le in
       let y : kid rows node stop ≡ suc j = ap (λ (s : Bytes). kid rows node (elementOf s)) (sym d) ∙ sym w ∙ x in
       rw e record {
-        says = λ n l ds k. rw (d, y) (record { told = (omega (arith, x), x, refl, refl); places = refl }, k);
+        says = λ n l ds k. rw (d, y) (record { told = (omega (arith, x), x, refl, refl); places = refl; bytes = refl }, k);
         short = omega arith;
         there = lt;
       }
@@ -381,6 +393,7 @@ module _ (m : Marks) (rows : List Node) (line : Bytes) (node at c : ℕ) (o : Ou
                   (λ f e. place-rest m (kid rows) (holey rows) n (suc j) (at + 1) (drop (at + 1) line) ds f (kid-lit rows tree node b j y)
                   (subst (λ (i : ℕ). tryChild (λ j. tryPlace m (kid rows) (holey rows) n j (at + 1) (drop (at + 1) line) ds) i ds .found ≡ some f) y e)) (s .told);
               places = s .places;
+              bytes = s .bytes;
             },
             g,
           )
@@ -405,6 +418,7 @@ module _ (m : Marks) (rows : List Node) (line : Bytes) (node at c : ℕ) (o : Ou
             record {
               told = told-piece (holes rows node) (holes rows c) at (t .found) o r pieces pieces1 pieces2 (ap (holes rows) v ∙ holes-hole rows tree node j (sym w ∙ v)) f q (s .told);
               places = ap (λ (o : Outcome). o .places) (q .is) ∙ s .places;
+              bytes = ap (λ (o : Outcome). o .bytes) (q .is) ∙ s .bytes;
             },
             g,
           );
@@ -418,7 +432,7 @@ module _ (m : Marks) (rows : List Node) (line : Bytes) (node at c : ℕ) (o : Ou
       says = λ n le ds k.
           let t : Tried = tryChild (λ j. tryPlace m (kid rows) (holey rows) n j at (drop at line) ds) (kid rows node hole) ds in
           let (s, g) = said-child n le ds k in
-          (record { told = told-no-piece (holes rows node) (holes rows c) at (t .found) o pieces pieces1 f (s .told); places = s .places }, g);
+          (record { told = told-no-piece (holes rows node) (holes rows c) at (t .found) o pieces pieces1 f (s .told); places = s .places; bytes = s .bytes }, g);
       short = omega (arith, h .short);
       there = h .there;
     }
@@ -433,6 +447,7 @@ module _ {m : Marks} {row : List Node} {dead pieces line : Bytes} {end node at :
             end-outcomes m (take made row) (take end line) node at c o (s .tree) z dead pieces (omega (arith, line-long a, t)) (child-is s lt h (elementAt (take end line) at) w)
             (omega (arith, child-there s lt h, front-long s)) q;
         few = omega (arith, ap (λ (o : Outcome). o .places) q);
+        read = omega (arith, ap (λ (o : Outcome). o .bytes) q);
       };
     }
 
@@ -445,6 +460,7 @@ module _ {m : Marks} {row : List Node} {dead pieces line : Bytes} {end node at :
             byte-outcomes m (take made row) (take end line) node at c o (s .tree) z (record { dead = dead; dead′ = dead′; pieces = pieces; pieces′ = pieces′ }) (omega (arith, line-long a, a .low, t))
             (child-is s lt h (elementAt (take end line) at) w) (g .comes .each made s (child-there s lt h));
         few = g .comes .few;
+        read = g .comes .read;
       };
     }
 
@@ -459,6 +475,7 @@ module _ {m : Marks} {row : List Node} {dead pieces line : Bytes} {end node at :
               piece-outcomes m (take made row) (take end line) node at c o (s .tree) z dead dead1 pieces pieces1 (child-is s lt h hole w) (g .comes .each made s (child-there s lt h)) pieces2 r f
               (subst (λ (k : ℕ). StoresPiece k at o pieces1 pieces2 r) v q);
           few = omega (arith, g .comes .few, ap (λ (o : Outcome). o .places) (q .is));
+          read = omega (arith, g .comes .read, ap (λ (o : Outcome). o .bytes) (q .is));
         };
       }
 
@@ -469,6 +486,7 @@ module _ {m : Marks} {row : List Node} {dead pieces line : Bytes} {end node at :
           each = λ made s lt.
               no-piece-outcomes m (take made row) (take end line) node at c o (s .tree) z dead dead1 pieces pieces1 (child-is s lt h hole w) (g .comes .each made s (child-there s lt h)) f;
           few = g .comes .few;
+          read = g .comes .read;
         };
       }
 
@@ -479,46 +497,57 @@ holey-is : (row : List Node) (node made : ℕ) {n : Node} {b : Bool} → node < 
 holey-is row node made lt x y = sym (y ∙ ap (λ (n : Node). eqb (n .element) 1) (x ∙ sym (front-node row made node lt)))
 
 -- the atom makes the open piece longer
-atom-outcomes : (m : Marks) (rows : List Node) (line : Bytes) (node at e : ℕ) (l : Lent) (o : Outcome) → holey rows node ≡ true → AtomAt m line at e → ¬ (e ≡ 0)
-    → Outcomes rows line node e (suc (sizeIn rows line node e)) (λ n. placeTried m rows line node e n) l o
-    → Outcomes rows line node at (sizeIn rows line node at) (λ n. atomStep m rows line node at n) l (passAtom (e - at) o)
-atom-outcomes m rows line node at e l o t a z h = record { says = says; short = omega (arith, h .short, up, a .within); there = h .there }
+atom-outcomes : (m : Marks) (rows : List Node) (line : Bytes) (node at : ℕ) (r : Scanned) (l : Lent) (o : Outcome) → holey rows node ≡ true → AtomAt m line at r → ¬ (r .end ≡ 0)
+    → Outcomes rows line node (r .end) (suc (sizeIn rows line node (r .end))) (λ n. placeTried m rows line node (r .end) n) l o
+    → Outcomes rows line node at (sizeIn rows line node at) (λ n. atomStep m rows line node at n) l (passAtom (r .end - at) o)
+atom-outcomes m rows line node at r l o t a z h = record { says = says; short = omega (arith, h .short, up, a .within); there = h .there }
   where
+    e : ℕ
+    e = r .end
+
     up : at < e
     up = a .ahead (omega (arith, z))
 
     long : at + length (part line at e) ≡ e
     long = simp (length-take, length-drop) (omega (arith, up, a .within))
 
+    read : bytesOfLook m (drop at line) ≡ e - at
+    read = look-atom m (drop at line) (part line at e) (drop e line) (a .found (omega (arith, z))) ∙ omega (arith, long)
+
     says : (n : ℕ) → sizeIn rows line node at ≤ n → (ds : List Place) → HoldsDead (length rows) (suc (length line)) (l .dead) ds
         → Says (holes rows node) at (atomStep m rows line node at n ds) (passAtom (e - at) o) (l .pieces) (l .pieces′)
         × HoldsDead (length rows) (suc (length line)) (l .dead′) (atomStep m rows line node at n ds .dead)
     says n le ds k =
         let (s, g) = h .says n (omega (arith, up, a .within, le)) ds k in
-        rw (t, a .found (omega (arith, z)), long) (
+        rw (t, read, a .found (omega (arith, z)), long) (
           record {
             told = told-atom (holes rows node) at e (part line at e) (placeTried m rows line node e n ds .found) o (l .pieces) (l .pieces′) long (s .told);
             places = s .places;
+            bytes = omega (arith, s .bytes);
           },
           g,
         )
 
-module _ {m : Marks} {row : List Node} {dead pieces line : Bytes} {node at : ℕ} {n : Node} {b : Bool} (x : n ≡ getD row node noNode) (y : b ≡ eqb (n .element) 1) where
+module _ {m : Marks} {row : List Node} {dead pieces line : Bytes} {end node at : ℕ} (a : Asks row dead pieces line end node at) {n : Node} {b : Bool} (x : n ≡ getD row node noNode) (y : b ≡ eqb (n .element) 1) where
   -- the node is no placeholder's
-  pub atom-not : {o : Outcome} → b ≡ false → o ≡ blank 0 0 → AtomSearched m row line node at dead dead pieces pieces o
+  pub atom-not : {o : Outcome} → b ≡ false → o ≡ blank 0 0 → AtomSearched m row (take end line) node at dead dead pieces pieces o
   atom-not f q = record { comes = idle-comes (λ made s lt k ds h l. rw (holey-is row node made lt x y ∙ f) refl) q }
 
-  -- there is no atom
-  pub atom-none : {e : ℕ} {o : Outcome} → b ≡ true → AtomAt m line at e → e ≡ 0 → o ≡ blank 0 0 → AtomSearched m row line node at dead dead pieces pieces o
-  atom-none t g z q = record { comes = idle-comes (λ made s lt k ds h l. rw (holey-is row node made lt x y ∙ t, g .nowhere z) refl) q }
+  -- there is no atom, and what the look reads is counted
+  pub atom-none : {e : Scanned} {o : Outcome} → b ≡ true → AtomAt m (take end line) at e → e .end ≡ 0 → o ≡ onlyRead (e .read) → AtomSearched m row (take end line) node at dead dead pieces pieces o
+  atom-none {e} t g z q = record {
+    comes = look-comes (λ made s lt k ds h l. rw (holey-is row node made lt x y ∙ t, g .nowhere z, g .read) refl)
+        (omega (arith, g .read, look-most m (drop at (take end line)), length-drop at (take end line), line-long a, a .short)) q;
+  }
 
   -- the open piece has the atom
-  pub atom-below : {e : ℕ} {o u : Outcome} {dead′ pieces′ : Bytes} → b ≡ true → AtomAt m line at e → ¬ (e ≡ 0) → SearchedIn m row line node e dead dead′ pieces pieces′ o → u ≡ passAtom (e - at) o
-      → AtomSearched m row line node at dead dead′ pieces pieces′ u
+  pub atom-below : {e : Scanned} {o u : Outcome} {dead′ pieces′ : Bytes} → b ≡ true → AtomAt m (take end line) at e → ¬ (e .end ≡ 0) → SearchedIn m row (take end line) node (e .end) dead dead′ pieces pieces′ o → u ≡ passAtom (e .end - at) o
+      → AtomSearched m row (take end line) node at dead dead′ pieces pieces′ u
   atom-below {e} {o} {u} {dead′} {pieces′} t g z w q = rw q record {
     comes = record {
       each = λ made s lt.
-          atom-outcomes m (take made row) line node at e (record { dead = dead; dead′ = dead′; pieces = pieces; pieces′ = pieces′ }) o (holey-is row node made lt x y ∙ t) g z (w .comes .each made s lt);
+          atom-outcomes m (take made row) (take end line) node at e (record { dead = dead; dead′ = dead′; pieces = pieces; pieces′ = pieces′ }) o (holey-is row node made lt x y ∙ t) g z (w .comes .each made s lt);
       few = w .comes .few;
+      read = omega (arith, w .comes .read, g .within, line-long a, a .short);
     };
   }

@@ -7,7 +7,7 @@ use Prim.Native.Nat.{ℕ, zero, suc, _+_, _*_, _/_, _≤_, _<_, _^_}
 use native.Mathlib.Nat.{mul-le-mul, mul-le-mul-left, mul-le-mul-right, suc-mul}
 use native.Mathlib.Omega.{arith}
 use lib.Dec.{eqb}
-use lib.ListN.{length, take, drop, length-append}
+use lib.ListN.{length, take, drop, length-append, length-drop}
 use lib.Seq.{length-take-le}
 use Rattle.model.specs.Limits.{lineMost, nodesMost}
 use Rattle.model.specs.declared.Marks.{Marks}
@@ -17,12 +17,13 @@ use Rattle.model.specs.Places.{Found, Place, isIn, Tried, idle, orTry, takeUp, 
 use Rattle.model.proofs.Choices.{false-not-true}
 use Rattle.model.proofs.Chosen.{Tested, alike, apart, tested}
 use Rattle.model.proofs.Once.{number-apart, Kids, fair, byte-no-ends, piece-no-ends, few-places}
+use Rattle.model.proofs.Looks.{few-bytes}
 use Rattle.nodes.specs.declared.Node.{Node}
 use Rattle.nodes.specs.Rows.{kid, holey, height, holes, Stands}
 use Rattle.nodes.proofs.Rows.{kid-falls, kid-within, front-long}
 use Rattle.places.specs.Bits.{bit, AddsBit, ClearsBits}
 use Rattle.fit.specs.Chosen.{Fits}
-use Rattle.fit.specs.Outcome.{blank, countPlace, countAfter, Told, Says, HoldsDead, endsAt, placesMost, Outcomes, sizeIn, placeTried, byteStep, pieceStep, atomStep, laterStep, allSteps}
+use Rattle.fit.specs.Outcome.{blank, countPlace, countAfter, Told, Says, HoldsDead, endsAt, placesMost, bytesMost, Outcomes, sizeIn, placeTried, byteStep, pieceStep, atomStep, laterStep, allSteps}
 use Rattle.fit.specs.Outcome.{Asks, SearchedIn, ByteSearched, PieceSearched, AtomSearched, TakenUp}
 use Rattle.fit.specs.declared.Outcome.{Outcome}
 use Rattle.fit.proofs.Steps.{ends-stop, ends-lit, ends-hole, asks-bit, line-long, line-holds, idle-comes}
@@ -32,25 +33,26 @@ use Rattle.fit.proofs.Steps.{ends-stop, ends-lit, ends-hole, asks-bit, 
 -- the first step leads on
 said-first : (k at c w : ℕ) (dead ps ps′ : Bytes) (a : Tried) (next : List Place → Tried) (o : Outcome) → ¬ (o .node ≡ 0) → Says k at a o ps ps′ × HoldsDead c w dead (a .dead)
     → Says k at (orTry a next) o ps ps′ × HoldsDead c w dead (orTry a next .dead)
-said-first k at c w dead ps ps′ a next o z (s, h) = by (a .found) (a .dead) (a .taken) s h
+said-first k at c w dead ps ps′ a next o z (s, h) = by (a .found) (a .dead) (a .taken) (a .bytes) s h
   where
-    by : (f : Option Found) (ns ts : List Place) → Says k at (record { found = f; dead = ns; taken = ts }) o ps ps′ → HoldsDead c w dead ns
-        → Says k at (orTry (record { found = f; dead = ns; taken = ts }) next) o ps ps′ × HoldsDead c w dead (orTry (record { found = f; dead = ns; taken = ts }) next .dead)
-    by none ns ts s h = absurd (z (s .told .0))
-    by (some f) ns ts s h = (s, h)
+    by : (f : Option Found) (ns ts : List Place) (c′ : ℕ) → Says k at (record { found = f; dead = ns; taken = ts; bytes = c′ }) o ps ps′ → HoldsDead c w dead ns
+        → Says k at (orTry (record { found = f; dead = ns; taken = ts; bytes = c′ }) next) o ps ps′ × HoldsDead c w dead (orTry (record { found = f; dead = ns; taken = ts; bytes = c′ }) next .dead)
+    by none ns ts c′ s h = absurd (z (s .told .0))
+    by (some f) ns ts c′ s h = (s, h)
 
 -- it doesn't, and the next may
 said-next : (k at c w : ℕ) (dead ps ps1 ps2 : Bytes) (a : Tried) (next : List Place → Tried) (o u : Outcome) → o .node ≡ 0 → Says k at a o ps ps1
     → Says k at (next (a .dead)) u ps1 ps2 × HoldsDead c w dead (next (a .dead) .dead)
     → Says k at (orTry a next) (countAfter o u) ps ps2 × HoldsDead c w dead (orTry a next .dead)
-said-next k at c w dead ps ps1 ps2 a next o u z s (t, h) = by (a .found) (a .dead) (a .taken) s t h
+said-next k at c w dead ps ps1 ps2 a next o u z s (t, h) = by (a .found) (a .dead) (a .taken) (a .bytes) s t h
   where
-    by : (f : Option Found) (ns ts : List Place) → Says k at (record { found = f; dead = ns; taken = ts }) o ps ps1 → Says k at (next ns) u ps1 ps2 → HoldsDead c w dead (next ns .dead)
-        → Says k at (orTry (record { found = f; dead = ns; taken = ts }) next) (countAfter o u) ps ps2 × HoldsDead c w dead (orTry (record { found = f; dead = ns; taken = ts }) next .dead)
-    by none ns ts s t h = (
+    by : (f : Option Found) (ns ts : List Place) (c′ : ℕ) → Says k at (record { found = f; dead = ns; taken = ts; bytes = c′ }) o ps ps1 → Says k at (next ns) u ps1 ps2 → HoldsDead c w dead (next ns .dead)
+        → Says k at (orTry (record { found = f; dead = ns; taken = ts; bytes = c′ }) next) (countAfter o u) ps ps2 × HoldsDead c w dead (orTry (record { found = f; dead = ns; taken = ts; bytes = c′ }) next .dead)
+    by none ns ts c′ s t h = (
       record {
         told = again (next ns .found) (subst (λ (p : Bytes). Told k at (next ns .found) u p ps2) (s .told .1) (t .told));
         places = ap₂ (λ (x y : ℕ). x + y) (s .places) (t .places) ∙ sym (length-append ts (next ns .taken));
+        bytes = ap₂ (λ (x y : ℕ). x + y) (s .bytes) (t .bytes);
       },
       h,
     )
@@ -58,7 +60,7 @@ said-next k at c w dead ps ps1 ps2 a next o u z s (t, h) = by (a .found) (a .dea
         again : (f : Option Found) → Told k at f u ps ps2 → Told k at f (countAfter o u) ps ps2
         again none t = t
         again (some f) t = t
-    by (some f) ns ts s t h = absurd (omega (arith, s .told .0, z))
+    by (some f) ns ts c′ s t h = absurd (omega (arith, s .told .0, z))
 
 module _ {row : List Node} {dead pieces line : Bytes} {end node at : ℕ} (a : Asks row dead pieces line end node at) where
   -- the tree, and what the search asks of it
@@ -126,13 +128,14 @@ module _ {m : Marks} {row : List Node} {dead dead1 pieces pieces1 line : Bytes} 
             there = x .there;
           };
       few = omega (arith, h .comes .few);
+      read = omega (arith, h .comes .read);
     };
   }
 
   module _ (z : b .node ≡ 0) {dead2 pieces2 : Bytes} {p : Outcome} (i : PieceSearched m row line node at dead1 dead2 pieces1 pieces2 p) where
-    -- the sum of the places fits
-    pub sum-fits : b .places + p .places < 2 ^ 64
-    sum-fits = omega (arith, h .comes .few, i .comes .few)
+    -- the sums of places and of bytes fit
+    pub sum-fits : (b .places + p .places < 2 ^ 64) × (b .bytes + p .bytes < 2 ^ 64)
+    sum-fits = (omega (arith, h .comes .few, i .comes .few), omega (arith, h .comes .read, i .comes .read))
 
     -- it doesn't, and the placeholder does
     pub second-found : {r : Outcome} → ¬ (p .node ≡ 0) → r ≡ countAfter b p → TakenUp m row line node at dead dead2 pieces pieces2 r
@@ -152,17 +155,18 @@ module _ {m : Marks} {row : List Node} {dead dead1 pieces pieces1 line : Bytes} 
               there = y .there;
             };
         few = omega (arith, h .comes .few, i .comes .few);
+        read = omega (arith, h .comes .read, i .comes .read);
       };
     }
 
     module _ (w : p .node ≡ 0) {dead3 pieces3 : Bytes} {o : Outcome} (j : AtomSearched m row line node at dead2 dead3 pieces2 pieces3 o) where
       -- and so do these
-      pub last-fits : p .places + o .places < 2 ^ 64
-      last-fits = omega (arith, i .comes .few, j .comes .few)
+      pub last-fits : (p .places + o .places < 2 ^ 64) × (p .bytes + o .bytes < 2 ^ 64)
+      last-fits = (omega (arith, i .comes .few, j .comes .few), omega (arith, i .comes .read, j .comes .read))
 
       module _ {q : Outcome} (e : q ≡ countAfter p o) where
-        pub all-fit : b .places + q .places < 2 ^ 64
-        all-fit = rw e (omega (arith, h .comes .few, i .comes .few, j .comes .few))
+        pub all-fit : (b .places + q .places < 2 ^ 64) × (b .bytes + q .bytes < 2 ^ 64)
+        all-fit = rw e (omega (arith, h .comes .few, i .comes .few, j .comes .few), omega (arith, h .comes .read, i .comes .read, j .comes .read))
 
         -- neither does, and the atom may
         pub third-found : {r : Outcome} → r ≡ countAfter b q → TakenUp m row line node at dead dead3 pieces pieces3 r
@@ -184,6 +188,7 @@ module _ {m : Marks} {row : List Node} {dead dead1 pieces pieces1 line : Bytes} 
                   there = v .there;
                 };
             few = omega (arith, h .comes .few, i .comes .few, j .comes .few);
+            read = omega (arith, h .comes .read, i .comes .read, j .comes .read);
           };
         }
 
@@ -221,34 +226,34 @@ place-passed m kid holey (suc n) i p s ds e = rw (e, tryPlace) refl
 -- where the steps lead on, the place is counted and stays alive
 said-on : (k at c w i p : ℕ) (dead ps ps′ : Bytes) (t : Tried) (o : Outcome) → ¬ (o .node ≡ 0) → Says k at t o ps ps′ × HoldsDead c w dead (t .dead)
     → Says k at (takeUp (record { node = i; at = p }) t) (countPlace o) ps ps′ × HoldsDead c w dead (takeUp (record { node = i; at = p }) t .dead)
-said-on k at c w i p dead ps ps′ t o z (s, h) = by (t .found) (t .dead) (t .taken) s h
+said-on k at c w i p dead ps ps′ t o z (s, h) = by (t .found) (t .dead) (t .taken) (t .bytes) s h
   where
-    by : (f : Option Found) (ns ts : List Place) → Says k at (record { found = f; dead = ns; taken = ts }) o ps ps′ → HoldsDead c w dead ns
-        → Says k at (takeUp (record { node = i; at = p }) (record { found = f; dead = ns; taken = ts })) (countPlace o) ps ps′
-        × HoldsDead c w dead (takeUp (record { node = i; at = p }) (record { found = f; dead = ns; taken = ts }) .dead)
-    by none ns ts s h = absurd (z (s .told .0))
-    by (some f) ns ts s h = (record { told = s .told; places = omega (arith, s .places) }, h)
+    by : (f : Option Found) (ns ts : List Place) (c′ : ℕ) → Says k at (record { found = f; dead = ns; taken = ts; bytes = c′ }) o ps ps′ → HoldsDead c w dead ns
+        → Says k at (takeUp (record { node = i; at = p }) (record { found = f; dead = ns; taken = ts; bytes = c′ })) (countPlace o) ps ps′
+        × HoldsDead c w dead (takeUp (record { node = i; at = p }) (record { found = f; dead = ns; taken = ts; bytes = c′ }) .dead)
+    by none ns ts c′ s h = absurd (z (s .told .0))
+    by (some f) ns ts c′ s h = (record { told = s .told; places = omega (arith, s .places); bytes = s .bytes }, h)
 
 -- where they lead nowhere, it is dead
 said-nowhere : (k at c w i p x : ℕ) (dead dead′ ps ps′ : Bytes) (t : Tried) (o : Outcome) → p < w → x ≡ i * w + p → AddsBit dead dead′ x → o .node ≡ 0 → Says k at t o ps ps′ × HoldsDead c w dead (t .dead)
     → Says k at (takeUp (record { node = i; at = p }) t) (countPlace o) ps ps′ × HoldsDead c w dead′ (takeUp (record { node = i; at = p }) t .dead)
-said-nowhere k at c w i p x dead dead′ ps ps′ t o lp e b z (s, h) = by (t .found) (t .dead) (t .taken) s h
+said-nowhere k at c w i p x dead dead′ ps ps′ t o lp e b z (s, h) = by (t .found) (t .dead) (t .taken) (t .bytes) s h
   where
-    by : (f : Option Found) (ns ts : List Place) → Says k at (record { found = f; dead = ns; taken = ts }) o ps ps′ → HoldsDead c w dead ns
-        → Says k at (takeUp (record { node = i; at = p }) (record { found = f; dead = ns; taken = ts })) (countPlace o) ps ps′
-        × HoldsDead c w dead′ (takeUp (record { node = i; at = p }) (record { found = f; dead = ns; taken = ts }) .dead)
-    by none ns ts s h = (record { told = s .told; places = omega (arith, s .places) }, holds-more c w dead dead′ ns i p x lp e b h)
-    by (some f) ns ts s h = absurd (omega (arith, s .told .0, z))
+    by : (f : Option Found) (ns ts : List Place) (c′ : ℕ) → Says k at (record { found = f; dead = ns; taken = ts; bytes = c′ }) o ps ps′ → HoldsDead c w dead ns
+        → Says k at (takeUp (record { node = i; at = p }) (record { found = f; dead = ns; taken = ts; bytes = c′ })) (countPlace o) ps ps′
+        × HoldsDead c w dead′ (takeUp (record { node = i; at = p }) (record { found = f; dead = ns; taken = ts; bytes = c′ }) .dead)
+    by none ns ts c′ s h = (record { told = s .told; places = omega (arith, s .places); bytes = s .bytes }, holds-more c w dead dead′ ns i p x lp e b h)
+    by (some f) ns ts c′ s h = absurd (omega (arith, s .told .0, z))
 
 module _ {row : List Node} {dead pieces line : Bytes} {end node at : ℕ} (a : Asks row dead pieces line end node at) where
   -- the line that is searched
   abbrev front : Bytes
   front = take end line
 
-  -- a search takes up few places
+  -- a search takes up few places, and reads few bytes
   bounded : (m : Marks) {dead′ pieces′ : Bytes} {o : Outcome}
       → Outcomes (take (a .made) row) front node at (suc (sizeIn (take (a .made) row) front node at)) (λ n. placeTried m (take (a .made) row) front node at n)
-      (record { dead = dead; dead′ = dead′; pieces = pieces; pieces′ = pieces′ }) o → o .places ≤ placesMost
+      (record { dead = dead; dead′ = dead′; pieces = pieces; pieces′ = pieces′ }) o → (o .places ≤ placesMost) × (o .bytes ≤ bytesMost)
   bounded m h =
       let tree = take (a .made) row in
       let n = suc (sizeIn tree front node at) in
@@ -258,7 +263,9 @@ module _ {row : List Node} {dead pieces line : Bytes} {end node at : ℕ} (a : A
       (a .plain) (a .no-ends) in
       let p = few-places m (kid tree) (holey tree) (height tree) (length tree) (endsAt tree) (kids a) front (a .marked) t _ f in
       let u = mul-le-mul {n₁ = length tree} {m₁ = suc (length front)} {n₂ = 2048} {m₂ = 201} (omega (arith, front-long (a .stands), a .few)) (omega (arith, line-long a, a .short)) in
-      omega (arith, s .places, p, u)
+      let l : length (drop at front) ≤ 200 = omega (arith, length-drop at front, line-long a, a .short) in
+      let b = few-bytes m (kid tree) (holey tree) 200 n node at (drop at front) (a .marked) l in
+      (omega (arith, s .places, p, u), omega (arith, s .bytes, b, s .places, p, u))
 
   -- the number of the place
   number-is : {x : ℕ} → x ≡ node * (end + 1) + at → x ≡ node * suc (length front) + at
@@ -288,7 +295,7 @@ module _ {row : List Node} {dead pieces line : Bytes} {end node at : ℕ} (a : A
           → Says (holes (take made row) node) at (takeUp (record { node = node; at = at }) (allSteps m (take made row) front node at n ds)) (countPlace u) pieces pieces1
           × HoldsDead (length (take made row)) (suc (length front)) dead2 (takeUp (record { node = node; at = at }) (allSteps m (take made row) front node at n ds) .dead))
           → SearchedIn m row front node at dead dead2 pieces pieces1 o
-      taken-up {dead2} g = record { comes = record { each = each; few = bounded m (each (a .made) (a .stands) (a .there)) } }
+      taken-up {dead2} g = let (few, read) = bounded m (each (a .made) (a .stands) (a .there)) in record { comes = record { each = each; few = few; read = read } }
         where
           each : (made : ℕ) → Stands row made → node < made
               → Outcomes (take made row) front node at (suc (sizeIn (take made row) front node at)) (λ n. placeTried m (take made row) front node at n)

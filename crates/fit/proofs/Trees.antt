@@ -1,4 +1,5 @@
--- The search of the row's tree takes up as many places as the search of the templates' tree, and finds the same. The law: tree-fitting.
+-- The search of the row's tree takes up as many places as the search of the templates' tree, reads as many bytes, and finds the same. The law:
+-- tree-fitting.
 use mathlib.Core.Path.{_≡_, refl, sym, _∙_, ap, subst}
 use mathlib.Core.Bool.{Bool, true, false}
 use mathlib.Core.List.{List, [], _∷_, _++_, map, append-assoc}
@@ -10,7 +11,7 @@ use borrow.Author.Tests.{eq-eqb, ne-eqb}
 use Rattle.model.specs.declared.Marks.{Marks}
 use Rattle.model.specs.Text.{Bytes}
 use Rattle.model.specs.Parts.{Elem, lit, hole, stop, elems}
-use Rattle.model.specs.Places.{sameElem, numberFrom, beginnings, beginningAt, childIn, endsInHole, holeyIn, together, tryPlace, fitting, placesTaken}
+use Rattle.model.specs.Places.{sameElem, numberFrom, beginnings, beginningAt, childIn, endsInHole, holeyIn, together, tryPlace, fitting, placesTaken, bytesRead}
 use Rattle.model.proofs.Chosen.{Tested, alike, apart, tested}
 use Rattle.model.proofs.NodeCount.{last-of}
 use Rattle.model.proofs.Renumbered.{Same, Both, neither, both, renumbered}
@@ -137,10 +138,11 @@ module _ (m : Marks) (rows : List Node) (tree : Tree rows) (ts : List Bytes) (of
           let (k, y) = among-some rows (code e) (firstOf rows i) (countOf rows i) c z (ch .0) (ch .1) x in
           absurd (omega (arith, sym y ∙ u))
 
-  -- so are places and what is found
+  -- so are places, bytes and what is found
   pub tree-fitting : 0 < length rows → (line : Bytes) (n : ℕ) → height rows 0 + length line < n
-      → (length (tryPlace m (kid rows) (holey rows) n 0 0 line [] .taken) ≡ placesTaken m ts line) × Same (tryPlace m (kid rows) (holey rows) n 0 0 line [] .found) (fitting m ts line .found)
-  unfolding fitting placesTaken numberOf endsInHole holeyIn beginningAt
+      → (length (tryPlace m (kid rows) (holey rows) n 0 0 line [] .taken) ≡ placesTaken m ts line) × (tryPlace m (kid rows) (holey rows) n 0 0 line [] .bytes ≡ bytesRead m ts line)
+      × Same (tryPlace m (kid rows) (holey rows) n 0 0 line [] .found) (fitting m ts line .found)
+  unfolding fitting placesTaken bytesRead numberOf endsInHole holeyIn beginningAt
   tree-fitting some-row line n lt =
       let root : Of 0 0 = record { there = some-row; number = ap (numberOf bs) (of .begins .root-empty); placeholder = ne-eqb (elem rows 0) 1 (of .plain-root) ∙ sym (ap endsInHole (of .begins .root-empty)) } in
       renumbered Of one m (kid rows) (childIn bs) (holey rows) (holeyIn bs) (height rows) (rankIn bs) (kid-falls rows tree) (rank-falls bs) kids

@@ -1,4 +1,4 @@
--- What first_reading answers: the chosen reading of the line, and how many places were taken up to find it.
+-- What first_reading answers: the chosen reading of the line, how many places were taken up to find it, and how many bytes were read.
 use mathlib.Core.Path.{_≡_}
 use mathlib.Core.Bool.{true, false}
 use mathlib.Core.Option.{none, some}
@@ -11,20 +11,21 @@ use Rattle.model.specs.Text.{Bytes}
 use Rattle.model.specs.Reading.{Reading, chosen}
 use Rattle.model.specs.Fitting.{Distinct}
 use Rattle.model.specs.Parts.{Elem, elems}
-use Rattle.model.specs.Places.{placesTaken}
+use Rattle.model.specs.Places.{placesTaken, bytesRead}
 use Rattle.model.specs.Results.{startsOf, nine}
 use Rattle.nodes.specs.declared.Node.{Node}
 use Rattle.nodes.specs.Rows.{elem, holes, Stands}
 use Rattle.nodes.specs.Templates.{Beginnings}
 use Rattle.fit.specs.declared.Choice.{Choice}
+use Rattle.fit.specs.declared.Outcome.{Outcome}
 
--- no call, after so many places
-abbrev pub noChoice : ℕ → Choice
-noChoice k = record { found = false; template = 0; starts = replicate 9 0; lens = replicate 9 0; places = k }
+-- no call, after a search with this outcome
+abbrev pub noChoice : Outcome → Choice
+noChoice o = record { found = false; template = 0; starts = replicate 9 0; lens = replicate 9 0; places = o .places; bytes = o .bytes }
 
--- the call of a template with the stored pieces, after so many places
-abbrev pub choiceOf : Bytes → ℕ → ℕ → Choice
-choiceOf ps template k = record { found = true; template = template; starts = take 9 ps; lens = drop 9 ps; places = k }
+-- the call of a template with the stored pieces, after a search with this outcome
+abbrev pub choiceOf : Bytes → ℕ → Outcome → Choice
+choiceOf ps template o = record { found = true; template = template; starts = take 9 ps; lens = drop 9 ps; places = o .places; bytes = o .bytes }
 
 -- what fitting the first `end` bytes of a line asks: a tree of `count` nodes stands in the row of nodes, and the row of dead places is long enough
 pub record Fits (row : List Node) (count : ℕ) (dead line : Bytes) (end : ℕ) : Type 0 where
@@ -71,3 +72,4 @@ pub record Chooses (m : Marks) (row : List Node) (count : ℕ) (line : Bytes) (c
   pub call : c .found ≡ true → (ts : List Bytes) → TreeAt m row count ts → Chosen m ts line c
   pub within : (i : ℕ) → getD (c .starts) i 0 + getD (c .lens) i 0 ≤ length line
   pub places : (ts : List Bytes) → TreeAt m row count ts → c .places ≡ placesTaken m ts line
+  pub bytes : (ts : List Bytes) → TreeAt m row count ts → c .bytes ≡ bytesRead m ts line

@@ -20,23 +20,27 @@ use Rattle.fit.specs.declared.Outcome.{Outcome}
 
 -- at a node with no piece, with so many places
 abbrev pub blank : ℕ → ℕ → Outcome
-blank j k = record { node = j; rest = 0; places = k }
+blank j k = record { node = j; rest = 0; places = k; bytes = 0 }
+
+-- nothing is found, and n bytes were read
+abbrev pub onlyRead : ℕ → Outcome
+onlyRead n = record { node = 0; rest = 0; places = 0; bytes = n }
 
 -- where the open piece starts: nothing is left of it
 abbrev pub closePiece : Outcome → Outcome
-closePiece o = record { node = o .node; rest = 0; places = o .places }
+closePiece o = record { node = o .node; rest = 0; places = o .places; bytes = o .bytes }
 
--- with n bytes more in the open piece
+-- with n bytes more in the open piece, which were read
 abbrev pub passAtom : ℕ → Outcome → Outcome
-passAtom n o = record { node = o .node; rest = o .rest + n; places = o .places }
+passAtom n o = record { node = o .node; rest = o .rest + n; places = o .places; bytes = o .bytes + n }
 
 -- with a place more
 abbrev pub countPlace : Outcome → Outcome
-countPlace o = record { node = o .node; rest = o .rest; places = o .places + 1 }
+countPlace o = record { node = o .node; rest = o .rest; places = o .places + 1; bytes = o .bytes }
 
 -- after a, which led nowhere
 abbrev pub countAfter : Outcome → Outcome → Outcome
-countAfter a o = record { node = o .node; rest = o .rest; places = a .places + o .places }
+countAfter a o = record { node = o .node; rest = o .rest; places = a .places + o .places; bytes = a .bytes + o .bytes }
 
 -- ---- the element that leads on
 
@@ -84,10 +88,11 @@ Told k at none o ps ps′ = (o .node ≡ 0) × (ps′ ≡ ps)
 Told k at (some f) o ps ps′ = (0 < o .node) × (o .node ≡ f .node) × (o .rest ≡ length (f .rest))
     × (ps′ ≡ withPieces k (startsIn (at + length (f .rest)) (f .parts)) (lensIn (f .parts)) ps)
 
--- and how many places were taken up
+-- and how many places were taken up, and bytes read
 pub record Says (k at : ℕ) (t : Tried) (o : Outcome) (ps ps′ : Bytes) : Type 0 where
   pub told : Told k at (t .found) o ps ps′
   pub places : o .places ≡ length (t .taken)
+  pub bytes : o .bytes ≡ t .bytes
 
 -- ---- dead places
 
@@ -105,6 +110,10 @@ endsAt rows (suc j) = eqb (elem rows (suc j)) 0
 -- no search takes up more places than 2,048 nodes have in a line of 200 bytes
 abbrev pub placesMost : ℕ
 placesMost = 411648
+
+-- nor reads more bytes than these times 200
+abbrev pub bytesMost : ℕ
+bytesMost = 82329600
 
 -- what lies in the rows before and after it: dead places, and pieces
 pub record Lent : Type 0 where
@@ -163,30 +172,31 @@ pub record Asks (row : List Node) (dead pieces line : Bytes) (end node at : ℕ)
   pub no-ends : (i p : ℕ) → isIn i p marked ≡ true → endsAt (take made row) i ≡ false
   pub nine : length pieces ≡ 18
 
--- the outcome, whatever tree it is; it counts F places at most
-pub record Comes (row : List Node) (line : Bytes) (node at : ℕ) (fuel : List Node → ℕ) (F : ℕ) (step : List Node → ℕ → List Place → Tried) (x : Lent) (o : Outcome) : Type 0 where
+-- the outcome, whatever tree it is; it counts F places and G bytes at most
+pub record Comes (row : List Node) (line : Bytes) (node at : ℕ) (fuel : List Node → ℕ) (F G : ℕ) (step : List Node → ℕ → List Place → Tried) (x : Lent) (o : Outcome) : Type 0 where
   pub each : (made : ℕ) → Stands row made → node < made → Outcomes (take made row) line node at (fuel (take made row)) (step (take made row)) x o
   pub few : o .places ≤ F
+  pub read : o .bytes ≤ G
 
 -- of the search
 pub record SearchedIn (m : Marks) (row : List Node) (line : Bytes) (node at : ℕ) (dead dead′ pieces pieces′ : Bytes) (o : Outcome) : Type 0 where
-  pub comes : Comes row line node at (λ rows. suc (sizeIn rows line node at)) placesMost (λ rows n. placeTried m rows line node at n)
+  pub comes : Comes row line node at (λ rows. suc (sizeIn rows line node at)) placesMost bytesMost (λ rows n. placeTried m rows line node at n)
       (record { dead = dead; dead′ = dead′; pieces = pieces; pieces′ = pieces′ }) o
 
 -- of its three steps
 pub record ByteSearched (m : Marks) (row : List Node) (line : Bytes) (node at : ℕ) (dead dead′ pieces pieces′ : Bytes) (o : Outcome) : Type 0 where
-  pub comes : Comes row line node at (λ rows. sizeIn rows line node at) placesMost (λ rows n. byteStep m rows line node at n)
+  pub comes : Comes row line node at (λ rows. sizeIn rows line node at) placesMost bytesMost (λ rows n. byteStep m rows line node at n)
       (record { dead = dead; dead′ = dead′; pieces = pieces; pieces′ = pieces′ }) o
 
 pub record PieceSearched (m : Marks) (row : List Node) (line : Bytes) (node at : ℕ) (dead dead′ pieces pieces′ : Bytes) (o : Outcome) : Type 0 where
-  pub comes : Comes row line node at (λ rows. sizeIn rows line node at) placesMost (λ rows n. pieceStep m rows line node at n)
+  pub comes : Comes row line node at (λ rows. sizeIn rows line node at) placesMost bytesMost (λ rows n. pieceStep m rows line node at n)
       (record { dead = dead; dead′ = dead′; pieces = pieces; pieces′ = pieces′ }) o
 
 pub record AtomSearched (m : Marks) (row : List Node) (line : Bytes) (node at : ℕ) (dead dead′ pieces pieces′ : Bytes) (o : Outcome) : Type 0 where
-  pub comes : Comes row line node at (λ rows. sizeIn rows line node at) placesMost (λ rows n. atomStep m rows line node at n)
+  pub comes : Comes row line node at (λ rows. sizeIn rows line node at) placesMost (bytesMost + lineMost) (λ rows n. atomStep m rows line node at n)
       (record { dead = dead; dead′ = dead′; pieces = pieces; pieces′ = pieces′ }) o
 
 -- and of all of them
 pub record TakenUp (m : Marks) (row : List Node) (line : Bytes) (node at : ℕ) (dead dead′ pieces pieces′ : Bytes) (o : Outcome) : Type 0 where
-  pub comes : Comes row line node at (λ rows. sizeIn rows line node at) (3 * placesMost) (λ rows n. allSteps m rows line node at n)
+  pub comes : Comes row line node at (λ rows. sizeIn rows line node at) (3 * placesMost) (3 * bytesMost + lineMost) (λ rows n. allSteps m rows line node at n)
       (record { dead = dead; dead′ = dead′; pieces = pieces; pieces′ = pieces′ }) o

@@ -8,8 +8,9 @@ ghost use lib.ListN.{length, take};
 ghost use Rattle.model.specs.Limits.{lineMost, nodesMost};
 ghost use Rattle.atom.specs.Atoms.{brackets, AtomAt};
 ghost use Rattle.nodes.specs.Rows.{code};
-ghost use Rattle.fit.specs.Outcome.{blank, StoresPiece, passAtom, countPlace, countAfter, elementAt, Asks, SearchedIn, TakenUp, ByteSearched, PieceSearched, AtomSearched};
+ghost use Rattle.fit.specs.Outcome.{blank, onlyRead, StoresPiece, passAtom, countPlace, countAfter, elementAt, Asks, SearchedIn, TakenUp, ByteSearched, PieceSearched, AtomSearched};
 ghost use Rattle.fit.specs.Chosen.{noChoice, choiceOf, Fits, Chooses};
+use atom::Scanned;
 use buffer::wide;
 use model::Marks;
 use nodes::Node;
@@ -21,11 +22,13 @@ use places::set_dead;
 const PIECE_BYTES: usize = 18;
 
 // What a search finds: the node of the template's end, 0 where there is none; the length of what is left of the piece that is open
-// where the search starts; and how many places it took up. The pieces that are opened later go to lent bytes.
+// where the search starts; how many places it took up; and how many bytes it read where it looked for the next atom. The pieces that are
+// opened later go to lent bytes.
 pub struct Outcome {
     pub node: usize,
     pub rest: usize,
     pub places: usize,
+    pub bytes: usize,
 }
 
 // The outcome at a node with no piece.
@@ -36,6 +39,19 @@ fn no_piece(node: usize, places: usize) -> Outcome
         node,
         rest: 0,
         places,
+        bytes: 0,
+    }
+}
+
+// The outcome of a look that found no atom.
+fn only_read(bytes: usize) -> Outcome
+    ensures { λ r. ⌜ r ≡ onlyRead bytes ⌝ }
+{
+    Outcome {
+        node: 0,
+        rest: 0,
+        places: 0,
+        bytes,
     }
 }
 
@@ -50,18 +66,20 @@ fn store_piece(pieces: &mut [u8], k: usize, at: usize, o: Outcome) -> Outcome
         node: o.node,
         rest: 0,
         places: o.places,
+        bytes: o.bytes,
     }
 }
 
-// The outcome with an atom of n bytes more in the open piece.
+// The outcome with an atom of n bytes more in the open piece, which were read.
 fn pass_atom(o: Outcome, n: usize) -> Outcome
-    requires { ⌜ o .rest + n < 2 ^ 64 ⌝ }
+    requires { ⌜ (o .rest + n < 2 ^ 64) × (o .bytes + n < 2 ^ 64) ⌝ }
     ensures { λ r. ⌜ r ≡ passAtom n o ⌝ }
 {
     Outcome {
         node: o.node,
         rest: o.rest + n,
         places: o.places,
+        bytes: o.bytes + n,
     }
 }
 
@@ -74,18 +92,20 @@ fn count_place(o: Outcome) -> Outcome
         node: o.node,
         rest: o.rest,
         places: o.places + 1,
+        bytes: o.bytes,
     }
 }
 
 // The outcome after one that led nowhere.
 fn count_after(a: Outcome, o: Outcome) -> Outcome
-    requires { ⌜ a .places + o .places < 2 ^ 64 ⌝ }
+    requires { ⌜ (a .places + o .places < 2 ^ 64) × (a .bytes + o .bytes < 2 ^ 64) ⌝ }
     ensures { λ r. ⌜ r ≡ countAfter a o ⌝ }
 {
     Outcome {
         node: o.node,
         rest: o.rest,
         places: a.places + o.places,
+        bytes: a.bytes + o.bytes,
     }
 }
 
@@ -108,12 +128,12 @@ fn element_at(line: &[u8], end: usize, at: usize) -> u16
     0
 }
 
-// Past the atom at a place of the first `end` bytes of a line, or 0 where there is none.
-fn find_atom(left: u8, right: u8, line: &[u8], end: usize, at: usize) -> usize
+// The atom at a place of the first `end` bytes of a line.
+fn find_atom(left: u8, right: u8, line: &[u8], end: usize, at: usize) -> Scanned
     requires { ⌜ (at ≤ end) × (end ≤ length (now line)) ⌝ }
     ensures { λ r. ⌜ AtomAt (brackets left right) (take end (now (line .entry))) at r ⌝ }
 {
-    atom::next_atom(&line[0..end], at, left, right)
+    atom::scan_atom(&line[0..end], at, left, right)
 }
 
 // The place of the node and the position `at`, in the first `end` bytes of the line: it is taken up unless it is dead, and dead where it
@@ -246,33 +266,37 @@ fn search_atom(
     if !nodes::has_element(nodes::node_at(nodes, node), 1) {
         return no_piece(0, 0);
     }
-    let e = find_atom(left, right, line, end, at);
-    if e == 0 {
-        return no_piece(0, 0);
+    let next = find_atom(left, right, line, end, at);
+    let past = next.end;
+    if past == 0 {
+        return only_read(next.read);
     }
-    let longer = search(left, right, nodes, dead, pieces, line, end, node, e);
-    pass_atom(longer, e - at)
+    let longer = search(left, right, nodes, dead, pieces, line, end, node, past);
+    pass_atom(longer, past - at)
 }
 
-// What a line is: a call of a template, with where each piece starts and its length, or no call; and how many places were taken up.
+// What a line is: a call of a template, with where each piece starts and its length, or no call; how many places were taken up; and how
+// many bytes were read.
 pub struct Choice {
     pub found: bool,
     pub template: usize,
     pub starts: [usize; 9],
     pub lens: [usize; 9],
     pub places: usize,
+    pub bytes: usize,
 }
 
-// No call.
-fn no_choice(places: usize) -> Choice
-    ensures { λ r. ⌜ r ≡ noChoice places ⌝ }
+// No call, after a search with this outcome.
+fn no_choice(o: Outcome) -> Choice
+    ensures { λ r. ⌜ r ≡ noChoice o ⌝ }
 {
     Choice {
         found: false,
         template: 0,
         starts: [0; 9],
         lens: [0; 9],
-        places,
+        places: o.places,
+        bytes: o.bytes,
     }
 }
 
@@ -294,17 +318,18 @@ fn wide_nine(a: &[u8]) -> [usize; 9]
     ]
 }
 
-// The call of a template.
-fn make_choice(pieces: &[u8], template: usize, places: usize) -> Choice
+// The call of a template, after a search with this outcome.
+fn make_choice(pieces: &[u8], template: usize, o: Outcome) -> Choice
     requires { ⌜ length (now pieces) ≡ 18 ⌝ }
-    ensures { λ r. ⌜ r ≡ choiceOf (now (pieces .entry)) template places ⌝ }
+    ensures { λ r. ⌜ r ≡ choiceOf (now (pieces .entry)) template o ⌝ }
 {
     Choice {
         found: true,
         template,
         starts: wide_nine(&pieces[0..9]),
         lens: wide_nine(&pieces[9..18]),
-        places,
+        places: o.places,
+        bytes: o.bytes,
     }
 }
 
@@ -328,8 +353,8 @@ pub fn first_reading(
     let found = search(left, right, nodes, dead, &mut pieces, line, end, 0, 0);
     let j = found.node;
     if j == 0 {
-        return no_choice(found.places);
+        return no_choice(found);
     }
     let n = nodes::node_at(nodes, j);
-    make_choice(&pieces, nodes::template_of(n), found.places)
+    make_choice(&pieces, nodes::template_of(n), found)
 }

@@ -23,7 +23,7 @@ fn write_printed(text: &[u8], file: &[u8], shown: &[u8]) -> bool
 // Fits the lines in room that is lent.
 fn fit_lines(text: &[u8], file: &[u8], out: &mut [u8])
     requires { ⌜ length (now file) ≤ 65536 ⌝ }
-    requires { ⌜ 3211313 ≤ length (now out) ⌝ }
+    requires { ⌜ 3342387 ≤ length (now out) ⌝ }
 {
     let n = print_fits(text, file, out);
     if !write_printed(text, file, &out[0..n]) {

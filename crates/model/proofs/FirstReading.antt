@@ -14,7 +14,7 @@ use Rattle.model.specs.Text.{Bytes, lines}
 use Rattle.model.specs.Reading.{Pieces, Reading, chosen}
 use Rattle.model.specs.Load.{Macro, noMacro, templates, nodes, Loaded, loaded, load}
 use Rattle.model.specs.Machine.{Rooms, State, Next, running, ended, stateWith, call, Shared, wrote, passed, passThrough, offeredAs, offered, counted, event}
-use Rattle.model.specs.Places.{placesTaken}
+use Rattle.model.specs.Places.{placesTaken, bytesRead}
 use Rattle.model.specs.Results.{shortRow, shortDead, fittedAs, fittedIn, fitLine}
 use Rattle.model.specs.Fitting.{First}
 use Rattle.model.specs.FirstReading.{FitsFirst, OffersFirst}
@@ -22,7 +22,7 @@ use Rattle.model.specs.Legal.{MacrosAt}
 use Rattle.model.proofs.Choices.{both, when-false}
 use Rattle.model.proofs.Loading.{templates-length, loaded-no-call, loaded-chosen}
 use Rattle.model.proofs.Input.{load-at}
-use Rattle.model.proofs.Places.{loaded-places}
+use Rattle.model.proofs.Places.{few-read, loaded-places}
 use Rattle.model.proofs.Steps.{event-pending}
 
 -- ---- fit
@@ -39,15 +39,17 @@ line-positive m all (x ∷ ms) (suc i) h k = line-positive m all ms i (h .1) (om
 
 module _ (text : Bytes) (t : Loaded) (loads : load text ≡ loaded t) (line : Bytes) where
   -- without a reading the answer's line is 0, and with one it is the template's
-  fitted-first : (o : Option Reading) (k : ℕ) → chosen (t .marks) (templates (t .macros)) line ≡ o → k ≤ nodes (t .macros) * suc (length line) → FitsFirst t line (fittedAs t o k)
+  fitted-first : (o : Option Reading) (k n : ℕ) → chosen (t .marks) (templates (t .macros)) line ≡ o → k ≤ nodes (t .macros) * suc (length line) → n ≤ k * length line
+      → FitsFirst t line (fittedAs t o k n)
   unfolding fittedAs
-  fitted-first none k e few = record {
+  fitted-first none k n e few read = record {
     done = refl;
     no-call = (λ z. loaded-no-call text t loads line .0 e, λ h. refl);
     call = λ l. absurd (omega arith);
     few-places = few;
+    few-bytes = read;
   }
-  fitted-first (some r) k e few =
+  fitted-first (some r) k n e few read =
       let f : First (t .marks) (templates (t .macros)) line (r .which) (r .pieces) = loaded-chosen text t loads line r e in
       let l : 0 < getD (t .macros) (r .which) noMacro .line =
       line-positive (t .marks) (lines text) (t .macros) (r .which) (load-at text t loads .0) (subst (λ (n : ℕ). r .which < n) (templates-length (t .macros)) (f .reads .place)) in
@@ -56,6 +58,7 @@ module _ (text : Bytes) (t : Loaded) (loads : load text ≡ loaded t) (line : By
         no-call = (λ z. absurd (omega arith), λ h. absurd (h (r .which) (r .pieces) (f .reads)));
         call = λ z. (r .which, r .pieces, f, record { line = refl; start = refl; length = refl });
         few-places = few;
+        few-bytes = read;
       }
 
   -- for legal rows and a line of at most 200 bytes
@@ -64,7 +67,8 @@ module _ (text : Bytes) (t : Loaded) (loads : load text ≡ loaded t) (line : By
   fit-first rows dead r d l =
       subst (FitsFirst t line)
       (sym (when-false {q = shortRow rows || shortDead dead} _ _ (neither (shortRow rows) (shortDead dead) (le-ltb rows 2048 r) (le-ltb dead 51456 d)) ∙ ap (fittedIn line) loads ∙ when-false _ _ (le-ltb 200 (length line) l)))
-      (fitted-first (chosen (t .marks) (templates (t .macros)) line) (placesTaken (t .marks) (templates (t .macros)) line) refl (loaded-places text t loads line))
+      (fitted-first (chosen (t .marks) (templates (t .macros)) line) (placesTaken (t .marks) (templates (t .macros)) line)
+      (bytesRead (t .marks) (templates (t .macros)) line) refl (loaded-places text t loads line) (few-read (t .marks) (templates (t .macros)) line))
 
 -- ---- a line offered in a run
 

@@ -10,12 +10,13 @@ pub mod Characters
 pub mod Chosen
 pub mod Atoms
 pub mod Parts
--- The search that takes up no place twice: it finds what the search without marks finds, takes up each place once, and does not depend on
--- how nodes are numbered.
+-- The search that takes up no place twice: it finds what the search without marks finds, takes up each place once, reads few bytes, and does
+-- not depend on how nodes are numbered.
 pub mod Search
 pub mod Unmarked
 pub mod Different
 pub mod Once
+pub mod Looks
 pub mod Beginnings
 pub mod NodeCount
 pub mod Renumbered

@@ -27,7 +27,7 @@ use Rattle.model.specs.Machine.{Building, built, failed, add, addSymbol,
 use Rattle.model.specs.Machine.{Piece, takePass, nextPass, endPass, startRepeat, wrote, goesWritten, writeTo, writeLayout, saveText, skipBy, skipIf, skipCompared, finish, finishBuilt, carryOut}
 use Rattle.model.specs.Machine.{State, Next, running, ended, Passed, landed, beyond, badLanding, passOver, skipFrom, skipIn, call, passed, passThrough, copyInput, offeredAs, offered, stepped, unfinished}
 use Rattle.model.specs.Machine.{measured, readInput, readyIn, readyFor, ready, beginAt, beginLine, counted, eventFor, event, follow, after, initial, Result, resultOf, outcome, run}
-use Rattle.model.specs.Places.{placesTaken}
+use Rattle.model.specs.Places.{placesTaken, bytesRead}
 use Rattle.model.specs.Results.{shortRow, shortDead, checkedAs, checkText, noPieces, fittedAs, fittedIn, fitLine, illegal, runText}
 use Rattle.model.specs.NumberTable.{loadNumbers, endNumbers, begunNumbers, checkNumbers, fitNumbers, runNumbers}
 use Rattle.model.proofs.Choices.{false-not-true, both}
@@ -415,15 +415,15 @@ pub fit-numbered : (rows dead : ℕ) (text line : Bytes) → has (fitLine rows d
 unfolding fitLine fittedIn fittedAs noPieces has
 fit-numbered rows dead text line = both (λ (f : Fitted). has (f .number) fitNumbers ≡ true) (shortRow rows || shortDead dead) _ _ refl (by (load text) (load-numbered text))
   where
-    byReading : (t : Loaded) (o : Option Reading) (k : ℕ) → has (fittedAs t o k .number) fitNumbers ≡ true
-    byReading t none k = refl
-    byReading t (some r) k = refl
+    byReading : (t : Loaded) (o : Option Reading) (k n : ℕ) → has (fittedAs t o k n .number) fitNumbers ≡ true
+    byReading t none k n = refl
+    byReading t (some r) k n = refl
 
     by : (x : Load) → LoadNumbered x → has (fittedIn line x .number) fitNumbers ≡ true
     by (refused k n) h = has-right k (11 ∷ 0 ∷ 1 ∷ []) loadNumbers h
     by (loaded t) h =
         let ts = templates (t .macros) in
-        both (λ (f : Fitted). has (f .number) fitNumbers ≡ true) (ltb 200 (length line)) _ _ refl (byReading t (chosen (t .marks) ts line) (placesTaken (t .marks) ts line))
+        both (λ (f : Fitted). has (f .number) fitNumbers ≡ true) (ltb 200 (length line)) _ _ refl (byReading t (chosen (t .marks) ts line) (placesTaken (t .marks) ts line) (bytesRead (t .marks) ts line))
 
 -- no expansion ends with 20
 pub ended-unspent : (n : ℕ) (room : Rooms) (t : Loaded) (k : ℕ) (s : State) → after n room t (running (initial t)) ≡ ended k s → ¬ (k ≡ 20)

@@ -16,7 +16,7 @@ use Rattle.model.specs.declared.Marks.{Marks}
 use Rattle.model.specs.Text.{Bytes, has}
 use Rattle.model.specs.Reading.{atom}
 use Rattle.model.specs.Parts.{Elem, lit, hole, stop}
-use Rattle.model.specs.Places.{Found, withByte, pieceFound, withAtom, Place, isIn, Tried, idle, within, orTry, takeUp, tryChild, tryEnd, tryPast, tryAtom, tryByte, tryPiece, tryPlace, Once}
+use Rattle.model.specs.Places.{Found, withByte, pieceFound, withAtom, Place, isIn, Tried, idle, within, orTry, takeUp, afterLook, bytesOfLook, tryChild, tryEnd, tryPast, tryAtom, tryByte, tryPiece, tryPlace, Once}
 use Rattle.model.proofs.Chosen.{Tested, alike, apart, tested}
 use Rattle.model.proofs.Choices.{false-not-true}
 use Rattle.model.proofs.Atoms.{none-some, atom-sound}
@@ -168,11 +168,11 @@ module _ (m : Marks) (kid : ℕ → Elem → ℕ) (holey : ℕ → Bool) (rank :
   }
 
   -- if it leads nowhere, the next
-  or-fair : (ds : List Place) (o : Option Found) (ns ts : List Place) (next : List Place → Tried) (b : ℕ)
-      → Fair ds (record { found = o; dead = ns; taken = ts }) b → (NoEnds ns → Fair ns (next ns) b)
-      → Fair ds (orTry (record { found = o; dead = ns; taken = ts }) next) b
-  or-fair ds (some f) ns ts next b h g = h
-  or-fair ds none ns ts next b h g =
+  or-fair : (ds : List Place) (o : Option Found) (ns ts : List Place) (c : ℕ) (next : List Place → Tried) (b : ℕ)
+      → Fair ds (record { found = o; dead = ns; taken = ts; bytes = c }) b → (NoEnds ns → Fair ns (next ns) b)
+      → Fair ds (orTry (record { found = o; dead = ns; taken = ts; bytes = c }) next) b
+  or-fair ds (some f) ns ts c next b h g = h
+  or-fair ds none ns ts c next b h g =
       let us = next ns .taken in
       let n = g (h .no-ends) in
       record {
@@ -190,11 +190,11 @@ module _ (m : Marks) (kid : ℕ → Elem → ℕ) (holey : ℕ → Bool) (rank :
   here-or P j q ts x h i p e = ⊎-elim (λ z. subst (λ (i : ℕ). P i p) (z .0) (subst (P j) (z .1) x)) (λ z. h i p z) (isIn-cons i p (record { node = j; at = q }) ts e)
 
   -- the place is taken up
-  take-fair : (j q : ℕ) (ds : List Place) (o : Option Found) (ns ts : List Place) → j < N → q ≤ length line → ends j ≡ false → isIn j q ds ≡ false
-      → Fair ds (record { found = o; dead = ns; taken = ts }) (size j q)
-      → Fair ds (takeUp (record { node = j; at = q }) (record { found = o; dead = ns; taken = ts })) (suc (size j q))
+  take-fair : (j q : ℕ) (ds : List Place) (o : Option Found) (ns ts : List Place) (c : ℕ) → j < N → q ≤ length line → ends j ≡ false → isIn j q ds ≡ false
+      → Fair ds (record { found = o; dead = ns; taken = ts; bytes = c }) (size j q)
+      → Fair ds (takeUp (record { node = j; at = q }) (record { found = o; dead = ns; taken = ts; bytes = c })) (suc (size j q))
   unfolding Once
-  take-fair j q ds o ns ts lj lq plain new h = record {
+  take-fair j q ds o ns ts c lj lq plain new h = record {
     there = here-or (λ i p. (i < N) × (p ≤ length line)) j q ts (lj, lq) (h .there);
     below = here-or (λ i p. size i p < suc (size j q)) j q ts (omega arith) (λ i p e. omega (arith, h .below i p e));
     fresh = here-or (λ i p. isIn i p ds ≡ false) j q ts new (h .fresh);
@@ -235,6 +235,10 @@ module _ (m : Marks) (kid : ℕ → Elem → ℕ) (holey : ℕ → Bool) (rank :
   atom-none : (a : Bytes) (o : Option Found) → withAtom a o ≡ none → o ≡ none
   atom-none a none e = refl
   atom-none a (some f) e = none-some (sym e)
+
+  -- a look changes nothing
+  look-fair : (ds : List Place) (t : Tried) (b c : ℕ) → Fair ds t b → Fair ds (afterLook c t) b
+  look-fair ds t b c h = record { there = h .there; below = h .below; fresh = h .fresh; once = h .once; keeps = h .keeps; marks = h .marks; no-ends = h .no-ends }
 
   -- a larger bound
   looser : (ds : List Place) (t : Tried) (a b : ℕ) → a ≤ b → Fair ds t a → Fair ds t b
@@ -292,7 +296,7 @@ module _ (m : Marks) (kid : ℕ → Elem → ℕ) (holey : ℕ → Bool) (rank :
   atom-fair : (n i p : ℕ) (b : Bool) (ds : List Place) → FairAt n → i < N → p ≤ length line → ends i ≡ false → NoEnds ds
       → Fair ds (tryAtom m (tryPlace m kid holey n i) b p (drop p line) ds) (size i p)
   atom-fair n i p false ds ih li l z h = idle-fair ds _ h
-  atom-fair n i p true ds ih li l z h = past-fair n i p (atom m (drop p line)) ds ih refl li l z h
+  atom-fair n i p true ds ih li l z h = look-fair ds _ _ (bytesOfLook m (drop p line)) (past-fair n i p (atom m (drop p line)) ds ih refl li l z h)
 
   -- the steps from a place
   abbrev atomTry : ℕ → ℕ → ℕ → List Place → Tried
@@ -308,14 +312,14 @@ module _ (m : Marks) (kid : ℕ → Elem → ℕ) (holey : ℕ → Bool) (rank :
   second-fair : (n i p : ℕ) (ds : List Place) → FairAt n → i < N → p ≤ length line → ends i ≡ false → NoEnds ds → Fair ds (orTry (pieceTry n i p ds) (atomTry n i p)) (size i p)
   second-fair n i p ds ih li l z h =
       let t = pieceTry n i p ds in
-      or-fair ds (t .found) (t .dead) (t .taken) (atomTry n i p) _ (piece-fair n i p ds ih l h) (λ g. atom-fair n i p (holey i) (t .dead) ih li l z g)
+      or-fair ds (t .found) (t .dead) (t .taken) (t .bytes) (atomTry n i p) _ (piece-fair n i p ds ih l h) (λ g. atom-fair n i p (holey i) (t .dead) ih li l z g)
 
   -- all three
   first-fair : (n i p : ℕ) (ds : List Place) → FairAt n → i < N → p ≤ length line → ends i ≡ false → NoEnds ds
       → Fair ds (orTry (byteTry n i p ds) (λ ds. orTry (pieceTry n i p ds) (atomTry n i p))) (size i p)
   first-fair n i p ds ih li l z h =
       let t = byteTry n i p ds in
-      or-fair ds (t .found) (t .dead) (t .taken) (λ ds. orTry (pieceTry n i p ds) (atomTry n i p)) _ (byte-fair n i p (drop p line) ds ih refl l h)
+      or-fair ds (t .found) (t .dead) (t .taken) (t .bytes) (λ ds. orTry (pieceTry n i p ds) (atomTry n i p)) _ (byte-fair n i p (drop p line) ds ih refl l h)
       (λ g. second-fair n i p (t .dead) ih li l z g)
 
   -- with any fuel
@@ -332,7 +336,7 @@ module _ (m : Marks) (kid : ℕ → Elem → ℕ) (holey : ℕ → Bool) (rank :
       by true ih e = idle-fair ds _ h
       by false ih e =
           let t = orTry (byteTry n i p ds) (λ ds. orTry (pieceTry n i p ds) (atomTry n i p)) in
-          take-fair i p ds (t .found) (t .dead) (t .taken) li l z e (first-fair n i p ds ih li l z h)
+          take-fair i p ds (t .found) (t .dead) (t .taken) (t .bytes) li l z e (first-fair n i p ds ih li l z h)
 
   -- a search is fair
   pub fair : (n i p : ℕ) (ds : List Place) → i < N → p ≤ length line → ends i ≡ false → NoEnds ds → Fair ds (tryPlace m kid holey n i p (drop p line) ds) (suc (size i p))

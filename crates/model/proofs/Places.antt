@@ -1,5 +1,6 @@
 -- Fitting a line by the search of the templates' tree: it finds the chosen reading, takes up each place once, and so at most as many places as the
--- tree has nodes times (line length + 1). The laws: finds-none, finds-chosen, taken-once, few-taken; for a text that loads, loaded-places.
+-- tree has nodes times (line length + 1), and reads at most as many bytes as these times the line's length. The laws: finds-none, finds-chosen,
+-- taken-once, few-taken, few-read; for a text that loads, loaded-places.
 use mathlib.Core.Path.{_≡_, refl, sym, _∙_, ap, subst}
 use mathlib.Core.Bool.{Bool, true, false}
 use mathlib.Core.List.{List, [], _∷_, _++_, append-assoc, append-nil}
@@ -14,12 +15,13 @@ use Rattle.model.specs.Reading.{Reading, chosen}
 use Rattle.model.specs.Load.{templates, nodes, Loaded, loaded, load}
 use Rattle.model.specs.Fitting.{Distinct}
 use Rattle.model.specs.Parts.{Elem, lit, hole, stop, ReadingPart, byte, piece, elems, text, elements, pieces, PartsRead}
-use Rattle.model.specs.Places.{Found, isIn, sameElem, beginnings, beginningAt, childIn, endsInHole, holeyIn, together, fitting, placesTaken, Once}
+use Rattle.model.specs.Places.{Found, isIn, sameElem, beginnings, beginningAt, childIn, endsInHole, holeyIn, together, fitting, placesTaken, bytesRead, Once}
 use Rattle.model.proofs.Choices.{false-not-true}
 use Rattle.model.proofs.Parts.{no-parts, parts-chosen}
 use Rattle.model.proofs.Search.{search, walk, onward-inv, sound, found-first, found-none}
 use Rattle.model.proofs.Unmarked.{unmarked}
 use Rattle.model.proofs.Once.{Kids, Fair, fair, few-places}
+use Rattle.model.proofs.Looks.{few-bytes}
 use Rattle.model.proofs.Beginnings.{number-some, has-beginning, is-beginning, child-is, rankIn, rank-falls, ends-in}
 use Rattle.model.proofs.NodeCount.{node-count}
 use Rattle.model.proofs.Loading.{brackets, load-legal}
@@ -202,6 +204,11 @@ module _ (m : Marks) (ts : List Bytes) (line : Bytes) where
   unfolding placesTaken
   few-taken =
       few-places m (childIn (beginnings m ts)) (holeyIn (beginnings m ts)) (rankIn (beginnings m ts)) (suc (length (beginnings m ts))) ends kids line [] (fitting m ts line) _ fitting-fair
+
+  -- and the bytes that are read at most as many as these times the line's length
+  pub few-read : bytesRead m ts line ≤ placesTaken m ts line * length line
+  unfolding bytesRead placesTaken fitting
+  few-read = few-bytes m (childIn (beginnings m ts)) (holeyIn (beginnings m ts)) (length line) (suc (together (beginnings m ts) + length line)) 0 0 line [] (omega arith)
 
 -- ---- a text that loads
 

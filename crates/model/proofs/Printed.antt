@@ -5,7 +5,7 @@ use mathlib.Core.Option.{Option, none, some}
 use mathlib.Core.List.{List, [], _∷_, _++_, map}
 use Prim.Native.Nat.{ℕ, zero, suc, _+_, _-_, _*_, _/_, _^_, _≤_, _<_}
 use native.Mathlib.Omega.{arith}
-use native.Mathlib.Nat.{pow-suc, suc-mul, mul-le-mul-right}
+use native.Mathlib.Nat.{pow-suc, suc-mul, mul-le-mul, mul-le-mul-right}
 use borrow.Author.Tests.{ltb-true, ltb-false, ne-eqb, eq-eqb}
 use lib.Dec.{eqb, ltb}
 use lib.ListN.{length, getD, drop, replicate, length-append, length-replicate}
@@ -16,7 +16,7 @@ use Rattle.model.specs.Text.{Bytes, has, startsWith, ontoFirst, lines, m
 use Rattle.model.specs.Reading.{Pieces, Reading, chosen}
 use Rattle.model.specs.Store.{digitsOf, decimal}
 use Rattle.model.specs.Load.{Macro, noMacro, templates, nodes, Progress, Seen, fault, more, sectionEnds, lowest, count, templateFault, unless, templateLine, codeLine, endLine, lineSeen, Loaded, Load, refused, loaded, lowestAt, loadOn, loadFrom, noneRead, loadLines, load}
-use Rattle.model.specs.Places.{placesTaken}
+use Rattle.model.specs.Places.{placesTaken, bytesRead}
 use Rattle.model.specs.Results.{shortRow, shortDead, startsOf, nine, noPieces, fittedAs, fittedIn, fitLine}
 use Rattle.model.specs.Fitting.{Fits, end, literal, placeholder}
 use Rattle.model.specs.Legal.{MacrosAt}
@@ -24,7 +24,7 @@ use Rattle.model.specs.Printed.{spaced, endRow, checkRow, pieceRow, fitR
 use Rattle.model.proofs.Choices.{both, split, or-false}
 use Rattle.model.proofs.Loading.{load-legal, loaded-chosen}
 use Rattle.model.proofs.Input.{load-at, line-number}
-use Rattle.model.proofs.Places.{loaded-places}
+use Rattle.model.proofs.Places.{few-read, loaded-places}
 
 -- ---- numbers in decimal
 
@@ -223,6 +223,8 @@ record FittedLow (line : Bytes) (n : ℕ) (f : Fitted) : Type 0 where
   lengths : Below n (f .length)
   places : f .places ≤ 2048 * suc (length line)
   most-places : f .places ≤ 411648
+  bytes : f .bytes ≤ f .places * length line
+  most-bytes : f .bytes ≤ 82329600
 
 no-pieces-low : {line : Bytes} {k n : ℕ} → k ≤ 11 → (length line ≤ 200 → k ≤ 9) → n ≤ 65537 → FittedLow line 0 (noPieces k n)
 unfolding noPieces
@@ -235,6 +237,8 @@ no-pieces-low a b c = record {
   lengths = below-nine 0 [] tt;
   places = omega arith;
   most-places = omega arith;
+  bytes = omega arith;
+  most-bytes = omega arith;
 }
 
 -- n is neither above the line's length nor above 200
@@ -242,15 +246,21 @@ abbrev FittedShort : Bytes → Fitted → Type 0
 FittedShort line f = (n : ℕ) × (n ≤ length line) × (n ≤ 200) × FittedLow line n f
 
 module _ (text : Bytes) (line : Bytes) where
-  -- the places of a text that loads, with as many nodes as there may be
+  -- the places and the bytes of a text that loads, with as many nodes as there may be
   places-low : (t : Loaded) → load text ≡ loaded t → length line ≤ 200 → (placesTaken (t .marks) (templates (t .macros)) line ≤ 2048 * suc (length line)) × (placesTaken (t .marks) (templates (t .macros)) line ≤ 411648)
   places-low t e h =
       let a = loaded-places text t e line in
       let b = mul-le-mul-right {m = nodes (t .macros)} {n = 2048} (suc (length line)) (load-legal text t e .1 .tree) in
       (omega (arith, a, b), omega (arith, a, b))
 
+  bytes-low : (t : Loaded) → load text ≡ loaded t → length line ≤ 200 → bytesRead (t .marks) (templates (t .macros)) line ≤ 82329600
+  bytes-low t e h =
+      let a = few-read (t .marks) (templates (t .macros)) line in
+      let b = mul-le-mul {n₁ = placesTaken (t .marks) (templates (t .macros)) line} {m₁ = length line} {n₂ = 411648} {m₂ = 200} (places-low t e h .1) h in
+      omega (arith, a, b)
+
   fitted-low : (t : Loaded) → load text ≡ loaded t → length line ≤ 200 → (o : Option Reading) → chosen (t .marks) (templates (t .macros)) line ≡ o
-      → FittedShort line (fittedAs t o (placesTaken (t .marks) (templates (t .macros)) line))
+      → FittedShort line (fittedAs t o (placesTaken (t .marks) (templates (t .macros)) line) (bytesRead (t .marks) (templates (t .macros)) line))
   unfolding fittedAs
   fitted-low t e h none q =
       let (a, b) = places-low t e h in (
@@ -266,6 +276,8 @@ module _ (text : Bytes) (line : Bytes) where
           lengths = below-nine 0 [] tt;
           places = a;
           most-places = b;
+          bytes = few-read (t .marks) (templates (t .macros)) line;
+          most-bytes = bytes-low t e h;
         },
       )
   fitted-low t e h (some r) q =
@@ -289,6 +301,8 @@ module _ (text : Bytes) (line : Bytes) where
           lengths = below-nine (length line) _ (lengths-below (length line) f (omega arith));
           places = a;
           most-places = b;
+          bytes = few-read (t .marks) (templates (t .macros)) line;
+          most-bytes = bytes-low t e h;
         },
       )
 
@@ -318,8 +332,8 @@ piece-row-long n d w (s ∷ ss) (l ∷ ls) h k =
     let m = suc-mul (length ss) (d + d) in
     simp length-append (omega arith)
 
--- a row of fit_line: 49 bytes for each byte of the line, and for its end
-fit-row-long : (line : Bytes) (f : Fitted) → FittedShort line f → length (fitRow f) ≤ 49 * (length line + 1)
+-- a row of fit_line: 51 bytes for each byte of the line, and for its end
+fit-row-long : (line : Bytes) (f : Fitted) → FittedShort line f → length (fitRow f) ≤ 51 * (length line + 1)
 unfolding fitRow
 fit-row-long [] f (n, z, w, h) =
     let a = decimal-few 0 (f .number) (omega (arith, h .single (omega arith))) in
@@ -327,6 +341,7 @@ fit-row-long [] f (n, z, w, h) =
     let c = piece-row-long n 2 (λ x u. spaced-few 0 x (omega arith)) (f .start) (f .length) (h .starts) (h .lengths) in
     let d = h .few in
     let e = spaced-few 3 (f .places) (omega (arith, h .places)) in
+    let g = spaced-few 0 (f .bytes) (omega (arith, h .bytes)) in
     simp length-append (omega arith)
 fit-row-long (x ∷ line) f (n, z, w, h) =
     let a = decimal-few 1 (f .number) (omega (arith, h .number)) in
@@ -334,9 +349,10 @@ fit-row-long (x ∷ line) f (n, z, w, h) =
     let c = piece-row-long n 4 (λ x u. spaced-few 2 x (omega arith)) (f .start) (f .length) (h .starts) (h .lengths) in
     let d = h .few in
     let e = spaced-few 5 (f .places) (omega (arith, h .most-places)) in
+    let g = spaced-few 7 (f .bytes) (omega (arith, h .most-bytes)) in
     simp length-append (omega arith)
 
-fit-rows-long : (text : Bytes) (ls : List Bytes) → length (fitRows text ls) ≤ 49 * spread ls
+fit-rows-long : (text : Bytes) (ls : List Bytes) → length (fitRows text ls) ≤ 51 * spread ls
 unfolding fitRows spread
 fit-rows-long text [] = omega arith
 fit-rows-long text (l ∷ ls) =
@@ -357,6 +373,6 @@ unfolding checkRow
 check-row-long name c = simp length-append (omega (arith, spaced-most (c .number), spaced-most (c .line)))
 
 -- all that fit_line prints
-pub fit-prints-long : (text file : Bytes) → length (fitPrints text file) ≤ 49 * (length file + 1)
+pub fit-prints-long : (text file : Bytes) → length (fitPrints text file) ≤ 51 * (length file + 1)
 unfolding fitPrints
 fit-prints-long text file = omega (arith, fit-rows-long text (lines file), lines-spread file)

@@ -11,7 +11,7 @@ use Rattle.model.specs.declared.Marks.{Marks}
 use Rattle.model.specs.Text.{Bytes}
 use Rattle.model.specs.Reading.{atom}
 use Rattle.model.specs.Parts.{Elem, lit, hole, stop, ReadingPart}
-use Rattle.model.specs.Places.{Found, withByte, pieceFound, withAtom, Place, isIn, Tried, idle, within, orTry, takeUp, tryChild, tryEnd, tryPast, tryAtom, tryByte, tryPiece, tryPlace}
+use Rattle.model.specs.Places.{Found, withByte, pieceFound, withAtom, Place, isIn, Tried, idle, within, orTry, takeUp, afterLook, bytesOfLook, tryChild, tryEnd, tryPast, tryAtom, tryByte, tryPiece, tryPlace}
 use Rattle.model.proofs.Atoms.{atom-sound}
 
 -- what is found, but for the node
@@ -52,26 +52,27 @@ module _ (R : ℕ → ℕ → Type 0) (one : (i i′ j j′ : ℕ) → R i i′ 
     pub found : Same (t .found) (u .found)
     pub dead : Places (t .dead) (u .dead)
     pub taken : Places (t .taken) (u .taken)
+    pub bytes : t .bytes ≡ u .bytes
 
   -- no place is taken up
   idle-alike : (ms ns : List Place) → Places ms ns → Alike (idle ms) (idle ns)
-  idle-alike ms ns h = record { found = nothing; dead = h; taken = no-place }
+  idle-alike ms ns h = record { found = nothing; dead = h; taken = no-place; bytes = refl }
 
   -- if it leads nowhere, the next
-  or-alike : (o o′ : Option Found) (ns ns′ ts ts′ : List Place) (next next′ : List Place → Tried)
-      → Same o o′ → Places ns ns′ → Places ts ts′ → ((ms ms′ : List Place) → Places ms ms′ → Alike (next ms) (next′ ms′))
-      → Alike (orTry (record { found = o; dead = ns; taken = ts }) next) (orTry (record { found = o′; dead = ns′; taken = ts′ }) next′)
-  or-alike o o′ ns ns′ ts ts′ next next′ nothing n t h =
+  or-alike : (o o′ : Option Found) (ns ns′ ts ts′ : List Place) (c c′ : ℕ) (next next′ : List Place → Tried)
+      → Same o o′ → Places ns ns′ → Places ts ts′ → c ≡ c′ → ((ms ms′ : List Place) → Places ms ms′ → Alike (next ms) (next′ ms′))
+      → Alike (orTry (record { found = o; dead = ns; taken = ts; bytes = c }) next) (orTry (record { found = o′; dead = ns′; taken = ts′; bytes = c′ }) next′)
+  or-alike o o′ ns ns′ ts ts′ c c′ next next′ nothing n t e h =
       let a = h ns ns′ n in
-      record { found = a .found; dead = a .dead; taken = joined ts ts′ (next ns .taken) (next′ ns′ .taken) t (a .taken) }
-  or-alike o o′ ns ns′ ts ts′ next next′ (something q r i j) n t h = record { found = something q r i j; dead = n; taken = t }
+      record { found = a .found; dead = a .dead; taken = joined ts ts′ (next ns .taken) (next′ ns′ .taken) t (a .taken); bytes = ap₂ (λ (x y : ℕ). x + y) e (a .bytes) }
+  or-alike o o′ ns ns′ ts ts′ c c′ next next′ (something q r i j) n t e h = record { found = something q r i j; dead = n; taken = t; bytes = e }
 
   -- the place is taken up
-  take-alike : (i j p : ℕ) (o o′ : Option Found) (ns ns′ ts ts′ : List Place) → R i j → Same o o′ → Places ns ns′ → Places ts ts′
-      → Alike (takeUp (record { node = i; at = p }) (record { found = o; dead = ns; taken = ts }))
-      (takeUp (record { node = j; at = p }) (record { found = o′; dead = ns′; taken = ts′ }))
-  take-alike i j p o o′ ns ns′ ts ts′ r nothing n t = record { found = nothing; dead = place i j p ns ns′ r n; taken = place i j p ts ts′ r t }
-  take-alike i j p o o′ ns ns′ ts ts′ r (something q a k l) n t = record { found = something q a k l; dead = n; taken = place i j p ts ts′ r t }
+  take-alike : (i j p : ℕ) (o o′ : Option Found) (ns ns′ ts ts′ : List Place) (c c′ : ℕ) → R i j → Same o o′ → Places ns ns′ → Places ts ts′ → c ≡ c′
+      → Alike (takeUp (record { node = i; at = p }) (record { found = o; dead = ns; taken = ts; bytes = c }))
+      (takeUp (record { node = j; at = p }) (record { found = o′; dead = ns′; taken = ts′; bytes = c′ }))
+  take-alike i j p o o′ ns ns′ ts ts′ c c′ r nothing n t e = record { found = nothing; dead = place i j p ns ns′ r n; taken = place i j p ts ts′ r t; bytes = e }
+  take-alike i j p o o′ ns ns′ ts ts′ c c′ r (something q a k l) n t e = record { found = something q a k l; dead = n; taken = place i j p ts ts′ r t; bytes = e }
 
   -- the same part in front
   within-byte : (b : ℕ) (o o′ : Option Found) → Same o o′ → Same (withByte b o) (withByte b o′)
@@ -88,7 +89,11 @@ module _ (R : ℕ → ℕ → Type 0) (one : (i i′ j j′ : ℕ) → R i i′ 
 
   -- of two searches
   within-alike : (g : Option Found → Option Found) (t u : Tried) → ((o o′ : Option Found) → Same o o′ → Same (g o) (g o′)) → Alike t u → Alike (within g t) (within g u)
-  within-alike g t u f h = record { found = f (t .found) (u .found) (h .found); dead = h .dead; taken = h .taken }
+  within-alike g t u f h = record { found = f (t .found) (u .found) (h .found); dead = h .dead; taken = h .taken; bytes = h .bytes }
+
+  -- after a look that reads as many bytes
+  look-alike : (n : ℕ) (t u : Tried) → Alike t u → Alike (afterLook n t) (afterLook n u)
+  look-alike n t u h = record { found = h .found; dead = h .dead; taken = h .taken; bytes = ap (λ (k : ℕ). n + k) (h .bytes) }
 
   module _ (m : Marks) (kid kid′ : ℕ → Elem → ℕ) (holey holey′ : ℕ → Bool) (rank rank′ : ℕ → ℕ)
       (falls : (i : ℕ) (e : Elem) (c : ℕ) → kid i e ≡ suc c → rank (suc c) < rank i) (falls′ : (i : ℕ) (e : Elem) (c : ℕ) → kid′ i e ≡ suc c → rank′ (suc c) < rank′ i)
@@ -114,7 +119,7 @@ module _ (R : ℕ → ℕ → Type 0) (one : (i i′ j j′ : ℕ) → R i i′ 
     -- at a template's end
     end-alike : (x y p : ℕ) (ms ns : List Place) → Both R x y → Places ms ns → Alike (tryEnd x p ms) (tryEnd y p ns)
     end-alike x y p ms ns neither h = idle-alike ms ns h
-    end-alike x y p ms ns (both c d r) h = record { found = something [] [] (suc c) (suc d); dead = h; taken = place (suc c) (suc d) p [] [] r no-place }
+    end-alike x y p ms ns (both c d r) h = record { found = something [] [] (suc c) (suc d); dead = h; taken = place (suc c) (suc d) p [] [] r no-place; bytes = refl }
 
     -- the three steps
     byte-alike : (n k i j p : ℕ) (s : Bytes) (ms ns : List Place) → AlikeAt n → R i j → Places ms ns → rank i + length s ≤ n → rank′ j + length s ≤ k
@@ -140,7 +145,7 @@ module _ (R : ℕ → ℕ → Type 0) (one : (i i′ j j′ : ℕ) → R i i′ 
 
     atom-alike : (n k i j p : ℕ) (b b′ : Bool) (s : Bytes) (ms ns : List Place) → AlikeAt n → b ≡ b′ → R i j → Places ms ns → rank i + length s ≤ n → rank′ j + length s ≤ k
         → Alike (tryAtom m (one-way n i) b p s ms) (tryAtom m (other-way k j) b′ p s ns)
-    atom-alike n k i j p true true s ms ns ih e r h a b = past-alike n k i j p s (atom m s) ms ns ih refl r h a b
+    atom-alike n k i j p true true s ms ns ih e r h a b = look-alike (bytesOfLook m s) _ _ (past-alike n k i j p s (atom m s) ms ns ih refl r h a b)
     atom-alike n k i j p false false s ms ns ih e r h a b = idle-alike ms ns h
     atom-alike n k i j p true false s ms ns ih e r h a b = let z : _≡_ {A = ℕ} 0 1 = cc in absurd (omega arith)
     atom-alike n k i j p false true s ms ns ih e r h a b = let z : _≡_ {A = ℕ} 0 1 = cc in absurd (omega arith)
@@ -152,8 +157,8 @@ module _ (R : ℕ → ℕ → Type 0) (one : (i i′ j j′ : ℕ) → R i i′ 
         let t = tryPiece kid (one-way n) i p s ms in
         let u = tryPiece kid′ (other-way k) j p s ns in
         let w = piece-alike n k i j p s ms ns ih r h a b in
-        or-alike (t .found) (u .found) (t .dead) (u .dead) (t .taken) (u .taken) (λ ms. tryAtom m (one-way n i) (holey i) p s ms) (λ ms. tryAtom m (other-way k j) (holey′ j) p s ms)
-        (w .found) (w .dead) (w .taken) (λ xs ys z. atom-alike n k i j p (holey i) (holey′ j) s xs ys ih (holes i j r) r z a b)
+        or-alike (t .found) (u .found) (t .dead) (u .dead) (t .taken) (u .taken) (t .bytes) (u .bytes) (λ ms. tryAtom m (one-way n i) (holey i) p s ms) (λ ms. tryAtom m (other-way k j) (holey′ j) p s ms)
+        (w .found) (w .dead) (w .taken) (w .bytes) (λ xs ys z. atom-alike n k i j p (holey i) (holey′ j) s xs ys ih (holes i j r) r z a b)
 
     -- with any fuel
     alike-all : (n : ℕ) → AlikeAt n
@@ -177,7 +182,7 @@ module _ (R : ℕ → ℕ → Type 0) (one : (i i′ j j′ : ℕ) → R i i′ 
         steps : AlikeAt n → Alike (orTry t next) (orTry u next′)
         steps ih =
             let w = byte-alike n k i j p s ms ns ih r h (omega arith) (omega arith) in
-            or-alike (t .found) (u .found) (t .dead) (u .dead) (t .taken) (u .taken) next next′ (w .found) (w .dead) (w .taken)
+            or-alike (t .found) (u .found) (t .dead) (u .dead) (t .taken) (u .taken) (t .bytes) (u .bytes) next next′ (w .found) (w .dead) (w .taken) (w .bytes)
             (λ xs ys z. second-alike n k i j p s xs ys ih r z (omega arith) (omega arith))
 
         by : (b b′ : Bool) → b ≡ b′ → AlikeAt n → Alike (elim b [ true ↦ idle ms | false ↦ takeUp (record { node = i; at = p }) (orTry t next) ]) (elim b′ [ true ↦ idle ns | false ↦ takeUp (record { node = j; at = p }) (orTry u next′) ])
@@ -188,12 +193,13 @@ module _ (R : ℕ → ℕ → Type 0) (one : (i i′ j j′ : ℕ) → R i i′ 
             let w = steps ih in
             let x = orTry t next in
             let y = orTry u next′ in
-            take-alike i j p (x .found) (y .found) (x .dead) (y .dead) (x .taken) (y .taken) r (w .found) (w .dead) (w .taken)
+            take-alike i j p (x .found) (y .found) (x .dead) (y .dead) (x .taken) (y .taken) (x .bytes) (y .bytes) r (w .found) (w .dead) (w .taken) (w .bytes)
 
-    -- as many places are taken up, and the same is found, but for the node
+    -- as many places are taken up, as many bytes are read, and the same is found, but for the node
     pub renumbered : (n k i j : ℕ) (s : Bytes) → R i j → rank i + length s < n → rank′ j + length s < k
-        → (length (one-way n i 0 s [] .taken) ≡ length (other-way k j 0 s [] .taken)) × Same (one-way n i 0 s [] .found) (other-way k j 0 s [] .found)
+        → (length (one-way n i 0 s [] .taken) ≡ length (other-way k j 0 s [] .taken)) × (one-way n i 0 s [] .bytes ≡ other-way k j 0 s [] .bytes)
+        × Same (one-way n i 0 s [] .found) (other-way k j 0 s [] .found)
     unfolding AlikeAt
     renumbered n k i j s r a b =
         let w = alike-all n k i j 0 s [] [] r no-place a b in
-        (as-many (one-way n i 0 s [] .taken) (other-way k j 0 s [] .taken) (w .taken), w .found)
+        (as-many (one-way n i 0 s [] .taken) (other-way k j 0 s [] .taken) (w .taken), w .bytes, w .found)

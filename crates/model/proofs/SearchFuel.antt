@@ -10,7 +10,7 @@ use Rattle.model.specs.declared.Marks.{Marks}
 use Rattle.model.specs.Text.{Bytes}
 use Rattle.model.specs.Reading.{atom}
 use Rattle.model.specs.Parts.{Elem, lit, hole}
-use Rattle.model.specs.Places.{withByte, pieceFound, withAtom, Place, isIn, Tried, idle, within, orTry, takeUp, tryChild, tryPast, tryAtom, tryByte, tryPiece, tryPlace, beginnings, beginningAt, childIn, holeyIn, together, fitting}
+use Rattle.model.specs.Places.{withByte, pieceFound, withAtom, Place, isIn, Tried, idle, within, orTry, takeUp, afterLook, bytesOfLook, tryChild, tryPast, tryAtom, tryByte, tryPiece, tryPlace, beginnings, beginningAt, childIn, holeyIn, together, fitting}
 use Rattle.model.proofs.Atoms.{atom-sound}
 use Rattle.model.proofs.Beginnings.{rankIn, rank-falls}
 
@@ -50,7 +50,7 @@ module _ (m : Marks) (kid : ℕ → Elem → ℕ) (holey : ℕ → Bool) (rank :
       ap (within (withAtom x)) (ih k i (p + length x) t ds (omega arith) (omega arith))
 
   atom-enough : (n k i p : ℕ) (t : Bool) (s : Bytes) (ds : List Place) → Enough n → rank i + length s ≤ n → rank i + length s ≤ k → tryAtom m (go n i) t p s ds ≡ tryAtom m (go k i) t p s ds
-  atom-enough n k i p true s ds ih a b = past-enough n k i p s (atom m s) ds ih refl a b
+  atom-enough n k i p true s ds ih a b = ap (afterLook (bytesOfLook m s)) (past-enough n k i p s (atom m s) ds ih refl a b)
   atom-enough n k i p false s ds ih a b = refl
 
   -- with any fuel

@@ -1,4 +1,4 @@
--- Document 01's starred examples ("Fitting a line", "Values") with those of document 02's tickets 1 to 3, one list, computed against the definitions in one proof; and examples of ticket 4's copies.
+-- Document 01's starred examples ("Fitting a line", "Values") with those of document 02's tickets 1 to 3 and 5, one list, computed against the definitions in one proof; and examples of ticket 4's copies.
 use mathlib.Core.Path.{_≡_, refl}
 use mathlib.Core.Option.{Option, none, some}
 use mathlib.Core.List.{List, [], _∷_, _++_, map}
@@ -21,7 +21,7 @@ use Rattle.model.specs.Store.{find, decimal, digitsOf}
 use Rattle.model.specs.Value.{valueFault, valueOf, checked, quotient, divided, andThen, giving, number, isMark, nameOf, allDigits, isStoredNumber, storedNumber, ofStored, closing, expression, sum, product, factors, operand, whole}
 use Rattle.model.specs.Load.{begins}
 use Rattle.model.specs.Machine.{Rooms, rooms, appended, withFirst, withSecond, wrote, Next, running, ended, stateWith, pastLine, tooLong, copyLines, copyInput, Frame, param, Building, built, failed, add, addLength, addCodePoint, addConverted, Piece, onePass, passOf, noPass, noOutput}
-use Rattle.model.specs.Places.{isIn, tryPlace, sameElem, sameElems, numberFrom, addBeginnings, beginningsFrom, beginnings, beginningAt, childIn, endsInHole, holeyIn, together, fitting, placesTaken}
+use Rattle.model.specs.Places.{isIn, tryPlace, sameElem, sameElems, numberFrom, addBeginnings, beginningsFrom, beginnings, beginningAt, childIn, endsInHole, holeyIn, together, bytesOfLook, fitting, placesTaken, bytesRead}
 
 -- the bytes of a quoted text, of characters of one byte
 unfoldable pub bytes : String → List ℕ
@@ -36,7 +36,7 @@ session = record { source = 36; placeholder = 33; code = 36; escape = 33; blank 
 pub data Told : Type 0 where
   call : (template : List ℕ) (pieces : List (List ℕ)) → Told
   no-call : Told
-  places : (number : ℕ) → Told
+  counts : (places bytes : ℕ) → Told
   value : ℤ → Told
   code-points : List ℕ → Told
   line : (built : Bytes) → Told
@@ -55,9 +55,10 @@ toldValue (some v) = value v
 abbrev fitted : List String → String → Told
 fitted ts l = toldReading ts (chosen session (map bytes ts) (bytes l))
 
--- the places that are taken up for it; in the last example below a dead place is met again
-abbrev placed : List String → String → Told
-placed ts l = places (placesTaken session (map bytes ts) (bytes l))
+-- the places that are taken up for it, and the bytes that are read. Among the examples below, `aa` meets a dead place again; `)(` and `a)(` have a
+-- look at a right bracket, `(=`, `((` and `(a` one at a left bracket without a partner
+abbrev counted : List String → String → Told
+counted ts l = counts (placesTaken session (map bytes ts) (bytes l)) (bytesRead session (map bytes ts) (bytes l))
 
 -- a text as an expression, with nothing stored
 abbrev valued : String → Told
@@ -112,15 +113,19 @@ examples =
     ∷ (fitted three "(=", no-call)
     ∷ (fitted three "", no-call)
     ∷ (fitted ("!" ∷ []) ")(", no-call)
-    ∷ (placed three "AB", places 5)
-    ∷ (placed three "ABB", places 6)
-    ∷ (placed three "XB", places 5)
-    ∷ (placed three "A=B", places 8)
-    ∷ (placed three "(=)=", places 6)
-    ∷ (placed three "(=", places 2)
-    ∷ (placed three "", places 2)
-    ∷ (placed ("!" ∷ []) ")(", places 2)
-    ∷ (placed ("!a!b" ∷ []) "aa", places 8)
+    ∷ (counted three "AB", counts 5 0)
+    ∷ (counted three "ABB", counts 6 1)
+    ∷ (counted three "XB", counts 5 1)
+    ∷ (counted three "A=B", counts 8 2)
+    ∷ (counted three "(=)=", counts 6 3)
+    ∷ (counted three "(=", counts 2 2)
+    ∷ (counted three "", counts 2 0)
+    ∷ (counted ("!" ∷ []) ")(", counts 2 1)
+    ∷ (counted ("!" ∷ []) "a)(", counts 3 2)
+    ∷ (counted ("!" ∷ []) "()()", counts 5 4)
+    ∷ (counted ("!" ∷ []) "((", counts 2 2)
+    ∷ (counted ("(!" ∷ []) "((a", counts 3 2)
+    ∷ (counted ("!a!b" ∷ []) "aa", counts 8 3)
     ∷ (valued "", value (pos 0))
     ∷ (valued "2-3*4", value (negsuc 9))
     ∷ (valued "(-7)/2", value (negsuc 2))
@@ -146,7 +151,7 @@ examples =
 
 -- what the definitions give is what the documents say
 pub starred : map (λ e. e .0) examples ≡ map (λ e. e .1) examples
-unfolding group atom elems isIn tryPlace sameElem sameElems numberFrom addBeginnings beginningsFrom beginnings beginningAt childIn endsInHole holeyIn together fitting placesTaken bytes isDigit has same find chosen balancedFrom balanced cuts withPiece withLiteral readings rank less asReadings allReadings leastOf least valueOf checked quotient divided andThen giving number isMark nameOf allDigits isStoredNumber storedNumber ofStored closing expression sum product factors operand whole isTail ofTwo character ontoPoints pointsFrom points digitsOf decimal param add addLength addCodePoint addConverted onePass passOf
+unfolding group atom elems isIn tryPlace sameElem sameElems numberFrom addBeginnings beginningsFrom beginnings beginningAt childIn endsInHole holeyIn together bytesOfLook fitting placesTaken bytesRead bytes isDigit has same find chosen balancedFrom balanced cuts withPiece withLiteral readings rank less asReadings allReadings leastOf least valueOf checked quotient divided andThen giving number isMark nameOf allDigits isStoredNumber storedNumber ofStored closing expression sum product factors operand whole isTail ofTwo character ontoPoints pointsFrom points digitsOf decimal param add addLength addCodePoint addConverted onePass passOf
 starred = refl
 
 -- ---- copies (document 02, ticket 4)

@@ -18,13 +18,13 @@ use Rattle.model.specs.declared.Effect.the-variants.{Malformed}
 use Rattle.model.specs.Limits.{lineMost, nodesMost, deadLeast, largest, digitsMost}
 use Rattle.model.specs.Text.{Bytes, upTo, has, lines}
 use Rattle.model.specs.Utf8.{Character, character, points, Point, encode, encodeAll, Points, Leads, MalformedText, MalformedFront}
-use Rattle.model.specs.Reading.{Pieces, Reading, chosen}
+use Rattle.model.specs.Reading.{atom, Pieces, Reading, chosen}
 use Rattle.model.specs.Code.{digitOf, conversionOf, channelOf, OtherDigit, effect}
 use Rattle.model.specs.Store.{Store, decimal}
 use Rattle.model.specs.Value.{FitsWidth, checked, expression, whole, valueOf}
 use Rattle.model.specs.Load.{begins, templates, nodes, Loaded, Load, loaded, load}
 use Rattle.model.specs.Machine.{Rooms, rooms, Extends, Loop, Frame, Shared, halts, param, failed, add, addConverted, pieceOf, passOf, takePass, State, tooLong, copyInput, skipIn, running, ended, counted, event, after, initial, resultOf, run}
-use Rattle.model.specs.Places.{Found, tryPlace, beginnings, childIn, holeyIn, together, fitting, placesTaken, Once}
+use Rattle.model.specs.Places.{Found, bytesOfLook, tryPlace, beginnings, childIn, holeyIn, together, fitting, placesTaken, bytesRead, Once}
 use Rattle.model.specs.Results.{checkText, fitLine, runText}
 use Rattle.model.specs.Fitting.{Reads, First}
 use Rattle.model.specs.FirstReading.{FitsFirst, OffersFirst}
@@ -36,6 +36,7 @@ use Rattle.model.specs.NumberTable.{begunNumbers, checkNumbers, fitNumbe
 use Rattle.model.specs.Demands.{EndsInFuel, GoesBeyond, OffersInRun, FollowsExpansion}
 use Rattle.model.proofs.FirstReading as FirstReading
 use Rattle.model.proofs.Search.{search}
+use Rattle.model.proofs.Looks as Looks
 use Rattle.model.proofs.Places as Places
 use Rattle.model.proofs.Places.{IsChosen}
 use Rattle.model.proofs.SearchFuel as SearchFuel
@@ -107,6 +108,26 @@ module _ (text : Bytes) (t : Loaded) (loads : load text ≡ loaded t) (line : By
   -- so they are at most as many as the tree's nodes times (line length + 1)
   pub few-places : placesTaken (t .marks) (templates (t .macros)) line ≤ nodes (t .macros) * suc (length line)
   few-places = Places.loaded-places text t loads line
+
+  -- and the bytes that are read where the next atom is looked for are at most these times the line's length
+  pub few-bytes : bytesRead (t .marks) (templates (t .macros)) line ≤ placesTaken (t .marks) (templates (t .macros)) line * length line
+  few-bytes = Places.few-read (t .marks) (templates (t .macros)) line
+
+-- the bytes of one look, where b and then s are left of the line: the atom's where there is one
+pub look-atom : (m : Marks) (s a rest : Bytes) → atom m s ≡ some (a, rest) → bytesOfLook m s ≡ length a
+look-atom = Looks.look-atom
+
+-- one at a right bracket
+pub look-right : (m : Marks) (b : ℕ) (s : Bytes) → b ≡ m .right → bytesOfLook m (b ∷ s) ≡ 1
+look-right = Looks.look-right
+
+-- all that is left at a left bracket without a partner
+pub look-open : (m : Marks) (b : ℕ) (s : Bytes) → b ≡ m .left → ¬ (b ≡ m .right) → atom m (b ∷ s) ≡ none → bytesOfLook m (b ∷ s) ≡ length (b ∷ s)
+look-open m b s l r e = Looks.look-open m b s r e
+
+-- and none at the line's end. There are no other looks: a byte that is no bracket is an atom
+pub look-end : (m : Marks) → bytesOfLook m [] ≡ 0
+look-end = Looks.look-end
 
 -- ---- two fuels
 

@@ -14,7 +14,7 @@ use Rattle.model.specs.declared.Marks.{Marks}
 use Rattle.model.specs.Text.{Bytes}
 use Rattle.model.specs.Reading.{atom}
 use Rattle.model.specs.Parts.{Elem, lit, hole, stop}
-use Rattle.model.specs.Places.{Found, endAt, withByte, pieceFound, withAtom, Place, isIn, Tried, idle, within, orTry, takeUp, tryChild, tryEnd, tryPast, tryAtom, tryByte, tryPiece, tryPlace}
+use Rattle.model.specs.Places.{Found, endAt, withByte, pieceFound, withAtom, Place, isIn, Tried, idle, within, orTry, takeUp, afterLook, bytesOfLook, tryChild, tryEnd, tryPast, tryAtom, tryByte, tryPiece, tryPlace}
 use Rattle.model.proofs.Chosen.{Tested, alike, apart, tested}
 use Rattle.model.proofs.Atoms.{atom-sound}
 use Rattle.model.proofs.Search.{orElse, atChild, byByte, byPiece, pastAtom, byAtom, search}
@@ -54,20 +54,20 @@ module _ (m : Marks) (kid : ℕ → Elem → ℕ) (holey : ℕ → Bool) (rank :
   idle-agrees ds f b h z = record { same = λ k l. sym (z k l); right = h }
 
   -- if it leads nowhere, the next
-  or-agrees : (o : Option Found) (ds ts : List Place) (next : List Place → Tried) (f g : ℕ → Option Found) (b : ℕ)
-      → Agrees (record { found = o; dead = ds; taken = ts }) f b → ((ds : List Place) → Marked ds → Agrees (next ds) g b)
-      → Agrees (orTry (record { found = o; dead = ds; taken = ts }) next) (λ k. orElse (f k) (g k)) b
-  or-agrees none ds ts next f g b h n =
+  or-agrees : (o : Option Found) (ds ts : List Place) (c : ℕ) (next : List Place → Tried) (f g : ℕ → Option Found) (b : ℕ)
+      → Agrees (record { found = o; dead = ds; taken = ts; bytes = c }) f b → ((ds : List Place) → Marked ds → Agrees (next ds) g b)
+      → Agrees (orTry (record { found = o; dead = ds; taken = ts; bytes = c }) next) (λ k. orElse (f k) (g k)) b
+  or-agrees none ds ts c next f g b h n =
       let w = n ds (h .right) in
       record { same = λ k l. w .same k l ∙ ap (λ (x : Option Found). orElse x (g k)) (h .same k l); right = w .right }
-  or-agrees (some r) ds ts next f g b h n = record { same = λ k l. ap (λ (x : Option Found). orElse x (g k)) (h .same k l); right = h .right }
+  or-agrees (some r) ds ts c next f g b h n = record { same = λ k l. ap (λ (x : Option Found). orElse x (g k)) (h .same k l); right = h .right }
 
   -- the place is taken up
-  take-agrees : (i p : ℕ) (o : Option Found) (ds ts : List Place) (f : ℕ → Option Found)
+  take-agrees : (i p : ℕ) (o : Option Found) (ds ts : List Place) (c : ℕ) (f : ℕ → Option Found)
       → ((k : ℕ) → go (suc k) i (drop p line) ≡ f k)
-      → Agrees (record { found = o; dead = ds; taken = ts }) f (rank i + length (drop p line))
-      → Agrees (takeUp (record { node = i; at = p }) (record { found = o; dead = ds; taken = ts })) (λ k. go k i (drop p line)) (suc (rank i + length (drop p line)))
-  take-agrees i p o ds ts f u h = record { same = same; right = right o (λ k l. same k l) (h .right) }
+      → Agrees (record { found = o; dead = ds; taken = ts; bytes = c }) f (rank i + length (drop p line))
+      → Agrees (takeUp (record { node = i; at = p }) (record { found = o; dead = ds; taken = ts; bytes = c })) (λ k. go k i (drop p line)) (suc (rank i + length (drop p line)))
+  take-agrees i p o ds ts c f u h = record { same = same; right = right o (λ k l. same k l) (h .right) }
     where
       same : (k : ℕ) → suc (rank i + length (drop p line)) ≤ k → o ≡ go k i (drop p line)
       same zero l = absurd (omega arith)
@@ -83,6 +83,10 @@ module _ (m : Marks) (kid : ℕ → Elem → ℕ) (holey : ℕ → Bool) (rank :
   -- a part in front
   within-agrees : (t : Tried) (f : ℕ → Option Found) (b : ℕ) (g : Option Found → Option Found) → Agrees t f b → Agrees (within g t) (λ k. g (f k)) b
   within-agrees t f b g h = record { same = λ k l. ap g (h .same k l); right = h .right }
+
+  -- a look changes nothing
+  look-agrees : (t : Tried) (f : ℕ → Option Found) (b c : ℕ) → Agrees t f b → Agrees (afterLook c t) f b
+  look-agrees t f b c h = record { same = h .same; right = h .right }
 
   -- with n left the search agrees
   Same : ℕ → Type 0
@@ -134,7 +138,7 @@ module _ (m : Marks) (kid : ℕ → Elem → ℕ) (holey : ℕ → Bool) (rank :
   atom-agrees : (n i p : ℕ) (b : Bool) (ds : List Place) → Same n → rank i + length (drop p line) ≤ n → Marked ds
       → Agrees (tryAtom m (tryPlace m kid holey n i) b p (drop p line) ds) (λ k. byAtom m (go k i) b (drop p line)) (rank i + length (drop p line))
   atom-agrees n i p false ds ih lt h = idle-agrees ds _ _ h (λ k z. refl)
-  atom-agrees n i p true ds ih lt h = past-agrees n i p (atom m (drop p line)) ds ih refl lt h
+  atom-agrees n i p true ds ih lt h = look-agrees _ _ _ (bytesOfLook m (drop p line)) (past-agrees n i p (atom m (drop p line)) ds ih refl lt h)
 
   -- with any fuel
   agrees : (n : ℕ) → Same n
@@ -152,9 +156,9 @@ module _ (m : Marks) (kid : ℕ → Elem → ℕ) (holey : ℕ → Bool) (rank :
           ]) (λ k. go k i (drop p line)) (suc (rank i + length (drop p line)))
       by true ih e = idle-agrees ds _ _ h (λ k l. h i p e k (omega arith))
       by false ih e =
-          take-agrees i p _ _ _ _ (λ k. refl)
-          (or-agrees _ _ _ _ _ _ _ (byte-agrees n i p (drop p line) ds ih refl (omega arith) h)
-          (λ ds h. or-agrees _ _ _ _ _ _ _ (piece-agrees n i p ds ih (omega arith) h)
+          take-agrees i p _ _ _ _ _ (λ k. refl)
+          (or-agrees _ _ _ _ _ _ _ _ (byte-agrees n i p (drop p line) ds ih refl (omega arith) h)
+          (λ ds h. or-agrees _ _ _ _ _ _ _ _ (piece-agrees n i p ds ih (omega arith) h)
           (λ ds h. atom-agrees n i p (holey i) ds ih (omega arith) h)))
 
   -- with enough fuel, and with marks that are right, the search finds what the one without marks finds

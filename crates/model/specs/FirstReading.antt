@@ -25,6 +25,7 @@ pub record FitsFirst (t : Loaded) (line : Bytes) (r : Fitted) : Type 0 where
   pub no-call : r .line ≡ 0 ↔ ((i : ℕ) (ps : Pieces) → ¬ Reads (t .marks) (templates (t .macros)) line i ps)
   pub call : 0 < r .line → (i : ℕ) × (ps : Pieces) × First (t .marks) (templates (t .macros)) line i ps × Names t i ps r
   pub few-places : r .places ≤ nodes (t .macros) * suc (length line)
+  pub few-bytes : r .bytes ≤ r .places * length line
 
 -- the line l is offered in a run: from the state s, in which that event is counted, the machine comes to x. Where twelve calls are open, `call` ends with 14,
 -- whatever the reading

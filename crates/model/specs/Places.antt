@@ -1,4 +1,5 @@
--- Fitting a line (document 02, ticket 3): the search of the templates' tree that takes up no place twice, and the places that it takes up.
+-- Fitting a line (document 02, tickets 3 and 5): the search of the templates' tree that takes up no place twice, the places that it takes up, and the
+-- bytes that it reads where it looks for the next atom.
 use mathlib.Core.Path.{_≡_}
 use mathlib.Core.Bool.{Bool, true, false, _&&_}
 use mathlib.Core.List.{List, [], _∷_, _++_}
@@ -52,26 +53,27 @@ unfoldable pub isIn : ℕ → ℕ → List Place → Bool
 isIn i p [] = false
 isIn i p (x ∷ xs) = elim (eqb (x .node) i && eqb (x .at) p) [ true ↦ true | false ↦ isIn i p xs ]
 
--- what trying a place comes to: what is found, the dead places that are marked then (each was found to lead nowhere), and the places
--- that were taken up for it, the latest last
+-- what trying a place comes to: what is found, the dead places that are marked then (each was found to lead nowhere), the places that were
+-- taken up for it, the latest last, and how many bytes were read where the next atom was looked for
 pub record Tried : Type 0 where
   pub found : Option Found
   pub dead : List Place
   pub taken : List Place
+  pub bytes : ℕ
 
 -- nothing is taken up
 abbrev pub idle : List Place → Tried
-idle ds = record { found = none; dead = ds; taken = [] }
+idle ds = record { found = none; dead = ds; taken = []; bytes = 0 }
 
 -- what is found, as a part of what is found before it
 abbrev pub within : (Option Found → Option Found) → Tried → Tried
-within f t = record { found = f (t .found); dead = t .dead; taken = t .taken }
+within f t = record { found = f (t .found); dead = t .dead; taken = t .taken; bytes = t .bytes }
 
 -- a, and if that leads nowhere the next
 abbrev pub orTry : Tried → (List Place → Tried) → Tried
 orTry a next = elim (a .found) [
   | some f ↦ a
-  | none ↦ let b : Tried = next (a .dead) in record { found = b .found; dead = b .dead; taken = a .taken ++ b .taken }
+  | none ↦ let b : Tried = next (a .dead) in record { found = b .found; dead = b .dead; taken = a .taken ++ b .taken; bytes = a .bytes + b .bytes }
 ]
 
 -- the place x is taken up, and marked if it leads nowhere
@@ -80,7 +82,12 @@ takeUp x t = record {
   found = t .found;
   dead = elim (t .found) [ some f ↦ t .dead | none ↦ x ∷ t .dead ];
   taken = x ∷ t .taken;
+  bytes = t .bytes;
 }
+
+-- a look that reads n bytes, and then what follows
+abbrev pub afterLook : ℕ → Tried → Tried
+afterLook n t = record { found = t .found; dead = t .dead; taken = t .taken; bytes = n + t .bytes }
 
 -- ---- the search
 
@@ -92,16 +99,25 @@ tryChild f (suc j) ds = f (suc j)
 -- the child where the template ends, at position p; nothing follows it
 abbrev pub tryEnd : ℕ → ℕ → List Place → Tried
 tryEnd zero p ds = idle ds
-tryEnd (suc j) p ds = record { found = endAt (suc j); dead = ds; taken = record { node = suc j; at = p } ∷ [] }
+tryEnd (suc j) p ds = record { found = endAt (suc j); dead = ds; taken = record { node = suc j; at = p } ∷ []; bytes = 0 }
+
+-- a look for the next atom, where s is left of the line, reads the atom; where there is none, the right bracket that stands there, or all
+-- that is left from a left bracket without a partner on; and nothing at the line's end
+unfoldable pub bytesOfLook : Marks → Bytes → ℕ
+bytesOfLook m [] = 0
+bytesOfLook m (b ∷ s) = elim (atom m (b ∷ s)) [
+  | some r ↦ length (r .0)
+  | none ↦ elim (eqb b (m .right)) [ true ↦ 1 | false ↦ length (b ∷ s) ]
+]
 
 -- past an atom, where there is one
 abbrev pub tryPast : (ℕ → Bytes → List Place → Tried) → ℕ → Option (Bytes × Bytes) → List Place → Tried
 tryPast f p none ds = idle ds
 tryPast f p (some r) ds = within (withAtom (r .0)) (f (p + length (r .0)) (r .1) ds)
 
--- on a placeholder, that node past the next atom
+-- on a placeholder, that node past the next atom; a look reads its bytes whatever it leads to
 abbrev pub tryAtom : Marks → (ℕ → Bytes → List Place → Tried) → Bool → ℕ → Bytes → List Place → Tried
-tryAtom m f true p s ds = tryPast f p (atom m s) ds
+tryAtom m f true p s ds = afterLook (bytesOfLook m s) (tryPast f p (atom m s) ds)
 tryAtom m f false p s ds = idle ds
 
 -- the tree: `kid` gives the child of a node for an element, 0 where there is none
@@ -205,6 +221,10 @@ fitting m ts line =
 -- how many places are taken up
 unfoldable pub placesTaken : Marks → List Bytes → Bytes → ℕ
 placesTaken m ts line = length (fitting m ts line .taken)
+
+-- how many bytes are read where the next atom is looked for
+unfoldable pub bytesRead : Marks → List Bytes → Bytes → ℕ
+bytesRead m ts line = fitting m ts line .bytes
 
 -- each place is there once
 unfoldable pub Once : List Place → Type 0

@@ -54,9 +54,9 @@ pieceRow [] ls = []
 pieceRow (s ∷ ss) [] = []
 pieceRow (s ∷ ss) (l ∷ ls) = (spaced s ++ spaced l) ++ pieceRow ss ls
 
--- number and template's line, then the pieces, then the number of places taken up
+-- number and template's line, then the pieces, then the numbers of places taken up and of bytes read
 unfoldable pub fitRow : Fitted → Bytes
-fitRow f = decimal (f .number) ++ spaced (f .line) ++ pieceRow (f .start) (f .length) ++ spaced (f .places) ++ (10 ∷ [])
+fitRow f = decimal (f .number) ++ spaced (f .line) ++ pieceRow (f .start) (f .length) ++ spaced (f .places) ++ spaced (f .bytes) ++ (10 ∷ [])
 
 unfoldable pub fitRows : Bytes → List Bytes → Bytes
 fitRows text [] = []

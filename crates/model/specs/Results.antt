@@ -14,7 +14,7 @@ use Rattle.model.specs.Text.{Bytes}
 use Rattle.model.specs.Reading.{Pieces, Reading, chosen}
 use Rattle.model.specs.Load.{Macro, noMacro, templates, Loaded, Load, refused, loaded, load}
 use Rattle.model.specs.Machine.{Rooms, noOutput, Result, run}
-use Rattle.model.specs.Places.{placesTaken}
+use Rattle.model.specs.Places.{placesTaken, bytesRead}
 
 -- 1 where the node row is below 2,048
 unfoldable pub shortRow : ℕ → Bool
@@ -46,23 +46,23 @@ startsOf m at (b ∷ t) (p ∷ ps) = elim (eqb b (m .placeholder)) [ true ↦ at
 unfoldable pub nine : List ℕ → List ℕ
 nine ns = ns ++ replicate (9 - length ns) 0
 
--- a number and a line, with no pieces and no place taken up
+-- a number and a line, with no pieces, no place taken up and no byte read
 unfoldable pub noPieces : ℕ → ℕ → Fitted
-noPieces k n = record { number = k; line = n; start = nine []; length = nine []; places = 0 }
+noPieces k n = record { number = k; line = n; start = nine []; length = nine []; places = 0; bytes = 0 }
 
--- a reading or none, and the number of places that were taken up
-unfoldable pub fittedAs : Loaded → Option Reading → ℕ → Fitted
-fittedAs t none k = record { number = 0; line = 0; start = nine []; length = nine []; places = k }
-fittedAs t (some r) k =
+-- a reading or none, the number of places that were taken up, and of bytes that were read
+unfoldable pub fittedAs : Loaded → Option Reading → (places bytes : ℕ) → Fitted
+fittedAs t none k n = record { number = 0; line = 0; start = nine []; length = nine []; places = k; bytes = n }
+fittedAs t (some r) k n =
     let x : Macro = getD (t .macros) (r .which) noMacro in
-    record { number = 0; line = x .line; start = nine (startsOf (t .marks) 0 (x .template) (r .pieces)); length = nine (map (λ p. length p) (r .pieces)); places = k }
+    record { number = 0; line = x .line; start = nine (startsOf (t .marks) 0 (x .template) (r .pieces)); length = nine (map (λ p. length p) (r .pieces)); places = k; bytes = n }
 
 -- a line over 200 bytes gives 11
 unfoldable pub fittedIn : Bytes → Load → Fitted
 fittedIn line (refused k n) = noPieces k n
 fittedIn line (loaded t) =
     let ts : List Bytes = templates (t .macros) in
-    elim (ltb lineMost (length line)) [ true ↦ noPieces 11 0 | false ↦ fittedAs t (chosen (t .marks) ts line) (placesTaken (t .marks) ts line) ]
+    elim (ltb lineMost (length line)) [ true ↦ noPieces 11 0 | false ↦ fittedAs t (chosen (t .marks) ts line) (placesTaken (t .marks) ts line) (bytesRead (t .marks) ts line) ]
 
 -- a line, taken whole, fitted against the templates of a text, with lent rows of nodes and of dead places
 unfoldable pub fitLine : (rows dead : ℕ) → Bytes → Bytes → Fitted

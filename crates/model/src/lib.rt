@@ -114,8 +114,8 @@ pub struct Checked {
     pub line: u64,
 }
 
-// What fitting a line answers: the template's line, where each parameter's piece starts and how long it is, and how many places were
-// taken up.
+// What fitting a line answers: the template's line, where each parameter's piece starts and how long it is, how many places were
+// taken up, and how many bytes were read where the next atom was looked for.
 #[repr(C)]
 pub struct Fitted {
     pub number: u64,
@@ -123,6 +123,7 @@ pub struct Fitted {
     pub start: [u64; 9],
     pub length: [u64; 9],
     pub places: u64,
+    pub bytes: u64,
 }
 
 // What a run answers: the lengths are of what was written to the output, the second output and the store.

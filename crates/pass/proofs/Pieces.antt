@@ -16,6 +16,7 @@ use Rattle.model.specs.Utf8.{Character, character}
 use Rattle.model.specs.Machine.{Piece, longer, pieceOf, onePass, passOf}
 use Rattle.model.proofs.Text.{part-join}
 use Rattle.model.proofs.Depth.{piece-enough}
+use Rattle.atom.specs.declared.Scanned.{Scanned}
 use Rattle.atom.specs.Atoms.{AtomAt}
 use Rattle.scan.specs.Lines.{Has}
 use Rattle.character.specs.declared.Decoded.{Decoded}
@@ -87,7 +88,7 @@ pub record Taking (m : Marks) (line : Bytes) (at : ℕ) (list : Bytes) (i : ℕ)
   pub is : passOf m list (drop at line) ≡ longer (part line at i) (piece m list (drop i line))
 
 -- a turn passes an atom
-pub taking-falls : {m : Marks} {line : Bytes} {i n : ℕ} → i < length line → AtomAt m line i n → ¬ (n ≡ 0) → length line - n < length line - i
+pub taking-falls : {m : Marks} {line : Bytes} {i : ℕ} {r : Scanned} → i < length line → AtomAt m line i r → ¬ (r .end ≡ 0) → length line - r .end < length line - i
 taking-falls h a k = let far = a .ahead (omega arith) in omega arith
 
 module _ {m : Marks} {line : Bytes} {at : ℕ} {list : Bytes} where
@@ -96,8 +97,10 @@ module _ {m : Marks} {line : Bytes} {at : ℕ} {list : Bytes} where
       let z : at - at ≡ 0 = omega arith in
       record { low = omega arith; high = h; is = pass-piece m list (drop at line) k ∙ rw z (sym (longer-nil (piece m list (drop at line)))) }
 
-  pub taking-goes-on : {i n : ℕ} {q : Bool} → Taking m line at list i → i < length line → Has list (getD line i 0) q → q ≡ false → AtomAt m line i n → ¬ (n ≡ 0) → Taking m line at list n
-  taking-goes-on {i} {n} t h b e a k =
+  pub taking-goes-on : {i : ℕ} {r : Scanned} {q : Bool} → Taking m line at list i → i < length line → Has list (getD line i 0) q → q ≡ false → AtomAt m line i r → ¬ (r .end ≡ 0)
+      → Taking m line at list (r .end)
+  taking-goes-on {i} {r} t h b e a k =
+      let n = r .end in
       let far = a .ahead (omega arith) in
       let high = a .within in
       let d = length-drop (suc i) line in
@@ -126,7 +129,7 @@ module _ {m : Marks} {line : Bytes} {at : ℕ} {list : Bytes} where
     ahead = λ _. let l = t .low in omega arith;
   }
 
-  pub taking-fails : {i n : ℕ} {q : Bool} → Taking m line at list i → i < length line → Has list (getD line i 0) q → q ≡ false → AtomAt m line i n → n ≡ 0
+  pub taking-fails : {i : ℕ} {r : Scanned} {q : Bool} → Taking m line at list i → i < length line → Has list (getD line i 0) q → q ≡ false → AtomAt m line i r → r .end ≡ 0
       → Takes m line at list (record { ok = false; end = i; delimiter = 256; rest = length line })
   unfolding pieceAt longer
   taking-fails {i} t h b e a k =

@@ -1,6 +1,6 @@
 // What a pass of an iteration takes from the line it goes over (document 01, "A call's code"). The pass has to start
 // in the line or at its end; nothing else is asked.
-use atom::next_atom;
+use atom::scan_atom;
 use buffer::wide;
 use character::Decoded;
 use character::read_character;
@@ -39,8 +39,8 @@ fn take_atoms(m: Marks, line: &[u8], at: usize, list: &[u8]) -> Taken
                 rest: i + 1,
             };
         }
-        let next = next_atom(line, i, m.left, m.right);
-        if next == 0 {
+        let next = scan_atom(line, i, m.left, m.right);
+        if next.end == 0 {
             return Taken {
                 ok: false,
                 end: i,
@@ -48,7 +48,7 @@ fn take_atoms(m: Marks, line: &[u8], at: usize, list: &[u8]) -> Taken
                 rest: line.len(),
             };
         }
-        i = next;
+        i = next.end;
     }
     Taken {
         ok: true,

@@ -163,22 +163,28 @@ module _ {o : Bytes} {w : ℕ} (name : Bytes) (x : Checked) where
 
 -- ---- a row of fit_line
 
-module _ {o : Bytes} {w : ℕ} (n : ℕ) where
-  -- the last number, and the row's end
-  pub last-room : RoomFor o w (spaced n ++ (10 ∷ [])) → RoomFor o w (spaced n)
-  last-room h = room-first (spaced n) (10 ∷ []) h
+module _ {o : Bytes} {w : ℕ} (n k : ℕ) where
+  -- the last two numbers, and the row's end
+  pub counts-room : RoomFor o w (spaced n ++ spaced k ++ (10 ∷ [])) → RoomFor o w (spaced n ++ spaced k)
+  counts-room h = room-first (spaced n ++ spaced k) (10 ∷ []) h
 
-  pub end-room : {a : ℕ} {o₁ : Bytes} → RoomFor o w (spaced n ++ (10 ∷ [])) → Prints o w (spaced n) a o₁ → RoomFor o₁ a (10 ∷ [])
+  pub end-room : {a : ℕ} {o₁ : Bytes} → RoomFor o w (spaced n ++ spaced k ++ (10 ∷ [])) → Prints o w (spaced n ++ spaced k) a o₁ → RoomFor o₁ a (10 ∷ [])
   end-room h p = room-next (10 ∷ []) h p
 
 module _ (f : Fitted) where
-  -- the last number and the end as one part
+  -- the last two numbers and the end as one part
   last-part : Bytes
-  last-part = spaced (f .places) ++ (10 ∷ [])
+  last-part = spaced (f .places) ++ spaced (f .bytes) ++ (10 ∷ [])
+
+  -- the parts before them
+  front-part : Bytes
+  front-part = decimal (f .number) ++ spaced (f .line) ++ pieceRow (f .start) (f .length)
 
   fit-is : fitRow f ≡ decimal (f .number) ++ spaced (f .line) ++ pieceRow (f .start) (f .length) ++ last-part
-  unfolding fitRow last-part
-  fit-is = append-assoc (decimal (f .number) ++ spaced (f .line) ++ pieceRow (f .start) (f .length)) (spaced (f .places)) (10 ∷ [])
+  unfolding fitRow last-part front-part
+  fit-is =
+      ap (λ (x : Bytes). x ++ (10 ∷ [])) (append-assoc front-part (spaced (f .places)) (spaced (f .bytes)))
+      ∙ append-assoc front-part (spaced (f .places) ++ spaced (f .bytes)) (10 ∷ [])
 
   module _ {o : Bytes} {w : ℕ} where
     pub fit-number : RoomFor o w (fitRow f) → RoomFor o w (decimal (f .number))
@@ -194,11 +200,11 @@ module _ (f : Fitted) where
 
         module _ {c : ℕ} {o₃ : Bytes} where
           pub fit-last : RoomFor o w (fitRow f) → Prints o w (decimal (f .number)) a o₁ → Prints o₁ a (spaced (f .line)) b o₂
-              → Prints o₂ b (pieceRow (f .start) (f .length)) c o₃ → RoomFor o₃ c (spaced (f .places) ++ (10 ∷ []))
+              → Prints o₂ b (pieceRow (f .start) (f .length)) c o₃ → RoomFor o₃ c (spaced (f .places) ++ spaced (f .bytes) ++ (10 ∷ []))
           unfolding last-part
           fit-last h p q r = room-4 (decimal (f .number)) (spaced (f .line)) (pieceRow (f .start) (f .length)) last-part (room-as fit-is h) p q r
 
           pub fit-prints : {r : ℕ} {o₄ : Bytes} → Prints o w (decimal (f .number)) a o₁ → Prints o₁ a (spaced (f .line)) b o₂
-              → Prints o₂ b (pieceRow (f .start) (f .length)) c o₃ → Prints o₃ c (spaced (f .places) ++ (10 ∷ [])) r o₄ → Prints o w (fitRow f) r o₄
+              → Prints o₂ b (pieceRow (f .start) (f .length)) c o₃ → Prints o₃ c (spaced (f .places) ++ spaced (f .bytes) ++ (10 ∷ [])) r o₄ → Prints o w (fitRow f) r o₄
           unfolding last-part
           fit-prints p q r s = prints-as (sym fit-is) (prints-4 p q r s)

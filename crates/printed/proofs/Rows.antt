@@ -149,7 +149,7 @@ module _ {o : Bytes} {w : ℕ} {ss ls : List ℕ} {i k : ℕ} {o′ : Bytes} (p 
 
 -- ---- the lines of a file
 
-fits-room : {o : Bytes} (text file : Bytes) → 49 * (length file + 1) ≤ length o → RoomFor o 0 (fitPrints text file)
+fits-room : {o : Bytes} (text file : Bytes) → 51 * (length file + 1) ≤ length o → RoomFor o 0 (fitPrints text file)
 fits-room text file h = record { fits = omega (arith, fit-prints-long text file) }
 
 -- the rows of the lines before place `at` are there
@@ -172,7 +172,7 @@ module _ {text file o : Bytes} {at k : ℕ} {o′ : Bytes} (p : Rowing text file
       ap (λ (x : Fitted). p .done ++ (fitRow x ++ fitRows text (lines (drop next file)))) e
       ∙ ap (λ (x : List Bytes). p .done ++ fitRows text x) (sym (l .is)) ∙ p .rest
 
-  pub row-room : 49 * (length file + 1) ≤ length o → RoomFor o′ k (fitRow f)
+  pub row-room : 51 * (length file + 1) ≤ length o → RoomFor o′ k (fitRow f)
   row-room h = left-room (fitRow f) _ (fits-room text file h) (p .prints) next-row
 
   pub rowing-more : {k₁ : ℕ} {o₁ : Bytes} → Prints o′ k (fitRow f) k₁ o₁ → Rowing text file o next k₁ o₁

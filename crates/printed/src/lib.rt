@@ -26,7 +26,7 @@ pub const CHECK_ROOM: usize = 43;
 // The most bytes of a file of lines, and the room for the rows of any such file.
 pub const FILE_MOST: usize = 65536;
 
-pub const FIT_ROOM: usize = 3211313;
+pub const FIT_ROOM: usize = 3342387;
 
 // Bytes as they are.
 fn add_bytes(out: &mut [u8], at: usize, bytes: &[u8]) -> usize
@@ -139,12 +139,12 @@ fn add_pieces(out: &mut [u8], at: usize, starts: [u64; 9], lens: [u64; 9]) -> us
     w
 }
 
-// The last number of a row, and the row's end.
-fn add_last(out: &mut [u8], at: usize, n: u64) -> usize
-    requires { ⌜ RoomFor (now out) at (spaced n ++ (10 ∷ [])) ⌝ }
-    ensures { λ r. ⌜ Prints (now (out .entry)) at (spaced n ++ (10 ∷ [])) r (now (out .exit)) ⌝ }
+// The last two numbers of a row, and the row's end.
+fn add_counts(out: &mut [u8], at: usize, places: u64, bytes: u64) -> usize
+    requires { ⌜ RoomFor (now out) at (spaced places ++ spaced bytes ++ (10 ∷ [])) ⌝ }
+    ensures { λ r. ⌜ Prints (now (out .entry)) at (spaced places ++ spaced bytes ++ (10 ∷ [])) r (now (out .exit)) ⌝ }
 {
-    let end = add_spaced(out, at, n);
+    let end = add_pair(out, at, places, bytes);
     add_bytes(out, end, b"\n")
 }
 
@@ -157,13 +157,13 @@ fn add_fitted(out: &mut [u8], at: usize, f: Fitted) -> usize
     let lens = f.length;
     let line = add_decimal(out, at, f.number);
     let pieces = add_spaced(out, line, f.line);
-    let places = add_pieces(out, pieces, starts, lens);
-    add_last(out, places, f.places)
+    let counts = add_pieces(out, pieces, starts, lens);
+    add_counts(out, counts, f.places, f.bytes)
 }
 
 // What fit_line prints for a text and a file of lines.
 pub fn print_fits(text: &[u8], file: &[u8], out: &mut [u8]) -> usize
-    requires { ⌜ 49 * (length (now file) + 1) ≤ length (now out) ⌝ }
+    requires { ⌜ 51 * (length (now file) + 1) ≤ length (now out) ⌝ }
     ensures { λ r. ⌜ Prints (now (out .entry)) 0 (fitPrints (now (text .entry)) (now (file .entry))) r (now (out .exit)) ⌝ }
 {
     let mut w = 0;

@@ -15,7 +15,7 @@ use Rattle.model.specs.Text.{Bytes}
 use Rattle.model.specs.Reading.{Reading, chosen}
 use Rattle.model.specs.Load.{Macro, noMacro, templates, load, loaded, Loaded}
 use Rattle.model.specs.Results.{shortRow, shortDead, checkedAs, checkText, startsOf, nine, noPieces, fittedAs, fittedIn, fitLine}
-use Rattle.model.specs.Places.{placesTaken}
+use Rattle.model.specs.Places.{placesTaken, bytesRead}
 use Rattle.model.specs.FirstReading.{FitsFirst}
 use Rattle.model.proofs.Choices.{false-not-true}
 use Rattle.model.proofs.Theorems.{fit-is-first}
@@ -77,19 +77,20 @@ pub first-rule : (rows dead : ℕ) (text line : Bytes) {f : Fitted} → f ≡ fi
 first-rule rows dead text line e t l u d v = subst (FitsFirst t line) (sym e) (fit-is-first text t l line rows dead u d v)
 
 -- the answer with no pieces
-pub no-pieces : {k n k′ n′ : ℕ} → k ≡ k′ → n ≡ n′ → record { number = k; line = n; start = replicate 9 0; length = replicate 9 0; places = 0 } ≡ noPieces k′ n′
+pub no-pieces : {k n k′ n′ : ℕ} → k ≡ k′ → n ≡ n′ → record { number = k; line = n; start = replicate 9 0; length = replicate 9 0; places = 0; bytes = 0 } ≡ noPieces k′ n′
 unfolding noPieces nine
-no-pieces u v = λ i. record { number = u i; line = v i; start = replicate 9 0; length = replicate 9 0; places = 0 }
+no-pieces u v = λ i. record { number = u i; line = v i; start = replicate 9 0; length = replicate 9 0; places = 0; bytes = 0 }
 
 -- the answer for a choice
 module _ {t : Table} {c : Choice} where
-  pub answer-none : {p : ℕ} → c .found ≡ false → p ≡ c .places → Answers t c (record { number = 0; line = 0; start = replicate 9 0; length = replicate 9 0; places = p })
+  pub answer-none : {p b : ℕ} → c .found ≡ false → p ≡ c .places → b ≡ c .bytes
+      → Answers t c (record { number = 0; line = 0; start = replicate 9 0; length = replicate 9 0; places = p; bytes = b })
   unfolding nine
-  answer-none e p = record { no-call = λ _. λ i. record { number = 0; line = 0; start = replicate 9 0; length = replicate 9 0; places = p i }; call = λ u. false-not-true (sym e ∙ u) }
+  answer-none e p b = record { no-call = λ _. λ i. record { number = 0; line = 0; start = replicate 9 0; length = replicate 9 0; places = p i; bytes = b i }; call = λ u. false-not-true (sym e ∙ u) }
 
-  pub answer-call : {k n p : ℕ} {s l : List ℕ} → c .found ≡ true → k ≡ lineIn t (c .template) → n ≡ k → s ≡ c .starts → l ≡ c .lens → p ≡ c .places
-      → Answers t c (record { number = 0; line = n; start = s; length = l; places = p })
-  answer-call e k n s l p = record { no-call = λ u. false-not-true (sym u ∙ e); call = λ _. λ i. record { number = 0; line = (n ∙ k) i; start = s i; length = l i; places = p i } }
+  pub answer-call : {k n p b : ℕ} {s l : List ℕ} → c .found ≡ true → k ≡ lineIn t (c .template) → n ≡ k → s ≡ c .starts → l ≡ c .lens → p ≡ c .places → b ≡ c .bytes
+      → Answers t c (record { number = 0; line = n; start = s; length = l; places = p; bytes = b })
+  answer-call e k n s l p b = record { no-call = λ u. false-not-true (sym u ∙ e); call = λ _. λ i. record { number = 0; line = (n ∙ k) i; start = s i; length = l i; places = p i; bytes = b i } }
 
 template-at : (ms : List Macro) (k : ℕ) → getD (templates ms) k [] ≡ getD ms k noMacro .template
 unfolding templates noMacro
@@ -113,7 +114,8 @@ module _ {text : Bytes} {t : Tables} {row : List Node} (line : Bytes) (p : Prepa
     fit-long l e = e ∙ sym (when-true _ _ (lt-ltb 200 (length line) l)) ∙ ap (fittedIn line) (sym (loads-loaded (p .all) z))
 
     -- any other
-    fit-loaded : length line ≤ 200 → fittedAs (loadedOf text (t .table) (t .loading)) (chosen (t .loading .marks) (templates (macros text t)) line) (placesTaken (t .loading .marks) (templates (macros text t)) line)
+    fit-loaded : length line ≤ 200 → fittedAs (loadedOf text (t .table) (t .loading)) (chosen (t .loading .marks) (templates (macros text t)) line)
+        (placesTaken (t .loading .marks) (templates (macros text t)) line) (bytesRead (t .loading .marks) (templates (macros text t)) line)
         ≡ fittedIn line (load text)
     unfolding fittedIn
     fit-loaded l = sym (when-false _ _ (le-ltb 200 (length line) l)) ∙ ap (fittedIn line) (sym (loads-loaded (p .all) z))
@@ -132,6 +134,10 @@ module _ {text : Bytes} {t : Tables} {row : List Node} (line : Bytes) (p : Prepa
       taken : c .places ≡ placesTaken (t .loading .marks) (templates (macros text t)) line
       taken = h .places (templates (macros text t)) (p .has-tree z .fits)
 
+      -- and the bytes that were read
+      read : c .bytes ≡ bytesRead (t .loading .marks) (templates (macros text t)) line
+      read = h .bytes (templates (macros text t)) (p .has-tree z .fits)
+
       -- the chosen reading, where there is one
       which : c .found ≡ true → Chosen (t .loading .marks) (templates (macros text t)) line c
       which e = h .call e (templates (macros text t)) (p .has-tree z .fits)
@@ -143,14 +149,14 @@ module _ {text : Bytes} {t : Tables} {row : List Node} (line : Bytes) (p : Prepa
       pub template-within : c .found ≡ true → c .template < 128
       template-within e = omega (arith, place e, p .all .inside z .entries .few)
 
-      no-call : {f : Fitted} → length line ≤ 200 → c .found ≡ false → f ≡ record { number = 0; line = 0; start = nine []; length = nine []; places = c .places } → f ≡ fittedIn line (load text)
+      no-call : {f : Fitted} → length line ≤ 200 → c .found ≡ false → f ≡ record { number = 0; line = 0; start = nine []; length = nine []; places = c .places; bytes = c .bytes } → f ≡ fittedIn line (load text)
       unfolding fittedAs
       no-call l e a =
-          a ∙ (λ i. record { number = 0; line = 0; start = nine []; length = nine []; places = taken i })
-          ∙ ap (λ (o : Option Reading). fittedAs (loadedOf text (t .table) (t .loading)) o (placesTaken (t .loading .marks) (templates (macros text t)) line))
+          a ∙ (λ i. record { number = 0; line = 0; start = nine []; length = nine []; places = taken i; bytes = read i })
+          ∙ ap (λ (o : Option Reading). fittedAs (loadedOf text (t .table) (t .loading)) o (placesTaken (t .loading .marks) (templates (macros text t)) line) (bytesRead (t .loading .marks) (templates (macros text t)) line))
           (sym (h .no-call e (templates (macros text t)) (p .has-tree z .fits))) ∙ fit-loaded l
 
-      call : {f : Fitted} → length line ≤ 200 → c .found ≡ true → f ≡ record { number = 0; line = lineIn (t .table) (c .template); start = c .starts; length = c .lens; places = c .places }
+      call : {f : Fitted} → length line ≤ 200 → c .found ≡ true → f ≡ record { number = 0; line = lineIn (t .table) (c .template); start = c .starts; length = c .lens; places = c .places; bytes = c .bytes }
           → f ≡ fittedIn line (load text)
       unfolding fittedAs
       call l e a =
@@ -160,8 +166,9 @@ module _ {text : Bytes} {t : Tables} {row : List Node} (line : Bytes) (p : Prepa
           let y : getD (templates (macros text t)) (c .template) [] ≡ getD (macros text t) (w .reading .which) noMacro .template =
           template-at (macros text t) (c .template) ∙ ap (λ (k : ℕ). getD (macros text t) k noMacro .template) (sym (w .which)) in
           let starts = w .starts ∙ ap (λ (q : Bytes). nine (startsOf (t .loading .marks) 0 q (w .reading .pieces))) y in
-          a ∙ (λ i. record { number = 0; line = x i .line; start = starts i; length = w .lens i; places = taken i })
-          ∙ ap (λ (o : Option Reading). fittedAs (loadedOf text (t .table) (t .loading)) o (placesTaken (t .loading .marks) (templates (macros text t)) line)) (sym (w .is)) ∙ fit-loaded l
+          a ∙ (λ i. record { number = 0; line = x i .line; start = starts i; length = w .lens i; places = taken i; bytes = read i })
+          ∙ ap (λ (o : Option Reading). fittedAs (loadedOf text (t .table) (t .loading)) o (placesTaken (t .loading .marks) (templates (macros text t)) line) (bytesRead (t .loading .marks) (templates (macros text t)) line))
+          (sym (w .is)) ∙ fit-loaded l
 
       -- what the choice comes to
       pub fit-chosen : {f : Fitted} → length line ≤ 200 → Answers (t .table) c f → f ≡ fittedIn line (load text)

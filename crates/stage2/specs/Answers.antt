@@ -9,5 +9,5 @@ use Rattle.macros.specs.Table.{Table, lineIn}
 
 -- the table t has each template's line
 pub record Answers (t : Table) (c : Choice) (r : Fitted) : Type 0 where
-  pub no-call : c .found ≡ false → r ≡ record { number = 0; line = 0; start = nine []; length = nine []; places = c .places }
-  pub call : c .found ≡ true → r ≡ record { number = 0; line = lineIn t (c .template); start = c .starts; length = c .lens; places = c .places }
+  pub no-call : c .found ≡ false → r ≡ record { number = 0; line = 0; start = nine []; length = nine []; places = c .places; bytes = c .bytes }
+  pub call : c .found ≡ true → r ≡ record { number = 0; line = lineIn t (c .template); start = c .starts; length = c .lens; places = c .places; bytes = c .bytes }

@@ -89,7 +89,7 @@ pub fn check(text: &[u8], nodes: &mut [Node]) -> Checked
     check_in(text)
 }
 
-// A number and a line, with no pieces and no place taken up.
+// A number and a line, with no pieces, no place taken up and no byte read.
 fn no_pieces(number: usize, line: usize) -> Fitted
     ensures { λ r. ⌜ r ≡ noPieces number line ⌝ }
 {
@@ -99,6 +99,7 @@ fn no_pieces(number: usize, line: usize) -> Fitted
         start: [0; 9],
         length: [0; 9],
         places: 0,
+        bytes: 0,
     }
 }
 
@@ -118,6 +119,7 @@ fn answer_choice(t: Tables, c: Choice) -> Fitted
             start: widen_nine(starts),
             length: widen_nine(lens),
             places: widen(c.places),
+            bytes: widen(c.bytes),
         };
     }
     Fitted {
@@ -126,6 +128,7 @@ fn answer_choice(t: Tables, c: Choice) -> Fitted
         start: [0; 9],
         length: [0; 9],
         places: widen(c.places),
+        bytes: widen(c.bytes),
     }
 }
 
@@ -146,8 +149,8 @@ fn fit_prepared(text: &[u8], nodes: &[Node], dead: &mut [u8], t: Tables, line: &
     answer_choice(t, c)
 }
 
-// Fits one line, taken whole, against the templates of a text: the first of all its readings, or line 0 where it is no call; and how many
-// places were taken up to find it.
+// Fits one line, taken whole, against the templates of a text: the first of all its readings, or line 0 where it is no call; how many
+// places were taken up to find it; and how many bytes were read where the next atom was looked for.
 pub fn fit(text: &[u8], nodes: &mut [Node], dead: &mut [u8], line: &[u8]) -> Fitted
     ensures { λ r. ⌜ r ≡ fitLine (length (now (nodes .entry))) (length (now (dead .entry))) (now (text .entry)) (now (line .entry)) ⌝ }
     ensures { λ r. ⌜ ((t : Loaded) → Load.load (now (text .entry)) ≡ loaded t → 2048 ≤ length (now (nodes .entry)) → 51456 ≤ length (now (dead .entry))

@@ -1,12 +1,13 @@
 //! Prints how many random texts gave each number and wrote to each output, and how
-//! many places the lines of texts about places take up: `distribution [SEED] [COUNT]`.
+//! many places the lines of texts about places and brackets take up, how many bytes
+//! are read and where: `distribution [SEED] [COUNT]`.
 
 use std::collections::BTreeMap;
 use std::env;
 use std::time::Instant;
 
 use stage2_reference::generate::{Generator, Size};
-use stage2_reference::{fit, most_places, run, DEAD_ROW, NODE_ROW, STORE_ROOM};
+use stage2_reference::{fit, looks, most_places, run, DEAD_ROW, NODE_ROW, STORE_ROOM};
 
 fn main() {
     let argument =
@@ -17,10 +18,14 @@ fn main() {
         print(&format!("{size:?}"), seed, count, |generator| generator.text(size));
         print(&format!("{size:?}, about outputs"), seed, count, |generator| generator.output_text(size));
     }
-    for size in [Size::Small, Size::Large] {
-        let make = |generator: &mut Generator| generator.places_text(size);
-        print(&format!("{size:?}, about places"), seed, count, make);
-        print_places(seed, count, make);
+    let kinds: [(&str, fn(&mut Generator, Size) -> Vec<u8>); 2] =
+        [("places", Generator::places_text), ("brackets", Generator::brackets_text)];
+    for (kind, make) in kinds {
+        for size in [Size::Small, Size::Large] {
+            let make = |generator: &mut Generator| make(generator, size);
+            print(&format!("{size:?}, about {kind}"), seed, count, make);
+            print_places(seed, count, make);
+        }
     }
 }
 
@@ -48,26 +53,40 @@ fn print(kind: &str, seed: u64, count: u64, make: impl Fn(&mut Generator) -> Vec
     }
 }
 
-/// How many places the lines of texts take up, by calls and others.
+/// How many places the lines of texts take up and how many bytes are read, by calls
+/// and others, and in how many lines atoms are looked for where there is none.
 fn print_places(seed: u64, count: u64, make: impl Fn(&mut Generator) -> Vec<u8>) {
     let mut generator = Generator::new(seed);
-    let mut lines: BTreeMap<u64, [u64; 2]> = BTreeMap::new();
-    let (mut most, mut bound) = (0, 0);
+    // Lines by the magnitude of both counts: calls and others by places, then by bytes.
+    let mut lines: BTreeMap<u64, [u64; 4]> = BTreeMap::new();
+    let (mut most_taken, mut most_read) = ((0, 0), (0, 0));
+    let [mut rights, mut lefts, mut ends] = [0; 3];
     for _ in 0..count {
         let text = make(&mut generator);
         for line in text.split(|&byte| byte == b'\n') {
             let fitted = fit(&text, NODE_ROW, DEAD_ROW, line);
-            let Some(places) = most_places(&text, line).filter(|_| fitted.number == 0) else { continue };
-            let magnitude = 10u64.pow(fitted.places.ilog10());
-            lines.entry(magnitude).or_default()[usize::from(fitted.line == 0)] += 1;
-            if fitted.places > most {
-                (most, bound) = (fitted.places, places);
-            }
+            let (Some(bound), Some(looks)) = (most_places(&text, line), looks(&text, line)) else { continue };
+            let other = usize::from(fitted.line == 0);
+            lines.entry(magnitude(fitted.places)).or_default()[other] += 1;
+            lines.entry(magnitude(fitted.bytes)).or_default()[2 + other] += 1;
+            most_taken = most_taken.max((fitted.places, bound));
+            most_read = most_read.max((fitted.bytes, fitted.places * line.len() as u64));
+            rights += u64::from(looks.right_brackets > 0);
+            lefts += u64::from(looks.left_brackets > 0);
+            ends += u64::from(looks.line_ends > 0);
         }
     }
-    println!("places from    calls  no calls");
-    for (magnitude, [calls, others]) in lines {
-        println!("{magnitude:11} {calls:8} {others:9}");
+    println!("from           places: calls  no calls   bytes: calls  no calls");
+    for (magnitude, [calls, others, reading_calls, reading_others]) in lines {
+        println!("{magnitude:7} {calls:20} {others:9} {reading_calls:14} {reading_others:9}");
     }
-    println!("at most {most}, where {bound} are allowed");
+    println!("at most {} places, where {} are allowed", most_taken.0, most_taken.1);
+    println!("at most {} bytes, where {} are allowed", most_read.0, most_read.1);
+    println!("lines with looks at a right bracket: {rights}");
+    println!("at a left bracket without a partner: {lefts}, at the line's end: {ends}");
+}
+
+/// The power of ten that a number begins with, or 0.
+fn magnitude(number: u64) -> u64 {
+    number.checked_ilog10().map_or(0, |digits| 10u64.pow(digits))
 }

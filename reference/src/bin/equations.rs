@@ -13,15 +13,16 @@ const NODES: usize = 2048;
 const DEAD: usize = 51456;
 const STORE: usize = 8704;
 
-/// Of so many texts one each is about characters, about outputs, about values and
-/// about places, beside those that any text may hold.
+/// Of so many texts one each is about characters, about outputs, about values, about
+/// places and about brackets, beside those that any text may hold.
 const ROUND: u64 = 13;
 
-/// Where these four stand in a round.
+/// Where these five stand in a round.
 const CHARACTERS: u64 = 0;
 const OUTPUTS: u64 = 3;
 const VALUES: u64 = 6;
 const PLACES: u64 = 9;
+const BRACKETS: u64 = 12;
 
 /// One text of so many has too short a row of dead places.
 const SHORT_ROW: u64 = 41;
@@ -77,6 +78,7 @@ impl Case {
             OUTPUTS => generator.output_text(Size::Small),
             VALUES => generator.value_text(),
             PLACES => generator.places_text(Size::Small),
+            BRACKETS => generator.brackets_text(Size::Small),
             _ => generator.text(Size::Small),
         };
         Case {
@@ -98,12 +100,13 @@ impl Case {
     fn fit(&self) -> Equation {
         let fitted = stage2_reference::fit(&self.text, NODES, self.dead, &self.line);
         let right = format!(
-            "record {{ number = {}; line = {}; start = {}; length = {}; places = {} }}",
+            "record {{ number = {}; line = {}; start = {}; length = {}; places = {}; bytes = {} }}",
             fitted.number,
             fitted.line,
             list(&fitted.start),
             list(&fitted.length),
-            fitted.places
+            fitted.places,
+            fitted.bytes
         );
         let left = format!("fitLine {NODES} {} {} {}", self.dead, list(&self.text), list(&self.line));
         ("fit", left, right)

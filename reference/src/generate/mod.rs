@@ -13,6 +13,7 @@ mod style;
 mod values;
 
 use body::Bodies;
+use places::Lines;
 use random::Random;
 use style::Style;
 
@@ -44,7 +45,7 @@ impl Generator {
     /// A text. About nine of ten load.
     pub fn text(&mut self, size: Size) -> Vec<u8> {
         loop {
-            let text = match self.random.weighted(&[70, 19, 11, 7, 7, 7, 8]) {
+            let text = match self.random.weighted(&[70, 19, 11, 7, 7, 7, 6, 8]) {
                 0 => self.plain_text(size),
                 1 => {
                     let mut text = self.plain_text(size);
@@ -55,6 +56,7 @@ impl Generator {
                 3 => self.character_text(),
                 4 => self.value_text(),
                 5 => self.places_text(size),
+                6 => self.brackets_text(size),
                 _ => self.output_text(size),
             };
             if size == Size::Large || text.len() <= SMALL_TEXT {
@@ -76,7 +78,13 @@ impl Generator {
 
     /// A text with many placeholders, equal separators and lines of equal bytes.
     pub fn places_text(&mut self, size: Size) -> Vec<u8> {
-        places::text(&mut self.random, size)
+        places::text(&mut self.random, size, Lines::Equal)
+    }
+
+    /// A text with placeholders beside brackets, and lines of brackets with partners
+    /// and without.
+    pub fn brackets_text(&mut self, size: Size) -> Vec<u8> {
+        places::text(&mut self.random, size, Lines::Brackets)
     }
 
     /// A text that writes to both outputs and copies input lines to them.

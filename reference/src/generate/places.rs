@@ -1,6 +1,6 @@
 //! Texts that keep a search busy: many placeholders with equal separators,
-//! templates that share all but their ends, and lines of many equal bytes that
-//! fit nowhere, or at the very last place.
+//! templates that share all but their ends, and lines of many equal bytes, or of
+//! brackets, that fit nowhere, or at the very last place.
 
 use super::random::Random;
 use super::style::Style;
@@ -17,6 +17,10 @@ const SMALL_BODIES: usize = 3;
 /// How many splits of a line into pieces a slow checker can list.
 const LISTED_SPLITS: f64 = 20_000.0;
 
+/// The most bytes of a line of brackets in a small text: a slow checker may look for
+/// each partner anew.
+const SMALL_BRACKETS: usize = 60;
+
 /// The most bytes of a line whose splits into so many pieces, and a rest, can be
 /// listed.
 pub fn listed_length(pieces: usize) -> usize {
@@ -25,23 +29,36 @@ pub fn listed_length(pieces: usize) -> usize {
     (0..=200).rev().find(|&length| splits(length) <= LISTED_SPLITS).unwrap_or(0)
 }
 
+/// What the lines of a text are made of.
+#[derive(Clone, Copy, Debug, PartialEq, Eq)]
+pub enum Lines {
+    /// A few bytes again and again.
+    Equal,
+    /// Brackets with partners and without, nested and in rows.
+    Brackets,
+}
+
 /// A text about places: templates from one row of placeholders and separators,
-/// and lines of a few bytes again and again.
-pub fn text(random: &mut Random, size: Size) -> Vec<u8> {
+/// and lines that keep the search busy.
+pub fn text(random: &mut Random, size: Size, lines: Lines) -> Vec<u8> {
     let style = Style::any(random);
-    let separator = separator(random, &style);
-    let mut places = Places { random, style, separator, size };
+    let separator = separator(random, &style, lines);
+    let mut places = Places { random, style, separator, size, lines };
     let templates = places.templates();
     let mut text = places.section(&templates);
     places.input(&templates, &mut text);
     text
 }
 
-/// What stands between two placeholders: mostly a byte, perhaps nothing or a
-/// bracket.
-fn separator(random: &mut Random, style: &Style) -> Vec<u8> {
+/// What stands between two placeholders: a byte, nothing, or brackets, each more
+/// or less often.
+fn separator(random: &mut Random, style: &Style, lines: Lines) -> Vec<u8> {
     let byte = style.literal(random);
-    match random.weighted(&[62, 8, 7, 9, 5, 4, 5]) {
+    let weights = match lines {
+        Lines::Equal => [62, 8, 7, 9, 5, 4, 5],
+        Lines::Brackets => [15, 3, 2, 20, 25, 15, 20],
+    };
+    match random.weighted(&weights) {
         0 => vec![byte],
         1 => vec![byte, byte],
         2 => vec![byte, style.literal(random)],
@@ -57,6 +74,7 @@ struct Places<'a> {
     style: Style,
     separator: Vec<u8>,
     size: Size,
+    lines: Lines,
 }
 
 impl Places<'_> {
@@ -65,7 +83,7 @@ impl Places<'_> {
     /// row for each template.
     fn templates(&mut self) -> Vec<Vec<u8>> {
         let most = self.most_templates();
-        let placeholders = if self.random.chance(50) { 9 } else { self.random.between(2, 9) };
+        let placeholders = self.most_placeholders();
         let other = if self.random.chance(20) { Some(self.style.literal(self.random)) } else { None };
         let common = self.row(placeholders, None);
         let mut templates: Vec<Vec<u8>> = Vec::new();
@@ -87,6 +105,16 @@ impl Places<'_> {
             Size::Small => self.random.between(1, 3),
             Size::Large if self.random.chance(5) => self.random.between(20, 60),
             Size::Large => self.random.between(1, 7),
+        }
+    }
+
+    fn most_placeholders(&mut self) -> usize {
+        match (self.lines, self.size) {
+            // With more of them the lines of a small text have hardly a bracket.
+            (Lines::Brackets, Size::Small) => self.random.between(1, 4),
+            (Lines::Brackets, Size::Large) => self.random.between(1, 9),
+            (Lines::Equal, _) if self.random.chance(50) => 9,
+            (Lines::Equal, _) => self.random.between(2, 9),
         }
     }
 
@@ -112,12 +140,27 @@ impl Places<'_> {
             1 => self.random.below(row.len() + 1),
             _ => 1,
         };
-        [&row[..shared], &self.tail()].concat()
+        [&self.head(), &row[..shared], &self.tail()].concat()
     }
 
-    /// Mostly bytes that are to be looked for up to the line's end.
+    /// Where lines are brackets, perhaps some left ones, so that each template looks
+    /// for its first atom at another depth.
+    fn head(&mut self) -> Vec<u8> {
+        if self.lines == Lines::Equal || self.random.chance(50) {
+            return vec![];
+        }
+        let depth = match self.size {
+            Size::Large if self.random.chance(20) => self.random.between(1, 100),
+            _ => self.random.between(1, 4),
+        };
+        vec![self.style.left(); depth]
+    }
+
+    /// Mostly bytes that are to be looked for up to the line's end. Among brackets
+    /// hardly a line has them there, so there is more often no tail.
     fn tail(&mut self) -> Vec<u8> {
-        let (length, any) = match self.random.weighted(&[10, 50, 25, 15]) {
+        let weights = if self.lines == Lines::Brackets { [40, 30, 15, 15] } else { [10, 50, 25, 15] };
+        let (length, any) = match self.random.weighted(&weights) {
             0 => (0, false),
             1 => (1, false),
             2 => (2, false),
@@ -160,12 +203,15 @@ impl Places<'_> {
         }
     }
 
-    /// A few bytes again and again, perhaps with brackets among them, and perhaps
-    /// with the end of a template as its end.
+    /// A line of its kind, perhaps with other brackets put into it, and perhaps with
+    /// the end of a template as its end.
     fn line(&mut self, templates: &[Vec<u8>]) -> Vec<u8> {
         let most = self.longest_line(templates);
         let length = if self.random.chance(65) { most } else { self.random.below(most + 1) };
-        let mut line: Vec<u8> = self.unit().into_iter().cycle().take(length).collect();
+        let mut line: Vec<u8> = match self.lines {
+            Lines::Equal => self.unit().into_iter().cycle().take(length).collect(),
+            Lines::Brackets => self.brackets(length),
+        };
         if self.random.chance(35) {
             for _ in 0..self.random.between(1, 4) {
                 self.put_brackets(&mut line);
@@ -182,6 +228,7 @@ impl Places<'_> {
     fn longest_line(&mut self, templates: &[Vec<u8>]) -> usize {
         let placeholders = templates.iter().map(|row| self.style.placeholders(row)).max().unwrap_or(0);
         match self.size {
+            Size::Small if self.lines == Lines::Brackets => listed_length(placeholders).min(SMALL_BRACKETS),
             Size::Small => listed_length(placeholders),
             Size::Large if self.random.chance(5) => 201,
             Size::Large => 200,
@@ -199,6 +246,31 @@ impl Places<'_> {
             unit.push(self.style.literal(self.random));
         }
         unit
+    }
+
+    /// So many bytes: nested brackets, left ones alone, pairs in a row, or any
+    /// brackets with separators and other bytes among them.
+    fn brackets(&mut self, length: usize) -> Vec<u8> {
+        let (left, right) = (self.style.left(), self.style.right());
+        match self.random.weighted(&[30, 10, 15, 45]) {
+            0 => [vec![left; length / 2], vec![right; length - length / 2]].concat(),
+            1 => vec![left; length],
+            2 => [left, right].into_iter().cycle().take(length).collect(),
+            _ => {
+                let mut line = Vec::new();
+                while line.len() < length {
+                    match self.random.weighted(&[30, 25, 15, 15, 15]) {
+                        0 => line.push(left),
+                        1 => line.push(right),
+                        2 => line.extend([left, right]),
+                        3 => line.extend_from_slice(&self.separator),
+                        _ => line.push(self.style.literal(self.random)),
+                    }
+                }
+                line.truncate(length);
+                line
+            }
+        }
     }
 
     /// Puts a left bracket and a right one behind it into a line, or one of them.

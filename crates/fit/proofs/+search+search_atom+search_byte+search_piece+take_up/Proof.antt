@@ -52,6 +52,8 @@ use Rattle.nodes.specs.Rows.{height}
 use Rattle.fit.proofs.Steps.{asks-node, asks-children, asks-number, asks-bit, asks-byte, asks-piece, asks-atom, byte-less, piece-less, atom-less, piece-fits, atom-before, atom-fits}
 use Rattle.fit.proofs.Steps.{byte-none, byte-end, byte-below, piece-none, piece-below, piece-nowhere, atom-not, atom-none, atom-below}
 use Rattle.fit.proofs.Taken.{asks-second, asks-third, first-found, second-found, third-found, sum-fits, last-fits, all-fit, asks-bit-again, place-fits, was-dead, leads-on, leads-nowhere}
+use Rattle.atom.proofs.Scanned as Scanned-T
+use Rattle.atom.proofs.Scanned.Laws as Scanned-L
 use Rattle.fit.proofs.Outcome as Outcome-T
 use Rattle.fit.proofs.Outcome.Laws as Outcome-L
 use Rattle.nodes.specs.declared.Node.{Node}
@@ -89,6 +91,10 @@ use Rattle.fit.proofs.find_atom as g-find-atom
 use Rattle.fit.proofs.find_atom.Symbol as g-find-atom-def
 use Rattle.fit.proofs.find_atom.Symbol.{name as #g-find-atom}
 use Rattle.fit.proofs.find_atom.Met as g-find-atom-thm
+use Rattle.fit.proofs.only_read as g-only-read
+use Rattle.fit.proofs.only_read.Symbol as g-only-read-def
+use Rattle.fit.proofs.only_read.Symbol.{name as #g-only-read}
+use Rattle.fit.proofs.only_read.Met as g-only-read-thm
 use Rattle.fit.proofs.pass_atom as g-pass-atom
 use Rattle.fit.proofs.pass_atom.Symbol as g-pass-atom-def
 use Rattle.fit.proofs.pass_atom.Symbol.{name as #g-pass-atom}
@@ -732,7 +738,8 @@ module _ {M : Type 1} (𝓤 : URA M) (H : Heap 𝓤) (A : Atoms 𝓤) (W : Given
       (Walk.Of 𝓤 H A g-node-at.ended (g-node-at.clauses 𝓤 H A mem run))) (known-has-element : Triple 𝓤 (C #g-has-element)
       (Walk.Of 𝓤 H A g-has-element.ended (g-has-element.clauses 𝓤 H A mem run))) (known-no-piece : Triple 𝓤 (C #g-no-piece)
       (Walk.Of 𝓤 H A g-no-piece.ended (g-no-piece.clauses 𝓤 H A mem run))) (known-find-atom : Triple 𝓤 (C #g-find-atom)
-      (Walk.Of 𝓤 H A g-find-atom.ended (g-find-atom.clauses 𝓤 H A mem run))) (known-pass-atom : Triple 𝓤 (C #g-pass-atom)
+      (Walk.Of 𝓤 H A g-find-atom.ended (g-find-atom.clauses 𝓤 H A mem run))) (known-only-read : Triple 𝓤 (C #g-only-read)
+      (Walk.Of 𝓤 H A g-only-read.ended (g-only-read.clauses 𝓤 H A mem run))) (known-pass-atom : Triple 𝓤 (C #g-pass-atom)
       (Walk.Of 𝓤 H A g-pass-atom.ended (g-pass-atom.clauses 𝓤 H A mem run)))
       (known-search : (y : Walk.Of 𝓤 H A f-search.ended (f-search.clauses 𝓤 H A mem run) .Ghost)
       → μ-search 𝓤 H A mem run y < measure-search-atom left right nodes dead pieces line end node at
@@ -780,18 +787,19 @@ module _ {M : Type 1} (𝓤 : URA M) (H : Heap 𝓤) (A : Atoms 𝓤) (W : Given
         Walk.move ! (4 ∷ []) (Walk.tokens-out W ((κ₀, q₀) ∷ (κ₁, q₁) ∷ (κ₂, q₂) ∷ (κ₃, q₃) ∷ []) ! (id⊢ 𝓤 _) (
         Walk.enter ! C Λ code.search-atom-function ((vint w8 left) ∷ (vint w8 right) ∷ v-search-atom-nodes ∷ v-search-atom-dead ∷
         v-search-atom-pieces ∷ v-search-atom-line ∷ (vint w64 end) ∷ (vint w64 node) ∷ (vint w64 at) ∷ []) Post-search-atom (
-        Run.alloc1 ! (λ l₀. Run.alloc1 ! (λ l₁. Run.alloc1 ! (λ l₂. Run.alloc1 ! (λ l₃. Run.alloc1 ! (λ l₄. Run.alloc1 ! (λ l₅. Run.alloc1 ! (λ l₆. Run.alloc1 ! (λ l₇. Run.alloc1 ! (λ l₈. Run.alloc1 ! (λ l₉. Run.alloc1 ! (λ l₁₀. Run.alloc1 ! (λ l₁₁. Run.alloc1 ! (λ l₁₂. Run.alloc1 ! (λ l₁₃. Run.alloc1 ! (λ l₁₄. Run.alloc1 ! (λ l₁₅. Run.alloc1 ! (λ l₁₆. Run.alloc1 ! (λ l₁₇. Run.alloc1 ! (λ l₁₈. Run.alloc1 ! (λ l₁₉.
+        Run.alloc1 ! (λ l₀. Run.alloc1 ! (λ l₁. Run.alloc1 ! (λ l₂. Run.alloc1 ! (λ l₃. Run.alloc1 ! (λ l₄. Run.alloc1 ! (λ l₅. Run.alloc1 ! (λ l₆. Run.alloc1 ! (λ l₇. Run.alloc1 ! (λ l₈. Run.alloc1 ! (λ l₉. Run.alloc1 ! (λ l₁₀. Run.alloc1 ! (λ l₁₁. Run.alloc1 ! (λ l₁₂. Run.alloc1 ! (λ l₁₃. Run.alloc1 ! (λ l₁₄. Run.alloc1 ! (λ l₁₅. Run.alloc1 ! (λ l₁₆. Run.alloc1 ! (λ l₁₇. Run.alloc1 ! (λ l₁₈. Run.alloc1 ! (λ l₁₉. Run.alloc1 ! (λ l₂₀.
         let E : Env 𝓤 H = Walk.at-addresses (code.search-atom-function .locals) (l₀ ∷ l₁ ∷ l₂ ∷ l₃ ∷ l₄ ∷ l₅ ∷ l₆ ∷ l₇ ∷ l₈ ∷ l₉ ∷ l₁₀ ∷ l₁₁ ∷ l₁₂ ∷
-        l₁₃ ∷ l₁₄ ∷ l₁₅ ∷ l₁₆ ∷ l₁₇ ∷ l₁₈ ∷ l₁₉ ∷ []) in
-        Walk.move ! (38 ∷ 38 ∷ 36 ∷ 36 ∷ 34 ∷ 34 ∷ 32 ∷ 32 ∷ 30 ∷ 30 ∷ 28 ∷ 28 ∷ 26 ∷ 26 ∷ 24 ∷ 24 ∷ 22 ∷ 22 ∷ 20 ∷ 20 ∷ 18 ∷ 18 ∷ 16 ∷ 16 ∷ 14 ∷
-        14 ∷ 12 ∷ 12 ∷ 10 ∷ 10 ∷ 8 ∷ 8 ∷ 6 ∷ 6 ∷ 4 ∷ 4 ∷ 2 ∷ 2 ∷ 0 ∷ 0 ∷ []) (
+        l₁₃ ∷ l₁₄ ∷ l₁₅ ∷ l₁₆ ∷ l₁₇ ∷ l₁₈ ∷ l₁₉ ∷ l₂₀ ∷ []) in
+        Walk.move ! (40 ∷ 40 ∷ 38 ∷ 38 ∷ 36 ∷ 36 ∷ 34 ∷ 34 ∷ 32 ∷ 32 ∷ 30 ∷ 30 ∷ 28 ∷ 28 ∷ 26 ∷ 26 ∷ 24 ∷ 24 ∷ 22 ∷ 22 ∷ 20 ∷ 20 ∷ 18 ∷ 18 ∷ 16 ∷
+        16 ∷ 14 ∷ 14 ∷ 12 ∷ 12 ∷ 10 ∷ 10 ∷ 8 ∷ 8 ∷ 6 ∷ 6 ∷ 4 ∷ 4 ∷ 2 ∷ 2 ∷ 0 ∷ 0 ∷ []) (
         Walk.gathers ! (Walk.bare Outcome-L.mir l₀ ∷ Walk.bare (tyInt w8) l₁ ∷ Walk.bare (tyInt w8) l₂ ∷ Walk.bare Y-search-atom-nodes l₃ ∷
         Walk.bare Y-search-atom-dead l₄ ∷ Walk.bare Y-search-atom-pieces l₅ ∷ Walk.bare Y-search-atom-line l₆ ∷ Walk.bare (tyInt w64) l₇ ∷
-        Walk.bare (tyInt w64) l₈ ∷ Walk.bare (tyInt w64) l₉ ∷ Walk.bare (tyInt w64) l₁₀ ∷ Walk.bare Outcome-L.mir l₁₁ ∷ Walk.bare tyBool l₁₂ ∷
-        Walk.bare Node-L.mir l₁₃ ∷ Walk.bare tyBool l₁₄ ∷ Walk.bare (tyRef erased mut (pointee ((UInt w8) .written))) l₁₅ ∷
-        Walk.bare (sliceTy (tyRef erased mut (pointee ((UInt w8) .written)))) l₁₆ ∷
-        Walk.bare (tyRef erased mut (pointee ((UInt w8) .written))) l₁₇ ∷
-        Walk.bare (sliceTy (tyRef erased mut (pointee ((UInt w8) .written)))) l₁₈ ∷ Walk.bare (tyInt w64) l₁₉ ∷ []) (‵ (flft κ₀ q₀) ∷
+        Walk.bare (tyInt w64) l₈ ∷ Walk.bare (tyInt w64) l₉ ∷ Walk.bare Scanned-L.mir l₁₀ ∷ Walk.bare (tyInt w64) l₁₁ ∷
+        Walk.bare Outcome-L.mir l₁₂ ∷ Walk.bare tyBool l₁₃ ∷ Walk.bare Node-L.mir l₁₄ ∷ Walk.bare tyBool l₁₅ ∷
+        Walk.bare (tyRef erased mut (pointee ((UInt w8) .written))) l₁₆ ∷
+        Walk.bare (sliceTy (tyRef erased mut (pointee ((UInt w8) .written)))) l₁₇ ∷
+        Walk.bare (tyRef erased mut (pointee ((UInt w8) .written))) l₁₈ ∷
+        Walk.bare (sliceTy (tyRef erased mut (pointee ((UInt w8) .written)))) l₁₉ ∷ Walk.bare (tyInt w64) l₂₀ ∷ []) (‵ (flft κ₀ q₀) ∷
         ‵ (flft κ₁ q₁) ∷ ‵ (flft κ₂ q₂) ∷ ‵ (flft κ₃ q₃) ∷ ‵ (T-search-atom-line .own line (sliceVal (line .ptr) (length (line .now)) ∷ [])) ∷
         ‵ (T-search-atom-pieces .own pieces (sliceVal (pieces .ptr) (length (pieces .now)) ∷ [])) ∷
         ‵ (T-search-atom-dead .own dead (sliceVal (dead .ptr) (length (dead .now)) ∷ [])) ∷ ‵ (T-search-atom-nodes .own nodes (sliceVal (nodes .ptr)
@@ -806,16 +814,16 @@ module _ {M : Type 1} (𝓤 : URA M) (H : Heap 𝓤) (A : Atoms 𝓤) (W : Given
         Walk.pass ! (Run.init ! 9 refl ((tt, record { fits = fits-at }))) (Walk.passed ! (
         -- [the locals; their ends; κ₀; κ₁; κ₂; κ₃; line; pieces; dead; nodes]
         -- call 1: node_at (nodes, node)
-        Walk.move ! (28 ∷ []) (
+        Walk.move ! (29 ∷ []) (
         Walk.gives W (Walk.copied (T-search-atom-nodes .own nodes (v-search-atom-nodes ∷ []))
         (shr-slice-copy 𝓤 H A W (named 0) κ₀ Node-T.the-row .twice nodes _) ∷ Walk.made ((UInt w64) .own node ((vint w64 node) ∷ []))
         (uint-makes 𝓤 H A W w64 node _ (refl, fits-node)) ∷ []) _ ! (
-        Walk.move ! (23 ∷ []) (Walk.tokens-in W ((κ₀, q₀) ∷ []) _ ! (alive 𝓤 H A g-node-at.signature (κ₀, tt) (q₀, tt)) (id⊢ 𝓤 _) (
+        Walk.move ! (24 ∷ []) (Walk.tokens-in W ((κ₀, q₀) ∷ []) _ ! (alive 𝓤 H A g-node-at.signature (κ₀, tt) (q₀, tt)) (id⊢ 𝓤 _) (
         Walk.asks W ! fm g-node-at.ended (g-node-at.clauses 𝓤 H A mem run)
         (((κ₀, tt), (q₀, tt), tt, (nodes, (node, tt)), (v-search-atom-nodes ∷ [], ((vint w64 node) ∷ [], tt))), tt) _ (known-node-at (((κ₀, tt), (q₀, tt), tt, (nodes, (node, tt)), (v-search-atom-nodes ∷ [], ((vint w64 node) ∷ [], tt))), tt)) (factI 𝓤 _ (emp 𝓤) (asks-node pre)) (λ r ws. id⊢ 𝓤 _)
         (Run.and-then ! (Walk.local ! 5 refl) (Run.and-then ! (Walk.local ! 10 refl) (Run.no-more !))) (λ u1 r1 is1′ e1.
         Walk.tokens-out W ((κ₀, q₀) ∷ []) ! (id⊢ 𝓤 _) (
-        Walk.lands-in ! (Walk.init-as ! 15 refl (LL.lawful Node-T.the-type Node-L.the-laws 𝓤 H A W .typed r1 _ is1′ .0)
+        Walk.lands-in ! (Walk.init-as ! 16 refl (LL.lawful Node-T.the-type Node-L.the-laws 𝓤 H A W .typed r1 _ is1′ .0)
         (ap only (LL.tells Node-T.the-type Node-L.the-laws r1 _ is1′))) (
         let is1 : Is Node-T.the-row r1 ((Node-L.lowered r1) ∷ []) = subst (λ (vs : List Val). Is Node-T.the-row r1 vs)
         (LL.tells Node-T.the-type Node-L.the-laws r1 _ is1′) is1′ in
@@ -825,12 +833,13 @@ module _ {M : Type 1} (𝓤 : URA M) (H : Heap 𝓤) (A : Atoms 𝓤) (W : Given
         ‵ (fat fullShare Y-search-atom-dead l₄ 0 (sliceVal (dead .ptr) (length (dead .now)))) ∷
         ‵ (fat fullShare Y-search-atom-pieces l₅ 0 (sliceVal (pieces .ptr) (length (pieces .now)))) ∷
         ‵ (fat fullShare Y-search-atom-line l₆ 0 (sliceVal (line .ptr) (length (line .now)))) ∷ ‵ (fat fullShare (tyInt w64) l₇ 0 (vint w64 end)) ∷
-        ‵ (fat fullShare (tyInt w64) l₈ 0 (vint w64 node)) ∷ ‵ (fat fullShare (tyInt w64) l₉ 0 (vint w64 at)) ∷ ‵ (froom (tyInt w64) l₁₀ 0) ∷
-        ‵ (froom Outcome-L.mir l₁₁ 0) ∷ ‵ (froom tyBool l₁₂ 0) ∷ ‵ (fat fullShare Node-L.mir l₁₃ 0 (Node-L.lowered r1)) ∷ ‵ (froom tyBool l₁₄ 0) ∷
-        ‵ (froom (tyRef erased mut (pointee ((UInt w8) .written))) l₁₅ 0) ∷
-        ‵ (froom (sliceTy (tyRef erased mut (pointee ((UInt w8) .written)))) l₁₆ 0) ∷
-        ‵ (froom (tyRef erased mut (pointee ((UInt w8) .written))) l₁₇ 0) ∷
-        ‵ (froom (sliceTy (tyRef erased mut (pointee ((UInt w8) .written)))) l₁₈ 0) ∷ ‵ (froom (tyInt w64) l₁₉ 0) ∷ ‵ Fd ∷ ‵ (flft κ₁ q₁) ∷
+        ‵ (fat fullShare (tyInt w64) l₈ 0 (vint w64 node)) ∷ ‵ (fat fullShare (tyInt w64) l₉ 0 (vint w64 at)) ∷ ‵ (froom Scanned-L.mir l₁₀ 0) ∷
+        ‵ (froom (tyInt w64) l₁₁ 0) ∷ ‵ (froom Outcome-L.mir l₁₂ 0) ∷ ‵ (froom tyBool l₁₃ 0) ∷
+        ‵ (fat fullShare Node-L.mir l₁₄ 0 (Node-L.lowered r1)) ∷ ‵ (froom tyBool l₁₅ 0) ∷
+        ‵ (froom (tyRef erased mut (pointee ((UInt w8) .written))) l₁₆ 0) ∷
+        ‵ (froom (sliceTy (tyRef erased mut (pointee ((UInt w8) .written)))) l₁₇ 0) ∷
+        ‵ (froom (tyRef erased mut (pointee ((UInt w8) .written))) l₁₈ 0) ∷
+        ‵ (froom (sliceTy (tyRef erased mut (pointee ((UInt w8) .written)))) l₁₉ 0) ∷ ‵ (froom (tyInt w64) l₂₀ 0) ∷ ‵ Fd ∷ ‵ (flft κ₁ q₁) ∷
         ‵ (flft κ₂ q₂) ∷ ‵ (flft κ₃ q₃) ∷ ‵ (T-search-atom-line .own line (sliceVal (line .ptr) (length (line .now)) ∷ [])) ∷
         ‵ (T-search-atom-pieces .own pieces (sliceVal (pieces .ptr) (length (pieces .now)) ∷ [])) ∷
         ‵ (T-search-atom-dead .own dead (sliceVal (dead .ptr) (length (dead .now)) ∷ [])) ∷ []) refl (
@@ -841,9 +850,9 @@ module _ {M : Type 1} (𝓤 : URA M) (H : Heap 𝓤) (A : Atoms 𝓤) (W : Given
         Walk.tokens-in W ([]) _ ! (alive 𝓤 H A g-has-element.signature tt tt) (id⊢ 𝓤 _) (
         Walk.asks W ! fm g-has-element.ended (g-has-element.clauses 𝓤 H A mem run)
         ((tt, tt, tt, (r1, (1, tt)), ((Node-L.lowered r1) ∷ [], ((vint w16 1) ∷ [], tt))), tt) _ (known-has-element ((tt, tt, tt, (r1, (1, tt)), ((Node-L.lowered r1) ∷ [], ((vint w16 1) ∷ [], tt))), tt)) (id⊢ 𝓤 (emp 𝓤)) (λ r ws. id⊢ 𝓤 _)
-        (Run.and-then ! (Walk.local ! 16 refl) (Run.and-then ! (Run.lit ! tt) (Run.no-more !))) (λ u2 r2 is2′ e2.
+        (Run.and-then ! (Walk.local ! 17 refl) (Run.and-then ! (Run.lit ! tt) (Run.no-more !))) (λ u2 r2 is2′ e2.
         Walk.tokens-out W ([]) ! (id⊢ 𝓤 _) (
-        Walk.lands-in ! (Walk.init-as ! 14 refl (bool-lawful 𝓤 H A W .typed r2 _ is2′ .0) (ap only (bool-tells r2 _ is2′))) (
+        Walk.lands-in ! (Walk.init-as ! 15 refl (bool-lawful 𝓤 H A W .typed r2 _ is2′ .0) (ap only (bool-tells r2 _ is2′))) (
         let is2 : Is Boolean r2 ((vbool r2) ∷ []) = subst (λ (vs : List Val). Is Boolean r2 vs) (bool-tells r2 _ is2′) is2′ in
         Walk.written-out ! (‵ (flft κ₀ q₀) ∷ ‵ (T-search-atom-nodes .own nodes (sliceVal (nodes .ptr) (length (nodes .now)) ∷ [])) ∷
         ‵ (froom Outcome-L.mir l₀ 0) ∷ ‵ (fat fullShare (tyInt w8) l₁ 0 (vint w8 left)) ∷ ‵ (fat fullShare (tyInt w8) l₂ 0 (vint w8 right)) ∷
@@ -851,16 +860,17 @@ module _ {M : Type 1} (𝓤 : URA M) (H : Heap 𝓤) (A : Atoms 𝓤) (W : Given
         ‵ (fat fullShare Y-search-atom-dead l₄ 0 (sliceVal (dead .ptr) (length (dead .now)))) ∷
         ‵ (fat fullShare Y-search-atom-pieces l₅ 0 (sliceVal (pieces .ptr) (length (pieces .now)))) ∷
         ‵ (fat fullShare Y-search-atom-line l₆ 0 (sliceVal (line .ptr) (length (line .now)))) ∷ ‵ (fat fullShare (tyInt w64) l₇ 0 (vint w64 end)) ∷
-        ‵ (fat fullShare (tyInt w64) l₈ 0 (vint w64 node)) ∷ ‵ (fat fullShare (tyInt w64) l₉ 0 (vint w64 at)) ∷ ‵ (froom (tyInt w64) l₁₀ 0) ∷
-        ‵ (froom Outcome-L.mir l₁₁ 0) ∷ ‵ (fat fullShare tyBool l₁₂ 0 (vbool r2)) ∷ ‵ (fat fullShare Node-L.mir l₁₃ 0 (Node-L.lowered r1)) ∷
-        ‵ (froom tyBool l₁₄ 0) ∷ ‵ (froom (tyRef erased mut (pointee ((UInt w8) .written))) l₁₅ 0) ∷
-        ‵ (froom (sliceTy (tyRef erased mut (pointee ((UInt w8) .written)))) l₁₆ 0) ∷
-        ‵ (froom (tyRef erased mut (pointee ((UInt w8) .written))) l₁₇ 0) ∷
-        ‵ (froom (sliceTy (tyRef erased mut (pointee ((UInt w8) .written)))) l₁₈ 0) ∷ ‵ (froom (tyInt w64) l₁₉ 0) ∷ ‵ Fd ∷ ‵ (flft κ₁ q₁) ∷
+        ‵ (fat fullShare (tyInt w64) l₈ 0 (vint w64 node)) ∷ ‵ (fat fullShare (tyInt w64) l₉ 0 (vint w64 at)) ∷ ‵ (froom Scanned-L.mir l₁₀ 0) ∷
+        ‵ (froom (tyInt w64) l₁₁ 0) ∷ ‵ (froom Outcome-L.mir l₁₂ 0) ∷ ‵ (fat fullShare tyBool l₁₃ 0 (vbool r2)) ∷
+        ‵ (fat fullShare Node-L.mir l₁₄ 0 (Node-L.lowered r1)) ∷ ‵ (froom tyBool l₁₅ 0) ∷
+        ‵ (froom (tyRef erased mut (pointee ((UInt w8) .written))) l₁₆ 0) ∷
+        ‵ (froom (sliceTy (tyRef erased mut (pointee ((UInt w8) .written)))) l₁₇ 0) ∷
+        ‵ (froom (tyRef erased mut (pointee ((UInt w8) .written))) l₁₈ 0) ∷
+        ‵ (froom (sliceTy (tyRef erased mut (pointee ((UInt w8) .written)))) l₁₉ 0) ∷ ‵ (froom (tyInt w64) l₂₀ 0) ∷ ‵ Fd ∷ ‵ (flft κ₁ q₁) ∷
         ‵ (flft κ₂ q₂) ∷ ‵ (flft κ₃ q₃) ∷ ‵ (T-search-atom-line .own line (sliceVal (line .ptr) (length (line .now)) ∷ [])) ∷
         ‵ (T-search-atom-pieces .own pieces (sliceVal (pieces .ptr) (length (pieces .now)) ∷ [])) ∷
         ‵ (T-search-atom-dead .own dead (sliceVal (dead .ptr) (length (dead .now)) ∷ [])) ∷ []) refl (
-        Walk.sets ! (Run.un ! (Walk.local ! 14 refl) tt) (Run.init ! 16 refl ((tt, tt))) (Walk.first-then ! (Run.branches ! (Walk.local ! 16 refl)
+        Walk.sets ! (Run.un ! (Walk.local ! 15 refl) tt) (Run.init ! 17 refl ((tt, tt))) (Walk.first-then ! (Run.branches ! (Walk.local ! 17 refl)
         (λ h1. let t1 : (not r2) ≡ true = Walk.is-true _ h1 in
         -- [κ₀; nodes; the locals; their ends; κ₁; κ₂; κ₃; line; pieces; dead]
         -- call 3: no_piece (0, 0)
@@ -881,27 +891,29 @@ module _ {M : Type 1} (𝓤 : URA M) (H : Heap 𝓤) (A : Atoms 𝓤) (W : Given
         (length (nodes .now)))) ∷ ‵ (fat fullShare Y-search-atom-dead l₄ 0 (sliceVal (dead .ptr) (length (dead .now)))) ∷
         ‵ (fat fullShare Y-search-atom-pieces l₅ 0 (sliceVal (pieces .ptr) (length (pieces .now)))) ∷
         ‵ (fat fullShare Y-search-atom-line l₆ 0 (sliceVal (line .ptr) (length (line .now)))) ∷ ‵ (fat fullShare (tyInt w64) l₇ 0 (vint w64 end)) ∷
-        ‵ (fat fullShare (tyInt w64) l₈ 0 (vint w64 node)) ∷ ‵ (fat fullShare (tyInt w64) l₉ 0 (vint w64 at)) ∷ ‵ (froom (tyInt w64) l₁₀ 0) ∷
-        ‵ (froom Outcome-L.mir l₁₁ 0) ∷ ‵ (fat fullShare tyBool l₁₂ 0 (vbool r2)) ∷ ‵ (fat fullShare Node-L.mir l₁₃ 0 (Node-L.lowered r1)) ∷
-        ‵ (fat fullShare tyBool l₁₄ 0 (vbool (not r2))) ∷ ‵ (froom (tyRef erased mut (pointee ((UInt w8) .written))) l₁₅ 0) ∷
-        ‵ (froom (sliceTy (tyRef erased mut (pointee ((UInt w8) .written)))) l₁₆ 0) ∷
-        ‵ (froom (tyRef erased mut (pointee ((UInt w8) .written))) l₁₇ 0) ∷
-        ‵ (froom (sliceTy (tyRef erased mut (pointee ((UInt w8) .written)))) l₁₈ 0) ∷ ‵ (froom (tyInt w64) l₁₉ 0) ∷ ‵ Fd ∷ ‵ (flft κ₁ q₁) ∷
+        ‵ (fat fullShare (tyInt w64) l₈ 0 (vint w64 node)) ∷ ‵ (fat fullShare (tyInt w64) l₉ 0 (vint w64 at)) ∷ ‵ (froom Scanned-L.mir l₁₀ 0) ∷
+        ‵ (froom (tyInt w64) l₁₁ 0) ∷ ‵ (froom Outcome-L.mir l₁₂ 0) ∷ ‵ (fat fullShare tyBool l₁₃ 0 (vbool r2)) ∷
+        ‵ (fat fullShare Node-L.mir l₁₄ 0 (Node-L.lowered r1)) ∷ ‵ (fat fullShare tyBool l₁₅ 0 (vbool (not r2))) ∷
+        ‵ (froom (tyRef erased mut (pointee ((UInt w8) .written))) l₁₆ 0) ∷
+        ‵ (froom (sliceTy (tyRef erased mut (pointee ((UInt w8) .written)))) l₁₇ 0) ∷
+        ‵ (froom (tyRef erased mut (pointee ((UInt w8) .written))) l₁₈ 0) ∷
+        ‵ (froom (sliceTy (tyRef erased mut (pointee ((UInt w8) .written)))) l₁₉ 0) ∷ ‵ (froom (tyInt w64) l₂₀ 0) ∷ ‵ Fd ∷ ‵ (flft κ₁ q₁) ∷
         ‵ (flft κ₂ q₂) ∷ ‵ (flft κ₃ q₃) ∷ ‵ (T-search-atom-line .own line (sliceVal (line .ptr) (length (line .now)) ∷ [])) ∷
         ‵ (T-search-atom-pieces .own pieces (sliceVal (pieces .ptr) (length (pieces .now)) ∷ [])) ∷
         ‵ (T-search-atom-dead .own dead (sliceVal (dead .ptr) (length (dead .now)) ∷ [])) ∷ []) refl (
         Walk.returns-by ! Post-search-atom (Walk.through 𝓤 H C Λ E _ _ Post-search-atom refl) (Run.look ! 2 refl) (
-        Walk.move ! (2 ∷ 2 ∷ 2 ∷ 2 ∷ 2 ∷ 2 ∷ 2 ∷ 2 ∷ 2 ∷ 2 ∷ 2 ∷ 2 ∷ 2 ∷ 2 ∷ 2 ∷ 2 ∷ 2 ∷ 2 ∷ 2 ∷ 2 ∷ 2 ∷ []) (
+        Walk.move ! (2 ∷ 2 ∷ 2 ∷ 2 ∷ 2 ∷ 2 ∷ 2 ∷ 2 ∷ 2 ∷ 2 ∷ 2 ∷ 2 ∷ 2 ∷ 2 ∷ 2 ∷ 2 ∷ 2 ∷ 2 ∷ 2 ∷ 2 ∷ 2 ∷ 2 ∷ []) (
         Walk.frees-gathered ! (Walk.full Outcome-L.mir l₀ (Outcome-L.lowered r3) ∷ Walk.full (tyInt w8) l₁ (vint w8 left) ∷
         Walk.full (tyInt w8) l₂ (vint w8 right) ∷ Walk.full Y-search-atom-nodes l₃ (sliceVal (nodes .ptr) (length (nodes .now))) ∷
         Walk.full Y-search-atom-dead l₄ (sliceVal (dead .ptr) (length (dead .now))) ∷ Walk.full Y-search-atom-pieces l₅ (sliceVal (pieces .ptr)
         (length (pieces .now))) ∷ Walk.full Y-search-atom-line l₆ (sliceVal (line .ptr) (length (line .now))) ∷
         Walk.full (tyInt w64) l₇ (vint w64 end) ∷ Walk.full (tyInt w64) l₈ (vint w64 node) ∷ Walk.full (tyInt w64) l₉ (vint w64 at) ∷
-        Walk.bare (tyInt w64) l₁₀ ∷ Walk.bare Outcome-L.mir l₁₁ ∷ Walk.full tyBool l₁₂ (vbool r2) ∷ Walk.full Node-L.mir l₁₃ (Node-L.lowered r1) ∷
-        Walk.full tyBool l₁₄ (vbool (not r2)) ∷ Walk.bare (tyRef erased mut (pointee ((UInt w8) .written))) l₁₅ ∷
-        Walk.bare (sliceTy (tyRef erased mut (pointee ((UInt w8) .written)))) l₁₆ ∷
-        Walk.bare (tyRef erased mut (pointee ((UInt w8) .written))) l₁₇ ∷
-        Walk.bare (sliceTy (tyRef erased mut (pointee ((UInt w8) .written)))) l₁₈ ∷ Walk.bare (tyInt w64) l₁₉ ∷ []) Fd ed (‵ (flft κ₀ q₀) ∷
+        Walk.bare Scanned-L.mir l₁₀ ∷ Walk.bare (tyInt w64) l₁₁ ∷ Walk.bare Outcome-L.mir l₁₂ ∷ Walk.full tyBool l₁₃ (vbool r2) ∷
+        Walk.full Node-L.mir l₁₄ (Node-L.lowered r1) ∷ Walk.full tyBool l₁₅ (vbool (not r2)) ∷
+        Walk.bare (tyRef erased mut (pointee ((UInt w8) .written))) l₁₆ ∷
+        Walk.bare (sliceTy (tyRef erased mut (pointee ((UInt w8) .written)))) l₁₇ ∷
+        Walk.bare (tyRef erased mut (pointee ((UInt w8) .written))) l₁₈ ∷
+        Walk.bare (sliceTy (tyRef erased mut (pointee ((UInt w8) .written)))) l₁₉ ∷ Walk.bare (tyInt w64) l₂₀ ∷ []) Fd ed (‵ (flft κ₀ q₀) ∷
         ‵ (T-search-atom-nodes .own nodes (sliceVal (nodes .ptr) (length (nodes .now)) ∷ [])) ∷ ‵ (flft κ₁ q₁) ∷ ‵ (flft κ₂ q₂) ∷ ‵ (flft κ₃ q₃) ∷
         ‵ (T-search-atom-line .own line (sliceVal (line .ptr) (length (line .now)) ∷ [])) ∷
         ‵ (T-search-atom-pieces .own pieces (sliceVal (pieces .ptr) (length (pieces .now)) ∷ [])) ∷
@@ -918,25 +930,27 @@ module _ {M : Type 1} (𝓤 : URA M) (H : Heap 𝓤) (A : Atoms 𝓤) (W : Given
         (q₀, (q₁, (q₂, (q₃, tt))))) (id⊢ 𝓤 _) (
         Walk.use0 W ! (‵ (Outcome-T.the-row .own r3 ((Outcome-L.lowered r3) ∷ []))) (LL.makes Outcome-T.the-type Outcome-L.the-plain 𝓤 H A r3 _ is3) (
         Walk.keep ! (1 ∷ 1 ∷ 0 ∷ []) (
-        Kit.by ! (Walk.leave-by 𝓤 H A W f-search-atom.ended (f-search-atom.clauses 𝓤 H A mem run) stayed-search-atom bound-search-atom (Outcome-L.lowered r3) r3 (tt, (tt, (tt, ((dead .now), ((pieces .now), (tt, (tt, (tt, (tt, tt))))))))) (tt, (tt, (tt, (refl, (refl, (tt, (tt, (tt, (tt, tt))))))))) (factI 𝓤 _ (emp 𝓤) (atom-not e1 e2 (not-true _ t1) e3)))))))))))))))))))
+        Kit.by ! (Walk.leave-by 𝓤 H A W f-search-atom.ended (f-search-atom.clauses 𝓤 H A mem run) stayed-search-atom bound-search-atom (Outcome-L.lowered r3) r3 (tt, (tt, (tt, ((dead .now), ((pieces .now), (tt, (tt, (tt, (tt, tt))))))))) (tt, (tt, (tt, (refl, (refl, (tt, (tt, (tt, (tt, tt))))))))) (factI 𝓤 _ (emp 𝓤) (atom-not pre e1 e2 (not-true _ t1) e3)))))))))))))))))))
         (λ h1. let t1 : (not r2) ≡ false = Walk.is-false _ h1 in
         Walk.skips-then ! (
         -- [κ₀; nodes; the locals; their ends; κ₁; κ₂; κ₃; line; pieces; dead]
         -- call 4: find_atom (left, right, line, end, at)
-        Walk.move ! (26 ∷ []) (
+        Walk.move ! (27 ∷ []) (
         Walk.gives W (Walk.made ((UInt w8) .own left ((vint w8 left) ∷ [])) (uint-makes 𝓤 H A W w8 left _ (refl, fits-left)) ∷
         Walk.made ((UInt w8) .own right ((vint w8 right) ∷ [])) (uint-makes 𝓤 H A W w8 right _ (refl, fits-right)) ∷
         Walk.copied (T-search-atom-line .own line (v-search-atom-line ∷ [])) (shr-slice-copy 𝓤 H A W (named 3) κ₃ (UInt w8) .twice line _) ∷
         Walk.made ((UInt w64) .own end ((vint w64 end) ∷ [])) (uint-makes 𝓤 H A W w64 end _ (refl, fits-end)) ∷
         Walk.made ((UInt w64) .own at ((vint w64 at) ∷ [])) (uint-makes 𝓤 H A W w64 at _ (refl, fits-at)) ∷ []) _ ! (
-        Walk.move ! (27 ∷ []) (Walk.tokens-in W ((κ₃, q₃) ∷ []) _ ! (alive 𝓤 H A g-find-atom.signature (κ₃, tt) (q₃, tt)) (id⊢ 𝓤 _) (
+        Walk.move ! (28 ∷ []) (Walk.tokens-in W ((κ₃, q₃) ∷ []) _ ! (alive 𝓤 H A g-find-atom.signature (κ₃, tt) (q₃, tt)) (id⊢ 𝓤 _) (
         Walk.asks W ! fm g-find-atom.ended (g-find-atom.clauses 𝓤 H A mem run)
         (((κ₃, tt), (q₃, tt), tt, (left, (right, (line, (end, (at, tt))))), ((vint w8 left) ∷ [], ((vint w8 right) ∷ [], (v-search-atom-line ∷ [], ((vint w64 end) ∷ [], ((vint w64 at) ∷ [], tt)))))), tt) _ (known-find-atom (((κ₃, tt), (q₃, tt), tt, (left, (right, (line, (end, (at, tt))))), ((vint w8 left) ∷ [], ((vint w8 right) ∷ [], (v-search-atom-line ∷ [], ((vint w64 end) ∷ [], ((vint w64 at) ∷ [], tt)))))), tt)) (factI 𝓤 _ (emp 𝓤) ((pre .low, pre .high))) (λ r ws. id⊢ 𝓤 _)
         (Run.and-then ! (Walk.local ! 5 refl) (Run.and-then ! (Walk.local ! 6 refl) (Run.and-then ! (Walk.local ! 10 refl)
         (Run.and-then ! (Walk.local ! 11 refl) (Run.and-then ! (Walk.local ! 13 refl) (Run.no-more !)))))) (λ u4 r4 is4′ e4.
         Walk.tokens-out W ((κ₃, q₃) ∷ []) ! (id⊢ 𝓤 _) (
-        Walk.lands-in ! (Walk.init-as ! 14 refl (uint-lawful 𝓤 H A W w64 .typed r4 _ is4′ .0) (ap only (uint-tells w64 r4 _ is4′))) (
-        let is4 : Is (UInt w64) r4 ((vint w64 r4) ∷ []) = subst (λ (vs : List Val). Is (UInt w64) r4 vs) (uint-tells w64 r4 _ is4′) is4′ in
+        Walk.lands-in ! (Walk.init-as ! 14 refl (LL.lawful Scanned-T.the-type Scanned-L.the-laws 𝓤 H A W .typed r4 _ is4′ .0)
+        (ap only (LL.tells Scanned-T.the-type Scanned-L.the-laws r4 _ is4′))) (
+        let is4 : Is Scanned-T.the-row r4 ((Scanned-L.lowered r4) ∷ []) = subst (λ (vs : List Val). Is Scanned-T.the-row r4 vs)
+        (LL.tells Scanned-T.the-type Scanned-L.the-laws r4 _ is4′) is4′ in
         Walk.written-out ! (‵ (flft κ₃ q₃) ∷ ‵ (T-search-atom-line .own line (sliceVal (line .ptr) (length (line .now)) ∷ [])) ∷ ‵ (flft κ₀ q₀) ∷
         ‵ (T-search-atom-nodes .own nodes (sliceVal (nodes .ptr) (length (nodes .now)) ∷ [])) ∷ ‵ (froom Outcome-L.mir l₀ 0) ∷
         ‵ (fat fullShare (tyInt w8) l₁ 0 (vint w8 left)) ∷ ‵ (fat fullShare (tyInt w8) l₂ 0 (vint w8 right)) ∷
@@ -945,25 +959,27 @@ module _ {M : Type 1} (𝓤 : URA M) (H : Heap 𝓤) (A : Atoms 𝓤) (W : Given
         ‵ (fat fullShare Y-search-atom-pieces l₅ 0 (sliceVal (pieces .ptr) (length (pieces .now)))) ∷
         ‵ (fat fullShare Y-search-atom-line l₆ 0 (sliceVal (line .ptr) (length (line .now)))) ∷ ‵ (fat fullShare (tyInt w64) l₇ 0 (vint w64 end)) ∷
         ‵ (fat fullShare (tyInt w64) l₈ 0 (vint w64 node)) ∷ ‵ (fat fullShare (tyInt w64) l₉ 0 (vint w64 at)) ∷
-        ‵ (fat fullShare (tyInt w64) l₁₀ 0 (vint w64 r4)) ∷ ‵ (froom Outcome-L.mir l₁₁ 0) ∷ ‵ (fat fullShare tyBool l₁₂ 0 (vbool r2)) ∷
-        ‵ (fat fullShare Node-L.mir l₁₃ 0 (Node-L.lowered r1)) ∷ ‵ (fat fullShare tyBool l₁₄ 0 (vbool (not r2))) ∷
-        ‵ (froom (tyRef erased mut (pointee ((UInt w8) .written))) l₁₅ 0) ∷
-        ‵ (froom (sliceTy (tyRef erased mut (pointee ((UInt w8) .written)))) l₁₆ 0) ∷
-        ‵ (froom (tyRef erased mut (pointee ((UInt w8) .written))) l₁₇ 0) ∷
-        ‵ (froom (sliceTy (tyRef erased mut (pointee ((UInt w8) .written)))) l₁₈ 0) ∷ ‵ (froom (tyInt w64) l₁₉ 0) ∷ ‵ Fd ∷ ‵ (flft κ₁ q₁) ∷
+        ‵ (fat fullShare Scanned-L.mir l₁₀ 0 (Scanned-L.lowered r4)) ∷ ‵ (froom (tyInt w64) l₁₁ 0) ∷ ‵ (froom Outcome-L.mir l₁₂ 0) ∷
+        ‵ (fat fullShare tyBool l₁₃ 0 (vbool r2)) ∷ ‵ (fat fullShare Node-L.mir l₁₄ 0 (Node-L.lowered r1)) ∷
+        ‵ (fat fullShare tyBool l₁₅ 0 (vbool (not r2))) ∷ ‵ (froom (tyRef erased mut (pointee ((UInt w8) .written))) l₁₆ 0) ∷
+        ‵ (froom (sliceTy (tyRef erased mut (pointee ((UInt w8) .written)))) l₁₇ 0) ∷
+        ‵ (froom (tyRef erased mut (pointee ((UInt w8) .written))) l₁₈ 0) ∷
+        ‵ (froom (sliceTy (tyRef erased mut (pointee ((UInt w8) .written)))) l₁₉ 0) ∷ ‵ (froom (tyInt w64) l₂₀ 0) ∷ ‵ Fd ∷ ‵ (flft κ₁ q₁) ∷
         ‵ (flft κ₂ q₂) ∷ ‵ (T-search-atom-pieces .own pieces (sliceVal (pieces .ptr) (length (pieces .now)) ∷ [])) ∷
         ‵ (T-search-atom-dead .own dead (sliceVal (dead .ptr) (length (dead .now)) ∷ [])) ∷ []) refl (
-        Walk.sets ! (Run.bin ! (Walk.local ! 14 refl) (Run.lit ! tt) tt) (Run.store ! 16 refl ((tt, tt))) (Walk.first-then ! (
-        Run.branches ! (Walk.local ! 16 refl)
-        (λ h2. let t2 : (eqb r4 0) ≡ true = Walk.is-true _ h2 in
+        Walk.sets ! (Run.of-opd ! (Walk.part ! 14 refl refl refl))
+        (Run.init ! 15 refl ((tt, record { fits = LL.owed Scanned-T.the-type Scanned-L.the-laws r4 _ is4 .0 .1 }))) (
+        Walk.sets ! (Run.bin ! (Walk.local ! 15 refl) (Run.lit ! tt) tt) (Run.store ! 17 refl ((tt, tt))) (Walk.first-then ! (
+        Run.branches ! (Walk.local ! 17 refl)
+        (λ h2. let t2 : (eqb (r4 .end) 0) ≡ true = Walk.is-true _ h2 in
         -- [κ₃; line; κ₀; nodes; the locals; their ends; κ₁; κ₂; pieces; dead]
-        -- call 5: no_piece (0, 0)
-        Walk.gives W (Walk.made ((UInt w64) .own 0 ((vint w64 0) ∷ [])) (uint-makes 𝓤 H A W w64 0 _ (refl, lit< tt)) ∷
-        Walk.made ((UInt w64) .own 0 ((vint w64 0) ∷ [])) (uint-makes 𝓤 H A W w64 0 _ (refl, lit< tt)) ∷ []) _ ! (
-        Walk.tokens-in W ([]) _ ! (alive 𝓤 H A g-no-piece.signature tt tt) (id⊢ 𝓤 _) (
-        Walk.asks W ! fm g-no-piece.ended (g-no-piece.clauses 𝓤 H A mem run)
-        ((tt, tt, tt, (0, (0, tt)), ((vint w64 0) ∷ [], ((vint w64 0) ∷ [], tt))), tt) _ (known-no-piece ((tt, tt, tt, (0, (0, tt)), ((vint w64 0) ∷ [], ((vint w64 0) ∷ [], tt))), tt)) (id⊢ 𝓤 (emp 𝓤)) (λ r ws. id⊢ 𝓤 _)
-        (Run.and-then ! (Run.lit ! tt) (Run.and-then ! (Run.lit ! tt) (Run.no-more !))) (λ u5 r5 is5′ e5.
+        -- call 5: only_read (r4 .read)
+        Walk.gives W (Walk.made ((UInt w64) .own (r4 .read) ((vint w64 (r4 .read)) ∷ []))
+        (uint-makes 𝓤 H A W w64 (r4 .read) _ (refl, LL.owed Scanned-T.the-type Scanned-L.the-laws r4 _ is4 .1 .0 .1)) ∷ []) _ ! (
+        Walk.tokens-in W ([]) _ ! (alive 𝓤 H A g-only-read.signature tt tt) (id⊢ 𝓤 _) (
+        Walk.asks W ! fm g-only-read.ended (g-only-read.clauses 𝓤 H A mem run)
+        ((tt, tt, tt, ((r4 .read), tt), ((vint w64 (r4 .read)) ∷ [], tt)), tt) _ (known-only-read ((tt, tt, tt, ((r4 .read), tt), ((vint w64 (r4 .read)) ∷ [], tt)), tt)) (id⊢ 𝓤 (emp 𝓤)) (λ r ws. id⊢ 𝓤 _)
+        (Run.and-then ! (Walk.part ! 15 refl refl refl) (Run.no-more !)) (λ u5 r5 is5′ e5.
         Walk.tokens-out W ([]) ! (id⊢ 𝓤 _) (
         Walk.lands-in ! (Walk.init-as ! 4 refl (LL.lawful Outcome-T.the-type Outcome-L.the-laws 𝓤 H A W .typed r5 _ is5′ .0)
         (ap only (LL.tells Outcome-T.the-type Outcome-L.the-laws r5 _ is5′))) (
@@ -977,27 +993,28 @@ module _ {M : Type 1} (𝓤 : URA M) (H : Heap 𝓤) (A : Atoms 𝓤) (W : Given
         ‵ (fat fullShare Y-search-atom-pieces l₅ 0 (sliceVal (pieces .ptr) (length (pieces .now)))) ∷
         ‵ (fat fullShare Y-search-atom-line l₆ 0 (sliceVal (line .ptr) (length (line .now)))) ∷ ‵ (fat fullShare (tyInt w64) l₇ 0 (vint w64 end)) ∷
         ‵ (fat fullShare (tyInt w64) l₈ 0 (vint w64 node)) ∷ ‵ (fat fullShare (tyInt w64) l₉ 0 (vint w64 at)) ∷
-        ‵ (fat fullShare (tyInt w64) l₁₀ 0 (vint w64 r4)) ∷ ‵ (froom Outcome-L.mir l₁₁ 0) ∷ ‵ (fat fullShare tyBool l₁₂ 0 (vbool (eqb r4 0))) ∷
-        ‵ (fat fullShare Node-L.mir l₁₃ 0 (Node-L.lowered r1)) ∷ ‵ (fat fullShare tyBool l₁₄ 0 (vbool (not r2))) ∷
-        ‵ (froom (tyRef erased mut (pointee ((UInt w8) .written))) l₁₅ 0) ∷
-        ‵ (froom (sliceTy (tyRef erased mut (pointee ((UInt w8) .written)))) l₁₆ 0) ∷
-        ‵ (froom (tyRef erased mut (pointee ((UInt w8) .written))) l₁₇ 0) ∷
-        ‵ (froom (sliceTy (tyRef erased mut (pointee ((UInt w8) .written)))) l₁₈ 0) ∷ ‵ (froom (tyInt w64) l₁₉ 0) ∷ ‵ Fd ∷ ‵ (flft κ₁ q₁) ∷
+        ‵ (fat fullShare Scanned-L.mir l₁₀ 0 (Scanned-L.lowered r4)) ∷ ‵ (fat fullShare (tyInt w64) l₁₁ 0 (vint w64 (r4 .end))) ∷
+        ‵ (froom Outcome-L.mir l₁₂ 0) ∷ ‵ (fat fullShare tyBool l₁₃ 0 (vbool (eqb (r4 .end) 0))) ∷
+        ‵ (fat fullShare Node-L.mir l₁₄ 0 (Node-L.lowered r1)) ∷ ‵ (fat fullShare tyBool l₁₅ 0 (vbool (not r2))) ∷
+        ‵ (froom (tyRef erased mut (pointee ((UInt w8) .written))) l₁₆ 0) ∷
+        ‵ (froom (sliceTy (tyRef erased mut (pointee ((UInt w8) .written)))) l₁₇ 0) ∷
+        ‵ (froom (tyRef erased mut (pointee ((UInt w8) .written))) l₁₈ 0) ∷
+        ‵ (froom (sliceTy (tyRef erased mut (pointee ((UInt w8) .written)))) l₁₉ 0) ∷ ‵ (froom (tyInt w64) l₂₀ 0) ∷ ‵ Fd ∷ ‵ (flft κ₁ q₁) ∷
         ‵ (flft κ₂ q₂) ∷ ‵ (T-search-atom-pieces .own pieces (sliceVal (pieces .ptr) (length (pieces .now)) ∷ [])) ∷
         ‵ (T-search-atom-dead .own dead (sliceVal (dead .ptr) (length (dead .now)) ∷ [])) ∷ []) refl (
         Walk.returns-by ! Post-search-atom (Walk.through 𝓤 H C Λ E _ _ Post-search-atom refl) (Run.look ! 4 refl) (
-        Walk.move ! (4 ∷ 4 ∷ 4 ∷ 4 ∷ 4 ∷ 4 ∷ 4 ∷ 4 ∷ 4 ∷ 4 ∷ 4 ∷ 4 ∷ 4 ∷ 4 ∷ 4 ∷ 4 ∷ 4 ∷ 4 ∷ 4 ∷ 4 ∷ 4 ∷ []) (
+        Walk.move ! (4 ∷ 4 ∷ 4 ∷ 4 ∷ 4 ∷ 4 ∷ 4 ∷ 4 ∷ 4 ∷ 4 ∷ 4 ∷ 4 ∷ 4 ∷ 4 ∷ 4 ∷ 4 ∷ 4 ∷ 4 ∷ 4 ∷ 4 ∷ 4 ∷ 4 ∷ []) (
         Walk.frees-gathered ! (Walk.full Outcome-L.mir l₀ (Outcome-L.lowered r5) ∷ Walk.full (tyInt w8) l₁ (vint w8 left) ∷
         Walk.full (tyInt w8) l₂ (vint w8 right) ∷ Walk.full Y-search-atom-nodes l₃ (sliceVal (nodes .ptr) (length (nodes .now))) ∷
         Walk.full Y-search-atom-dead l₄ (sliceVal (dead .ptr) (length (dead .now))) ∷ Walk.full Y-search-atom-pieces l₅ (sliceVal (pieces .ptr)
         (length (pieces .now))) ∷ Walk.full Y-search-atom-line l₆ (sliceVal (line .ptr) (length (line .now))) ∷
         Walk.full (tyInt w64) l₇ (vint w64 end) ∷ Walk.full (tyInt w64) l₈ (vint w64 node) ∷ Walk.full (tyInt w64) l₉ (vint w64 at) ∷
-        Walk.full (tyInt w64) l₁₀ (vint w64 r4) ∷ Walk.bare Outcome-L.mir l₁₁ ∷ Walk.full tyBool l₁₂ (vbool (eqb r4 0)) ∷
-        Walk.full Node-L.mir l₁₃ (Node-L.lowered r1) ∷ Walk.full tyBool l₁₄ (vbool (not r2)) ∷
-        Walk.bare (tyRef erased mut (pointee ((UInt w8) .written))) l₁₅ ∷
-        Walk.bare (sliceTy (tyRef erased mut (pointee ((UInt w8) .written)))) l₁₆ ∷
-        Walk.bare (tyRef erased mut (pointee ((UInt w8) .written))) l₁₇ ∷
-        Walk.bare (sliceTy (tyRef erased mut (pointee ((UInt w8) .written)))) l₁₈ ∷ Walk.bare (tyInt w64) l₁₉ ∷ []) Fd ed (‵ (flft κ₃ q₃) ∷
+        Walk.full Scanned-L.mir l₁₀ (Scanned-L.lowered r4) ∷ Walk.full (tyInt w64) l₁₁ (vint w64 (r4 .end)) ∷ Walk.bare Outcome-L.mir l₁₂ ∷
+        Walk.full tyBool l₁₃ (vbool (eqb (r4 .end) 0)) ∷ Walk.full Node-L.mir l₁₄ (Node-L.lowered r1) ∷ Walk.full tyBool l₁₅ (vbool (not r2)) ∷
+        Walk.bare (tyRef erased mut (pointee ((UInt w8) .written))) l₁₆ ∷
+        Walk.bare (sliceTy (tyRef erased mut (pointee ((UInt w8) .written)))) l₁₇ ∷
+        Walk.bare (tyRef erased mut (pointee ((UInt w8) .written))) l₁₈ ∷
+        Walk.bare (sliceTy (tyRef erased mut (pointee ((UInt w8) .written)))) l₁₉ ∷ Walk.bare (tyInt w64) l₂₀ ∷ []) Fd ed (‵ (flft κ₃ q₃) ∷
         ‵ (T-search-atom-line .own line (sliceVal (line .ptr) (length (line .now)) ∷ [])) ∷ ‵ (flft κ₀ q₀) ∷
         ‵ (T-search-atom-nodes .own nodes (sliceVal (nodes .ptr) (length (nodes .now)) ∷ [])) ∷ ‵ (flft κ₁ q₁) ∷ ‵ (flft κ₂ q₂) ∷
         ‵ (T-search-atom-pieces .own pieces (sliceVal (pieces .ptr) (length (pieces .now)) ∷ [])) ∷
@@ -1014,21 +1031,21 @@ module _ {M : Type 1} (𝓤 : URA M) (H : Heap 𝓤) (A : Atoms 𝓤) (W : Given
         (q₀, (q₁, (q₂, (q₃, tt))))) (id⊢ 𝓤 _) (
         Walk.use0 W ! (‵ (Outcome-T.the-row .own r5 ((Outcome-L.lowered r5) ∷ []))) (LL.makes Outcome-T.the-type Outcome-L.the-plain 𝓤 H A r5 _ is5) (
         Walk.keep ! (1 ∷ 1 ∷ 0 ∷ []) (
-        Kit.by ! (Walk.leave-by 𝓤 H A W f-search-atom.ended (f-search-atom.clauses 𝓤 H A mem run) stayed-search-atom bound-search-atom (Outcome-L.lowered r5) r5 (tt, (tt, (tt, ((dead .now), ((pieces .now), (tt, (tt, (tt, (tt, tt))))))))) (tt, (tt, (tt, (refl, (refl, (tt, (tt, (tt, (tt, tt))))))))) (factI 𝓤 _ (emp 𝓤) (atom-none e1 e2 (not-false _ t1) e4 (eqb-true r4 0 t2) e5)))))))))))))))))))
-        (λ h2. let t2 : (eqb r4 0) ≡ false = Walk.is-false _ h2 in
+        Kit.by ! (Walk.leave-by 𝓤 H A W f-search-atom.ended (f-search-atom.clauses 𝓤 H A mem run) stayed-search-atom bound-search-atom (Outcome-L.lowered r5) r5 (tt, (tt, (tt, ((dead .now), ((pieces .now), (tt, (tt, (tt, (tt, tt))))))))) (tt, (tt, (tt, (refl, (refl, (tt, (tt, (tt, (tt, tt))))))))) (factI 𝓤 _ (emp 𝓤) (atom-none pre e1 e2 (not-false _ t1) e4 (eqb-true (r4 .end) 0 t2) e5)))))))))))))))))))
+        (λ h2. let t2 : (eqb (r4 .end) 0) ≡ false = Walk.is-false _ h2 in
         Walk.skips-then ! (
         Walk.sets ! (Run.addr ! (Run.from ! (Run.fld ! refl (Run.hop ! (Part.look-in ! 8 (Part.sub ! 0 refl (Part.whole !))) (Run.stop !)))))
-        (Run.init ! 19 refl ((tt, tt))) (
-        Walk.sets ! (Part.agg ! (Run.and-then ! (Walk.local ! 19 refl) (Run.and-then ! (Walk.part ! 8 refl refl refl) (Run.no-more !))))
-        (Run.init ! 20 refl ((tt, (tt, (record { fits = is-dead .0 .1 .0 }, tt))))) (
+        (Run.init ! 20 refl ((tt, tt))) (
+        Walk.sets ! (Part.agg ! (Run.and-then ! (Walk.local ! 20 refl) (Run.and-then ! (Walk.part ! 8 refl refl refl) (Run.no-more !))))
+        (Run.init ! 21 refl ((tt, (tt, (record { fits = is-dead .0 .1 .0 }, tt))))) (
         Walk.sets ! (Run.addr ! (Run.from ! (Run.fld ! refl (Run.hop ! (Part.look-in ! 9 (Part.sub ! 0 refl (Part.whole !))) (Run.stop !)))))
-        (Run.init ! 21 refl ((tt, tt))) (
-        Walk.sets ! (Part.agg ! (Run.and-then ! (Walk.local ! 21 refl) (Run.and-then ! (Walk.part ! 9 refl refl refl) (Run.no-more !))))
-        (Run.init ! 22 refl ((tt, (tt, (record { fits = is-pieces .0 .1 .0 }, tt))))) (
+        (Run.init ! 22 refl ((tt, tt))) (
+        Walk.sets ! (Part.agg ! (Run.and-then ! (Walk.local ! 22 refl) (Run.and-then ! (Walk.part ! 9 refl refl refl) (Run.no-more !))))
+        (Run.init ! 23 refl ((tt, (tt, (record { fits = is-pieces .0 .1 .0 }, tt))))) (
         -- [κ₃; line; κ₀; nodes; the locals; their ends; κ₁; κ₂; pieces; dead]
-        -- call 6: search (left, right, nodes, dead, pieces, line, end, node, r4)
-        Walk.move ! (28 ∷ 25 ∷ []) (Again.lends W (UInt w8) κ₁ q₁ dead (named 1) (named 1) (dead .now) ! tt (λ ν1 δ1.
-        Walk.move ! (29 ∷ 28 ∷ []) (Again.lends W (UInt w8) κ₂ q₂ pieces (named 2) (named 2) (pieces .now) ! tt (λ ν2 δ2.
+        -- call 6: search (left, right, nodes, dead, pieces, line, end, node, r4 .end)
+        Walk.move ! (29 ∷ 26 ∷ []) (Again.lends W (UInt w8) κ₁ q₁ dead (named 1) (named 1) (dead .now) ! tt (λ ν1 δ1.
+        Walk.move ! (30 ∷ 29 ∷ []) (Again.lends W (UInt w8) κ₂ q₂ pieces (named 2) (named 2) (pieces .now) ! tt (λ ν2 δ2.
         Walk.move ! (9 ∷ 3 ∷ 0 ∷ 5 ∷ []) (
         Walk.gives W (Walk.made ((UInt w8) .own left ((vint w8 left) ∷ [])) (uint-makes 𝓤 H A W w8 left _ (refl, fits-left)) ∷
         Walk.made ((UInt w8) .own right ((vint w8 right) ∷ [])) (uint-makes 𝓤 H A W w8 right _ (refl, fits-right)) ∷
@@ -1039,16 +1056,16 @@ module _ {M : Type 1} (𝓤 : URA M) (H : Heap 𝓤) (A : Atoms 𝓤) (W : Given
         ((sliceVal (pieces .ptr) (length (pieces .now))) ∷ [])) ∷ Walk.copied (T-search-atom-line .own line (v-search-atom-line ∷ []))
         (shr-slice-copy 𝓤 H A W (named 3) κ₃ (UInt w8) .twice line _) ∷ Walk.made ((UInt w64) .own end ((vint w64 end) ∷ []))
         (uint-makes 𝓤 H A W w64 end _ (refl, fits-end)) ∷ Walk.made ((UInt w64) .own node ((vint w64 node) ∷ []))
-        (uint-makes 𝓤 H A W w64 node _ (refl, fits-node)) ∷ Walk.made ((UInt w64) .own r4 ((vint w64 r4) ∷ []))
-        (uint-makes 𝓤 H A W w64 r4 _ (refl, is4 .1)) ∷ []) _ ! (
+        (uint-makes 𝓤 H A W w64 node _ (refl, fits-node)) ∷ Walk.made ((UInt w64) .own (r4 .end) ((vint w64 (r4 .end)) ∷ []))
+        (uint-makes 𝓤 H A W w64 (r4 .end) _ (refl, LL.owed Scanned-T.the-type Scanned-L.the-laws r4 _ is4 .0 .1)) ∷ []) _ ! (
         Walk.move ! (8 ∷ 6 ∷ 4 ∷ 5 ∷ []) (
         Walk.tokens-in W ((κ₀, q₀) ∷ ((ν1 ∷ []), fullShare) ∷ ((ν2 ∷ []), fullShare) ∷ (κ₃, q₃) ∷
         []) _ ! (alive 𝓤 H A f-search.signature (κ₀, ((ν1 ∷ []), ((ν2 ∷ []), (κ₃, tt)))) (q₀, (fullShare, (fullShare, (q₃, tt))))) (id⊢ 𝓤 _) (
         Walk.asksˡ W ! fm f-search.ended (f-search.clauses 𝓤 H A mem run)
-        (((κ₀, ((ν1 ∷ []), ((ν2 ∷ []), (κ₃, tt)))), (q₀, (fullShare, (fullShare, (q₃, tt)))), tt, (left, (right, (nodes, ((record { ptr = (dead .ptr); name = δ1; now = (dead .now) }), ((record { ptr = (pieces .ptr); name = δ2; now = (pieces .now) }), (line, (end, (node, (r4, tt))))))))), ((vint w8 left) ∷ [], ((vint w8 right) ∷ [], (v-search-atom-nodes ∷ [], ((sliceVal (dead .ptr) (length (dead .now))) ∷ [], ((sliceVal (pieces .ptr) (length (pieces .now))) ∷ [], (v-search-atom-line ∷ [], ((vint w64 end) ∷ [], ((vint w64 node) ∷ [], ((vint w64 r4) ∷ [], tt)))))))))), tt) _ (known-search (((κ₀, ((ν1 ∷ []), ((ν2 ∷ []), (κ₃, tt)))), (q₀, (fullShare, (fullShare, (q₃, tt)))), tt, (left, (right, (nodes, ((record { ptr = (dead .ptr); name = δ1; now = (dead .now) }), ((record { ptr = (pieces .ptr); name = δ2; now = (pieces .now) }), (line, (end, (node, (r4, tt))))))))), ((vint w8 left) ∷ [], ((vint w8 right) ∷ [], (v-search-atom-nodes ∷ [], ((sliceVal (dead .ptr) (length (dead .now))) ∷ [], ((sliceVal (pieces .ptr) (length (pieces .now))) ∷ [], (v-search-atom-line ∷ [], ((vint w64 end) ∷ [], ((vint w64 node) ∷ [], ((vint w64 r4) ∷ [], tt)))))))))), tt) (atom-less pre e4 (eqb-false r4 0 t2))) (factI 𝓤 _ (emp 𝓤) (asks-atom pre e4 (eqb-false r4 0 t2))) (λ r ws. id⊢ 𝓤 _)
+        (((κ₀, ((ν1 ∷ []), ((ν2 ∷ []), (κ₃, tt)))), (q₀, (fullShare, (fullShare, (q₃, tt)))), tt, (left, (right, (nodes, ((record { ptr = (dead .ptr); name = δ1; now = (dead .now) }), ((record { ptr = (pieces .ptr); name = δ2; now = (pieces .now) }), (line, (end, (node, ((r4 .end), tt))))))))), ((vint w8 left) ∷ [], ((vint w8 right) ∷ [], (v-search-atom-nodes ∷ [], ((sliceVal (dead .ptr) (length (dead .now))) ∷ [], ((sliceVal (pieces .ptr) (length (pieces .now))) ∷ [], (v-search-atom-line ∷ [], ((vint w64 end) ∷ [], ((vint w64 node) ∷ [], ((vint w64 (r4 .end)) ∷ [], tt)))))))))), tt) _ (known-search (((κ₀, ((ν1 ∷ []), ((ν2 ∷ []), (κ₃, tt)))), (q₀, (fullShare, (fullShare, (q₃, tt)))), tt, (left, (right, (nodes, ((record { ptr = (dead .ptr); name = δ1; now = (dead .now) }), ((record { ptr = (pieces .ptr); name = δ2; now = (pieces .now) }), (line, (end, (node, ((r4 .end), tt))))))))), ((vint w8 left) ∷ [], ((vint w8 right) ∷ [], (v-search-atom-nodes ∷ [], ((sliceVal (dead .ptr) (length (dead .now))) ∷ [], ((sliceVal (pieces .ptr) (length (pieces .now))) ∷ [], (v-search-atom-line ∷ [], ((vint w64 end) ∷ [], ((vint w64 node) ∷ [], ((vint w64 (r4 .end)) ∷ [], tt)))))))))), tt) (atom-less pre e4 (eqb-false (r4 .end) 0 t2))) (factI 𝓤 _ (emp 𝓤) (asks-atom pre e4 (eqb-false (r4 .end) 0 t2))) (λ r ws. id⊢ 𝓤 _)
         (Run.and-then ! (Walk.local ! 6 refl) (Run.and-then ! (Walk.local ! 7 refl) (Run.and-then ! (Walk.local ! 8 refl)
-        (Run.and-then ! (Walk.local ! 21 refl) (Run.and-then ! (Walk.local ! 23 refl) (Run.and-then ! (Walk.local ! 11 refl)
-        (Run.and-then ! (Walk.local ! 12 refl) (Run.and-then ! (Walk.local ! 13 refl) (Run.and-then ! (Walk.local ! 15 refl)
+        (Run.and-then ! (Walk.local ! 22 refl) (Run.and-then ! (Walk.local ! 24 refl) (Run.and-then ! (Walk.local ! 11 refl)
+        (Run.and-then ! (Walk.local ! 12 refl) (Run.and-then ! (Walk.local ! 13 refl) (Run.and-then ! (Walk.local ! 16 refl)
         (Run.no-more !)))))))))) (λ u6 r6 ws6 is6′ e6.
         Walk.returned W ((κ₀, q₀) ∷ ((ν1 ∷ []), fullShare) ∷ ((ν2 ∷ []), fullShare) ∷ (κ₃, q₃) ∷ []) (Walk.gone _ ∷ Walk.gone _ ∷ Walk.gone _ ∷
         Walk.final (finally (UInt w8) δ1 (ws6 .1 .1 .1 .0)) (length (ws6 .1 .1 .1 .0)) (length (dead .now)) ∷
@@ -1058,7 +1075,7 @@ module _ {M : Type 1} (𝓤 : URA M) (H : Heap 𝓤) (A : Atoms 𝓤) (W : Given
         Again.backs W (UInt w8) κ₁ q₁ dead (named 1) (named 1) (dead .now) ! tt (ws6 .1 .1 .1 .0) (is-dead .0 .1) len1 (
         Walk.move ! (5 ∷ 8 ∷ 3 ∷ 11 ∷ []) (
         Again.backs W (UInt w8) κ₂ q₂ pieces (named 2) (named 2) (pieces .now) ! tt (ws6 .1 .1 .1 .1 .0) (is-pieces .0 .1) len2 (
-        Walk.lands-in ! (Walk.init-as ! 19 refl (LL.lawful Outcome-T.the-type Outcome-L.the-laws 𝓤 H A W .typed r6 _ is6′ .0)
+        Walk.lands-in ! (Walk.init-as ! 20 refl (LL.lawful Outcome-T.the-type Outcome-L.the-laws 𝓤 H A W .typed r6 _ is6′ .0)
         (ap only (LL.tells Outcome-T.the-type Outcome-L.the-laws r6 _ is6′))) (
         let is6 : Is Outcome-T.the-row r6 ((Outcome-L.lowered r6) ∷ []) = subst (λ (vs : List Val). Is Outcome-T.the-row r6 vs)
         (LL.tells Outcome-T.the-type Outcome-L.the-laws r6 _ is6′) is6′ in
@@ -1072,26 +1089,26 @@ module _ {M : Type 1} (𝓤 : URA M) (H : Heap 𝓤) (A : Atoms 𝓤) (W : Given
         ‵ (fat fullShare Y-search-atom-nodes l₃ 0 (sliceVal (nodes .ptr) (length (nodes .now)))) ∷
         ‵ (fat fullShare Y-search-atom-line l₆ 0 (sliceVal (line .ptr) (length (line .now)))) ∷ ‵ (fat fullShare (tyInt w64) l₇ 0 (vint w64 end)) ∷
         ‵ (fat fullShare (tyInt w64) l₈ 0 (vint w64 node)) ∷ ‵ (fat fullShare (tyInt w64) l₉ 0 (vint w64 at)) ∷
-        ‵ (fat fullShare (tyInt w64) l₁₀ 0 (vint w64 r4)) ∷ ‵ (fat fullShare Outcome-L.mir l₁₁ 0 (Outcome-L.lowered r6)) ∷
-        ‵ (fat fullShare tyBool l₁₂ 0 (vbool (eqb r4 0))) ∷ ‵ (fat fullShare Node-L.mir l₁₃ 0 (Node-L.lowered r1)) ∷
-        ‵ (fat fullShare tyBool l₁₄ 0 (vbool (not r2))) ∷
-        ‵ (fat fullShare (tyRef erased mut (pointee ((UInt w8) .written))) l₁₅ 0 (vptr (dead .ptr .0) (dead .ptr .1))) ∷
-        ‵ (fat fullShare (sliceTy (tyRef erased mut (pointee ((UInt w8) .written)))) l₁₆ 0 (sliceVal (dead .ptr) (length (dead .now)))) ∷
-        ‵ (fat fullShare (tyRef erased mut (pointee ((UInt w8) .written))) l₁₇ 0 (vptr (pieces .ptr .0) (pieces .ptr .1))) ∷
-        ‵ (fat fullShare (sliceTy (tyRef erased mut (pointee ((UInt w8) .written)))) l₁₈ 0 (sliceVal (pieces .ptr) (length (pieces .now)))) ∷
-        ‵ (froom (tyInt w64) l₁₉ 0) ∷ ‵ Fd ∷ []) refl (
-        let sub1 : at ≤ r4 = atom-before pre e4 (eqb-false r4 0 t2) in
-        let sub1-fits : (r4 - at) < 2 ^ 64 = omega (arith, is4 .1) in
-        Walk.sets ! (Run.bin ! (Walk.local ! 18 refl) (Walk.local ! 17 refl) sub1) (Run.init ! 27 refl ((tt, record { fits = sub1-fits }))) (
+        ‵ (fat fullShare Scanned-L.mir l₁₀ 0 (Scanned-L.lowered r4)) ∷ ‵ (fat fullShare (tyInt w64) l₁₁ 0 (vint w64 (r4 .end))) ∷
+        ‵ (fat fullShare Outcome-L.mir l₁₂ 0 (Outcome-L.lowered r6)) ∷ ‵ (fat fullShare tyBool l₁₃ 0 (vbool (eqb (r4 .end) 0))) ∷
+        ‵ (fat fullShare Node-L.mir l₁₄ 0 (Node-L.lowered r1)) ∷ ‵ (fat fullShare tyBool l₁₅ 0 (vbool (not r2))) ∷
+        ‵ (fat fullShare (tyRef erased mut (pointee ((UInt w8) .written))) l₁₆ 0 (vptr (dead .ptr .0) (dead .ptr .1))) ∷
+        ‵ (fat fullShare (sliceTy (tyRef erased mut (pointee ((UInt w8) .written)))) l₁₇ 0 (sliceVal (dead .ptr) (length (dead .now)))) ∷
+        ‵ (fat fullShare (tyRef erased mut (pointee ((UInt w8) .written))) l₁₈ 0 (vptr (pieces .ptr .0) (pieces .ptr .1))) ∷
+        ‵ (fat fullShare (sliceTy (tyRef erased mut (pointee ((UInt w8) .written)))) l₁₉ 0 (sliceVal (pieces .ptr) (length (pieces .now)))) ∷
+        ‵ (froom (tyInt w64) l₂₀ 0) ∷ ‵ Fd ∷ []) refl (
+        let sub1 : at ≤ (r4 .end) = atom-before pre e4 (eqb-false (r4 .end) 0 t2) in
+        let sub1-fits : ((r4 .end) - at) < 2 ^ 64 = omega (arith, LL.owed Scanned-T.the-type Scanned-L.the-laws r4 _ is4 .0 .1) in
+        Walk.sets ! (Run.bin ! (Walk.local ! 19 refl) (Walk.local ! 17 refl) sub1) (Run.init ! 28 refl ((tt, record { fits = sub1-fits }))) (
         -- [pieces; κ₂; the locals; dead; κ₁; κ₀; κ₃; nodes; line; their ends]
-        -- call 7: pass_atom (r6, r4 - at)
+        -- call 7: pass_atom (r6, (r4 .end) - at)
         Walk.gives W (Walk.made (Outcome-T.the-row .own r6 ((Outcome-L.lowered r6) ∷ []))
-        (LL.makes Outcome-T.the-type Outcome-L.the-plain 𝓤 H A r6 _ is6) ∷ Walk.made ((UInt w64) .own (r4 - at) ((vint w64 (r4 - at)) ∷ []))
-        (uint-makes 𝓤 H A W w64 (r4 - at) _ (refl, sub1-fits)) ∷ []) _ ! (
+        (LL.makes Outcome-T.the-type Outcome-L.the-plain 𝓤 H A r6 _ is6) ∷ Walk.made ((UInt w64) .own ((r4 .end) - at)
+        ((vint w64 ((r4 .end) - at)) ∷ [])) (uint-makes 𝓤 H A W w64 ((r4 .end) - at) _ (refl, sub1-fits)) ∷ []) _ ! (
         Walk.tokens-in W ([]) _ ! (alive 𝓤 H A g-pass-atom.signature tt tt) (id⊢ 𝓤 _) (
         Walk.asks W ! fm g-pass-atom.ended (g-pass-atom.clauses 𝓤 H A mem run)
-        ((tt, tt, tt, (r6, ((r4 - at), tt)), ((Outcome-L.lowered r6) ∷ [], ((vint w64 (r4 - at)) ∷ [], tt))), tt) _ (known-pass-atom ((tt, tt, tt, (r6, ((r4 - at), tt)), ((Outcome-L.lowered r6) ∷ [], ((vint w64 (r4 - at)) ∷ [], tt))), tt)) (factI 𝓤 _ (emp 𝓤) (atom-fits pre e4 (eqb-false r4 0 t2) e6)) (λ r ws. id⊢ 𝓤 _)
-        (Run.and-then ! (Walk.local ! 20 refl) (Run.and-then ! (Walk.local ! 28 refl) (Run.no-more !))) (λ u7 r7 is7′ e7.
+        ((tt, tt, tt, (r6, (((r4 .end) - at), tt)), ((Outcome-L.lowered r6) ∷ [], ((vint w64 ((r4 .end) - at)) ∷ [], tt))), tt) _ (known-pass-atom ((tt, tt, tt, (r6, (((r4 .end) - at), tt)), ((Outcome-L.lowered r6) ∷ [], ((vint w64 ((r4 .end) - at)) ∷ [], tt))), tt)) (factI 𝓤 _ (emp 𝓤) (atom-fits pre e4 (eqb-false (r4 .end) 0 t2) e6)) (λ r ws. id⊢ 𝓤 _)
+        (Run.and-then ! (Walk.local ! 21 refl) (Run.and-then ! (Walk.local ! 29 refl) (Run.no-more !))) (λ u7 r7 is7′ e7.
         Walk.tokens-out W ([]) ! (id⊢ 𝓤 _) (
         Walk.lands-in ! (Walk.init-as ! 10 refl (LL.lawful Outcome-T.the-type Outcome-L.the-laws 𝓤 H A W .typed r7 _ is7′ .0)
         (ap only (LL.tells Outcome-T.the-type Outcome-L.the-laws r7 _ is7′))) (
@@ -1107,29 +1124,30 @@ module _ {M : Type 1} (𝓤 : URA M) (H : Heap 𝓤) (A : Atoms 𝓤) (W : Given
         ‵ (fat fullShare (tyInt w8) l₂ 0 (vint w8 right)) ∷ ‵ (fat fullShare Y-search-atom-nodes l₃ 0 (sliceVal (nodes .ptr)
         (length (nodes .now)))) ∷ ‵ (fat fullShare Y-search-atom-line l₆ 0 (sliceVal (line .ptr) (length (line .now)))) ∷
         ‵ (fat fullShare (tyInt w64) l₇ 0 (vint w64 end)) ∷ ‵ (fat fullShare (tyInt w64) l₈ 0 (vint w64 node)) ∷
-        ‵ (fat fullShare (tyInt w64) l₉ 0 (vint w64 at)) ∷ ‵ (fat fullShare (tyInt w64) l₁₀ 0 (vint w64 r4)) ∷
-        ‵ (fat fullShare Outcome-L.mir l₁₁ 0 (Outcome-L.lowered r6)) ∷ ‵ (fat fullShare tyBool l₁₂ 0 (vbool (eqb r4 0))) ∷
-        ‵ (fat fullShare Node-L.mir l₁₃ 0 (Node-L.lowered r1)) ∷ ‵ (fat fullShare tyBool l₁₄ 0 (vbool (not r2))) ∷
-        ‵ (fat fullShare (tyRef erased mut (pointee ((UInt w8) .written))) l₁₅ 0 (vptr (dead .ptr .0) (dead .ptr .1))) ∷
-        ‵ (fat fullShare (sliceTy (tyRef erased mut (pointee ((UInt w8) .written)))) l₁₆ 0 (sliceVal (dead .ptr) (length (dead .now)))) ∷
-        ‵ (fat fullShare (tyRef erased mut (pointee ((UInt w8) .written))) l₁₇ 0 (vptr (pieces .ptr .0) (pieces .ptr .1))) ∷
-        ‵ (fat fullShare (sliceTy (tyRef erased mut (pointee ((UInt w8) .written)))) l₁₈ 0 (sliceVal (pieces .ptr) (length (pieces .now)))) ∷
-        ‵ (fat fullShare (tyInt w64) l₁₉ 0 (vint w64 (r4 - at))) ∷ ‵ Fd ∷ []) refl (
+        ‵ (fat fullShare (tyInt w64) l₉ 0 (vint w64 at)) ∷ ‵ (fat fullShare Scanned-L.mir l₁₀ 0 (Scanned-L.lowered r4)) ∷
+        ‵ (fat fullShare (tyInt w64) l₁₁ 0 (vint w64 (r4 .end))) ∷ ‵ (fat fullShare Outcome-L.mir l₁₂ 0 (Outcome-L.lowered r6)) ∷
+        ‵ (fat fullShare tyBool l₁₃ 0 (vbool (eqb (r4 .end) 0))) ∷ ‵ (fat fullShare Node-L.mir l₁₄ 0 (Node-L.lowered r1)) ∷
+        ‵ (fat fullShare tyBool l₁₅ 0 (vbool (not r2))) ∷
+        ‵ (fat fullShare (tyRef erased mut (pointee ((UInt w8) .written))) l₁₆ 0 (vptr (dead .ptr .0) (dead .ptr .1))) ∷
+        ‵ (fat fullShare (sliceTy (tyRef erased mut (pointee ((UInt w8) .written)))) l₁₇ 0 (sliceVal (dead .ptr) (length (dead .now)))) ∷
+        ‵ (fat fullShare (tyRef erased mut (pointee ((UInt w8) .written))) l₁₈ 0 (vptr (pieces .ptr .0) (pieces .ptr .1))) ∷
+        ‵ (fat fullShare (sliceTy (tyRef erased mut (pointee ((UInt w8) .written)))) l₁₉ 0 (sliceVal (pieces .ptr) (length (pieces .now)))) ∷
+        ‵ (fat fullShare (tyInt w64) l₂₀ 0 (vint w64 ((r4 .end) - at))) ∷ ‵ Fd ∷ []) refl (
         Walk.returns-by ! Post-search-atom refl (Run.look ! 10 refl) (
-        Walk.move ! (10 ∷ 10 ∷ 10 ∷ 10 ∷ 5 ∷ 2 ∷ 8 ∷ 8 ∷ 8 ∷ 8 ∷ 8 ∷ 8 ∷ 8 ∷ 8 ∷ 8 ∷ 8 ∷ 8 ∷ 8 ∷ 8 ∷ 8 ∷ 8 ∷ []) (
+        Walk.move ! (10 ∷ 10 ∷ 10 ∷ 10 ∷ 5 ∷ 2 ∷ 8 ∷ 8 ∷ 8 ∷ 8 ∷ 8 ∷ 8 ∷ 8 ∷ 8 ∷ 8 ∷ 8 ∷ 8 ∷ 8 ∷ 8 ∷ 8 ∷ 8 ∷ 8 ∷ []) (
         Walk.frees-gathered ! (Walk.full Outcome-L.mir l₀ (Outcome-L.lowered r7) ∷ Walk.full (tyInt w8) l₁ (vint w8 left) ∷
         Walk.full (tyInt w8) l₂ (vint w8 right) ∷ Walk.full Y-search-atom-nodes l₃ (sliceVal (nodes .ptr) (length (nodes .now))) ∷
         Walk.full Y-search-atom-dead l₄ (sliceVal (dead .ptr) (length (ws6 .1 .1 .1 .0))) ∷
         Walk.full Y-search-atom-pieces l₅ (sliceVal (pieces .ptr) (length (ws6 .1 .1 .1 .1 .0))) ∷
         Walk.full Y-search-atom-line l₆ (sliceVal (line .ptr) (length (line .now))) ∷ Walk.full (tyInt w64) l₇ (vint w64 end) ∷
-        Walk.full (tyInt w64) l₈ (vint w64 node) ∷ Walk.full (tyInt w64) l₉ (vint w64 at) ∷ Walk.full (tyInt w64) l₁₀ (vint w64 r4) ∷
-        Walk.full Outcome-L.mir l₁₁ (Outcome-L.lowered r6) ∷ Walk.full tyBool l₁₂ (vbool (eqb r4 0)) ∷
-        Walk.full Node-L.mir l₁₃ (Node-L.lowered r1) ∷ Walk.full tyBool l₁₄ (vbool (not r2)) ∷
-        Walk.full (tyRef erased mut (pointee ((UInt w8) .written))) l₁₅ (vptr (dead .ptr .0) (dead .ptr .1)) ∷
-        Walk.full (sliceTy (tyRef erased mut (pointee ((UInt w8) .written)))) l₁₆ (sliceVal (dead .ptr) (length (dead .now))) ∷
-        Walk.full (tyRef erased mut (pointee ((UInt w8) .written))) l₁₇ (vptr (pieces .ptr .0) (pieces .ptr .1)) ∷
-        Walk.full (sliceTy (tyRef erased mut (pointee ((UInt w8) .written)))) l₁₈ (sliceVal (pieces .ptr) (length (pieces .now))) ∷
-        Walk.full (tyInt w64) l₁₉ (vint w64 (r4 - at)) ∷ []) Fd ed (‵ (T-search-atom-pieces .own (at-last pieces (ws6 .1 .1 .1 .1 .0))
+        Walk.full (tyInt w64) l₈ (vint w64 node) ∷ Walk.full (tyInt w64) l₉ (vint w64 at) ∷ Walk.full Scanned-L.mir l₁₀ (Scanned-L.lowered r4) ∷
+        Walk.full (tyInt w64) l₁₁ (vint w64 (r4 .end)) ∷ Walk.full Outcome-L.mir l₁₂ (Outcome-L.lowered r6) ∷
+        Walk.full tyBool l₁₃ (vbool (eqb (r4 .end) 0)) ∷ Walk.full Node-L.mir l₁₄ (Node-L.lowered r1) ∷ Walk.full tyBool l₁₅ (vbool (not r2)) ∷
+        Walk.full (tyRef erased mut (pointee ((UInt w8) .written))) l₁₆ (vptr (dead .ptr .0) (dead .ptr .1)) ∷
+        Walk.full (sliceTy (tyRef erased mut (pointee ((UInt w8) .written)))) l₁₇ (sliceVal (dead .ptr) (length (dead .now))) ∷
+        Walk.full (tyRef erased mut (pointee ((UInt w8) .written))) l₁₈ (vptr (pieces .ptr .0) (pieces .ptr .1)) ∷
+        Walk.full (sliceTy (tyRef erased mut (pointee ((UInt w8) .written)))) l₁₉ (sliceVal (pieces .ptr) (length (pieces .now))) ∷
+        Walk.full (tyInt w64) l₂₀ (vint w64 ((r4 .end) - at)) ∷ []) Fd ed (‵ (T-search-atom-pieces .own (at-last pieces (ws6 .1 .1 .1 .1 .0))
         (sliceVal (pieces .ptr) (length (ws6 .1 .1 .1 .1 .0)) ∷ [])) ∷ ‵ (flft κ₂ q₂) ∷ ‵ (T-search-atom-dead .own (at-last dead (ws6 .1 .1 .1 .0))
         (sliceVal (dead .ptr) (length (ws6 .1 .1 .1 .0)) ∷ [])) ∷ ‵ (flft κ₁ q₁) ∷ ‵ (flft κ₀ q₀) ∷ ‵ (flft κ₃ q₃) ∷
         ‵ (T-search-atom-nodes .own nodes (sliceVal (nodes .ptr) (length (nodes .now)) ∷ [])) ∷
@@ -1146,7 +1164,7 @@ module _ {M : Type 1} (𝓤 : URA M) (H : Heap 𝓤) (A : Atoms 𝓤) (W : Given
         (q₀, (q₁, (q₂, (q₃, tt))))) (id⊢ 𝓤 _) (
         Walk.use0 W ! (‵ (Outcome-T.the-row .own r7 ((Outcome-L.lowered r7) ∷ []))) (LL.makes Outcome-T.the-type Outcome-L.the-plain 𝓤 H A r7 _ is7) (
         Walk.keep ! (1 ∷ 1 ∷ 0 ∷ []) (
-        Kit.by ! (Walk.leave-by 𝓤 H A W f-search-atom.ended (f-search-atom.clauses 𝓤 H A mem run) stayed-search-atom bound-search-atom (Outcome-L.lowered r7) r7 (tt, (tt, (tt, ((ws6 .1 .1 .1 .0), ((ws6 .1 .1 .1 .1 .0), (tt, (tt, (tt, (tt, tt))))))))) (tt, (tt, (tt, ((len1 ∙ refl), ((len2 ∙ refl), (tt, (tt, (tt, (tt, tt))))))))) (factI 𝓤 _ (emp 𝓤) (atom-below e1 e2 (not-false _ t1) e4 (eqb-false r4 0 t2) e6 e7))))))))))))))))))))))))))))))))))))))))))))))))))))))))))))))))))))))))))))))))))))))))))))))))))))))))))))
+        Kit.by ! (Walk.leave-by 𝓤 H A W f-search-atom.ended (f-search-atom.clauses 𝓤 H A mem run) stayed-search-atom bound-search-atom (Outcome-L.lowered r7) r7 (tt, (tt, (tt, ((ws6 .1 .1 .1 .0), ((ws6 .1 .1 .1 .1 .0), (tt, (tt, (tt, (tt, tt))))))))) (tt, (tt, (tt, ((len1 ∙ refl), ((len2 ∙ refl), (tt, (tt, (tt, (tt, tt))))))))) (factI 𝓤 _ (emp 𝓤) (atom-below pre e1 e2 (not-false _ t1) e4 (eqb-false (r4 .end) 0 t2) e6 e7))))))))))))))))))))))))))))))))))))))))))))))))))))))))))))))))))))))))))))))))))))))))))))))))))))))))))))))
 
 module _ {M : Type 1} (𝓤 : URA M) (H : Heap 𝓤) (A : Atoms 𝓤) (W : Given 𝓤 H A) (mem : Memory → SProp 𝓤) (run : Routine → Fun 𝓤) (κ₀ : Lft)
     (q₀ : Share) (κ₁ : Lft) (q₁ : Share) (κ₂ : Lft) (q₂ : Share) (κ₃ : Lft) (q₃ : Share) (left : ℕ) (right : ℕ) (nodes : RefT (List Node))
@@ -2640,6 +2658,8 @@ unfolding code.search-routine code.search-atom-routine code.search-byte-routine 
     (𝓡 .run))) 𝓜 𝓡 code.env #g-no-piece g-no-piece-def.routine code.calls-fit·no-piece (g-no-piece-thm.met 𝓤 H 𝓜 𝓖 𝓡))
     (cited 𝓤 H (Walk.Of 𝓤 H (𝓖 .A) g-find-atom.ended (g-find-atom.clauses 𝓤 H (𝓖 .A) (𝓜 .mem)
     (𝓡 .run))) 𝓜 𝓡 code.env #g-find-atom g-find-atom-def.routine code.calls-fit·find-atom (g-find-atom-thm.met 𝓤 H 𝓜 𝓖 𝓡))
+    (cited 𝓤 H (Walk.Of 𝓤 H (𝓖 .A) g-only-read.ended (g-only-read.clauses 𝓤 H (𝓖 .A) (𝓜 .mem)
+    (𝓡 .run))) 𝓜 𝓡 code.env #g-only-read g-only-read-def.routine code.calls-fit·only-read (g-only-read-thm.met 𝓤 H 𝓜 𝓖 𝓡))
     (cited 𝓤 H (Walk.Of 𝓤 H (𝓖 .A) g-pass-atom.ended (g-pass-atom.clauses 𝓤 H (𝓖 .A) (𝓜 .mem)
     (𝓡 .run))) 𝓜 𝓡 code.env #g-pass-atom g-pass-atom-def.routine code.calls-fit·pass-atom (g-pass-atom-thm.met 𝓤 H 𝓜 𝓖 𝓡))
     (λ z lt. smaller .0 (μ-search 𝓤 H (𝓖 .A) (𝓜 .mem) (𝓡 .run) z) (subst (λ (m : ℕ). μ-search 𝓤 H (𝓖 .A) (𝓜 .mem) (𝓡 .run) z < m) e lt) z refl)

@@ -1,4 +1,4 @@
--- first_reading answers the chosen reading and the number of places: the law of the search, at the root, with no place dead.
+-- first_reading answers the chosen reading and the numbers of places and bytes: the law of the search, at the root, with no place dead.
 -- Written by tools/walk with the facts of its answers.
 use mathlib.Core.Path.{_≡_, refl, ap, sym, subst, _∙_}
 use mathlib.Core.Bool.{true, false}
@@ -302,13 +302,13 @@ module _ {M : Type 1} (𝓤 : URA M) (H : Heap 𝓤) (A : Atoms 𝓤) (W : Given
         Run.branches ! (Walk.local ! 29 refl)
         (λ h1. let t1 : (eqb (r2 .node) 0) ≡ true = Walk.is-true _ h1 in
         -- [the locals; the array 7; dead; κ₁; κ₀; κ₂; nodes; line; their ends]
-        -- call 3: no_choice (r2 .places)
-        Walk.gives W (Walk.made ((UInt w64) .own (r2 .places) ((vint w64 (r2 .places)) ∷ []))
-        (uint-makes 𝓤 H A W w64 (r2 .places) _ (refl, LL.owed Outcome-T.the-type Outcome-L.the-laws r2 _ is2 .1 .1 .0 .1)) ∷ []) _ ! (
+        -- call 3: no_choice (r2)
+        Walk.gives W (Walk.made (Outcome-T.the-row .own r2 ((Outcome-L.lowered r2) ∷ []))
+        (LL.makes Outcome-T.the-type Outcome-L.the-plain 𝓤 H A r2 _ is2) ∷ []) _ ! (
         Walk.tokens-in W ([]) _ ! (alive 𝓤 H A g-no-choice.signature tt tt) (id⊢ 𝓤 _) (
         Walk.asks W ! fm g-no-choice.ended (g-no-choice.clauses 𝓤 H A mem run)
-        ((tt, tt, tt, ((r2 .places), tt), ((vint w64 (r2 .places)) ∷ [], tt)), tt) _ (known-no-choice ((tt, tt, tt, ((r2 .places), tt), ((vint w64 (r2 .places)) ∷ [], tt)), tt)) (id⊢ 𝓤 (emp 𝓤)) (λ r ws. id⊢ 𝓤 _)
-        (Run.and-then ! (Walk.part ! 18 refl refl refl) (Run.no-more !)) (λ u3 r3 is3′ e3.
+        ((tt, tt, tt, (r2, tt), ((Outcome-L.lowered r2) ∷ [], tt)), tt) _ (known-no-choice ((tt, tt, tt, (r2, tt), ((Outcome-L.lowered r2) ∷ [], tt)), tt)) (id⊢ 𝓤 (emp 𝓤)) (λ r ws. id⊢ 𝓤 _)
+        (Run.and-then ! (Walk.local ! 18 refl) (Run.no-more !)) (λ u3 r3 is3′ e3.
         Walk.tokens-out W ([]) ! (id⊢ 𝓤 _) (
         Walk.lands-in ! (Walk.init-as ! 9 refl (LL.lawful Choice-T.the-type Choice-L.the-laws 𝓤 H A W .typed r3 _ is3′ .0)
         (ap only (LL.tells Choice-T.the-type Choice-L.the-laws r3 _ is3′))) (
@@ -437,20 +437,20 @@ module _ {M : Type 1} (𝓤 : URA M) (H : Heap 𝓤) (A : Atoms 𝓤) (W : Given
         ‵ (fat fullShare (sliceTy (tyRef erased imm (pointee ((UInt w8) .written)))) l₂₄ 0 (sliceVal (l₇, 0) (length (ws2 .1 .1 .1 .1 .0)))) ∷
         ‵ Fd ∷ []) refl (
         -- [κ₀; nodes; the locals; the array 7; dead; κ₁; κ₂; line; their ends]
-        -- call 6: make_choice (the array 7, r5, r2 .places)
+        -- call 6: make_choice (the array 7, r5, r2)
         Walk.move ! (2 ∷ 2 ∷ []) (
         Arrays.shares W (UInt w8) tt 18 l₇ (named 0) (ws2 .1 .1 .1 .1 .0) ! tt (subst (Slice.Room (UInt w8))
         (sym (len3 ∙ (length-replicate {A = ℕ} 18 0))) (lit< tt, lit< tt)) (λ ν4 δ4.
         Walk.gives W (Walk.kept (ShrSlice (named 0) (ν4 ∷ []) (UInt w8) .own (record { ptr = (l₇, 0); name = δ4; now = (ws2 .1 .1 .1 .1 .0) })
         ((sliceVal (l₇, 0) (length (ws2 .1 .1 .1 .1 .0))) ∷ [])) ∷ Walk.made ((UInt w64) .own r5 ((vint w64 r5) ∷ []))
-        (uint-makes 𝓤 H A W w64 r5 _ (refl, is5 .1)) ∷ Walk.made ((UInt w64) .own (r2 .places) ((vint w64 (r2 .places)) ∷ []))
-        (uint-makes 𝓤 H A W w64 (r2 .places) _ (refl, LL.owed Outcome-T.the-type Outcome-L.the-laws r2 _ is2 .1 .1 .0 .1)) ∷ []) _ ! (
+        (uint-makes 𝓤 H A W w64 r5 _ (refl, is5 .1)) ∷ Walk.made (Outcome-T.the-row .own r2 ((Outcome-L.lowered r2) ∷ []))
+        (LL.makes Outcome-T.the-type Outcome-L.the-plain 𝓤 H A r2 _ is2) ∷ []) _ ! (
         Walk.move ! (2 ∷ []) (
         Walk.tokens-in W (((ν4 ∷ []), fullShare) ∷ []) _ ! (alive 𝓤 H A g-make-choice.signature ((ν4 ∷ []), tt) (fullShare, tt)) (id⊢ 𝓤 _) (
         Walk.asks W ! fm g-make-choice.ended (g-make-choice.clauses 𝓤 H A mem run)
-        ((((ν4 ∷ []), tt), (fullShare, tt), tt, ((record { ptr = (l₇, 0); name = δ4; now = (ws2 .1 .1 .1 .1 .0) }), (r5, ((r2 .places), tt))), ((sliceVal (l₇, 0) (length (ws2 .1 .1 .1 .1 .0))) ∷ [], ((vint w64 r5) ∷ [], ((vint w64 (r2 .places)) ∷ [], tt)))), tt) _ (known-make-choice ((((ν4 ∷ []), tt), (fullShare, tt), tt, ((record { ptr = (l₇, 0); name = δ4; now = (ws2 .1 .1 .1 .1 .0) }), (r5, ((r2 .places), tt))), ((sliceVal (l₇, 0) (length (ws2 .1 .1 .1 .1 .0))) ∷ [], ((vint w64 r5) ∷ [], ((vint w64 (r2 .places)) ∷ [], tt)))), tt)) (factI 𝓤 _ (emp 𝓤) (len3)) (λ r ws. id⊢ 𝓤 _)
-        (Run.and-then ! (Walk.local ! 31 refl) (Run.and-then ! (Walk.local ! 23 refl) (Run.and-then ! (Walk.part ! 17 refl refl refl)
-        (Run.no-more !)))) (λ u6 r6 is6′ e6.
+        ((((ν4 ∷ []), tt), (fullShare, tt), tt, ((record { ptr = (l₇, 0); name = δ4; now = (ws2 .1 .1 .1 .1 .0) }), (r5, (r2, tt))), ((sliceVal (l₇, 0) (length (ws2 .1 .1 .1 .1 .0))) ∷ [], ((vint w64 r5) ∷ [], ((Outcome-L.lowered r2) ∷ [], tt)))), tt) _ (known-make-choice ((((ν4 ∷ []), tt), (fullShare, tt), tt, ((record { ptr = (l₇, 0); name = δ4; now = (ws2 .1 .1 .1 .1 .0) }), (r5, (r2, tt))), ((sliceVal (l₇, 0) (length (ws2 .1 .1 .1 .1 .0))) ∷ [], ((vint w64 r5) ∷ [], ((Outcome-L.lowered r2) ∷ [], tt)))), tt)) (factI 𝓤 _ (emp 𝓤) (len3)) (λ r ws. id⊢ 𝓤 _)
+        (Run.and-then ! (Walk.local ! 31 refl) (Run.and-then ! (Walk.local ! 23 refl) (Run.and-then ! (Walk.local ! 17 refl) (Run.no-more !))))
+        (λ u6 r6 is6′ e6.
         Walk.tokens-out W (((ν4 ∷ []), fullShare) ∷ []) ! (id⊢ 𝓤 _) (
         Arrays.unshares W (UInt w8) tt 18 l₇ (named 0) (ws2 .1 .1 .1 .1 .0) ! tt (len3 ∙ (length-replicate {A = ℕ} 18 0)) (λ cell4.
         Walk.lands-in ! (Walk.init-as ! 9 refl (LL.lawful Choice-T.the-type Choice-L.the-laws 𝓤 H A W .typed r6 _ is6′ .0)

@@ -7,12 +7,12 @@ use Rattle.fit_line.proofs.lend_room.Statement.{statement}
 use Rattle.fit_line.proofs.lend_room.Tie as tie
 
 slice-aggregate-fit-lines : tie.Need-slice-aggregate-fit-lines
-slice-aggregate-fit-lines c = sym (length-replicate {A = ℕ} 3211313 0)
+slice-aggregate-fit-lines c = sym (length-replicate {A = ℕ} 3342387 0)
 
 fit-lines-requires : tie.Need-fit-lines-requires
 fit-lines-requires c κs =
     let s = c .before .before .before in
-    (s .pre, subst (λ (n : ℕ). 3211313 ≤ n) (sym (length-replicate {A = ℕ} 3211313 0)) (le-refl 3211313))
+    (s .pre, subst (λ (n : ℕ). 3342387 ≤ n) (sym (length-replicate {A = ℕ} 3342387 0)) (le-refl 3342387))
 
 returns : tie.Need-returns
 returns c = tt

@@ -32,8 +32,8 @@ add-t14 c = search needs
 returns : tie.Need-returns Inv-loop μ-loop
 returns c = search (taking-delimiter, needs)
 
-next-atom-requires : tie.Need-next-atom-requires Inv-loop μ-loop
-next-atom-requires c κs = search needs
+scan-atom-requires : tie.Need-scan-atom-requires Inv-loop μ-loop
+scan-atom-requires c κs = search needs
 
 returns-2 : tie.Need-returns-2 Inv-loop μ-loop
 returns-2 c = search (taking-fails, atom-by-brackets, needs)
@@ -59,7 +59,7 @@ take-atoms-spec =
     wide-requires
     add-t14
     returns
-    next-atom-requires
+    scan-atom-requires
     returns-2
     loop-less
     loop-again

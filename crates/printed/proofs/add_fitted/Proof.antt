@@ -1,4 +1,4 @@
--- add_fitted adds the four parts of the row: the number, the line, the pieces, and the places with the byte 10.
+-- add_fitted adds the four parts of the row: the number, the line, the pieces, and the counts with the byte 10.
 use borrow.Author.Needs.{needs}
 use Rattle.printed.proofs.Adding.{fit-number, fit-line, fit-pieces, fit-last, fit-prints}
 use Rattle.printed.proofs.add_fitted.Statement.{statement}
@@ -13,8 +13,8 @@ add-spaced-requires c κs = search fit-line
 add-pieces-requires : tie.Need-add-pieces-requires
 add-pieces-requires c κs = search fit-pieces
 
-add-last-requires : tie.Need-add-last-requires
-add-last-requires c κs = search fit-last
+add-counts-requires : tie.Need-add-counts-requires
+add-counts-requires c κs = search fit-last
 
 same-length : tie.Need-same-length
 same-length c = search needs
@@ -29,6 +29,6 @@ add-fitted-spec =
     add-decimal-requires
     add-spaced-requires
     add-pieces-requires
-    add-last-requires
+    add-counts-requires
     same-length
     returns)

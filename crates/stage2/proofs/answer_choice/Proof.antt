@@ -26,11 +26,17 @@ widen-nine-requires-2 c κs = search needs
 widen-requires-2 : tie.Need-widen-requires-2
 widen-requires-2 c κs = search needs
 
+widen-requires-3 : tie.Need-widen-requires-3
+widen-requires-3 c κs = search needs
+
 returns : tie.Need-returns
 returns c = search (answer-call, needs)
 
-widen-requires-3 : tie.Need-widen-requires-3
-widen-requires-3 c κs = search needs
+widen-requires-4 : tie.Need-widen-requires-4
+widen-requires-4 c κs = search needs
+
+widen-requires-5 : tie.Need-widen-requires-5
+widen-requires-5 c κs = search needs
 
 returns-2 : tie.Need-returns-2
 returns-2 c = search (answer-none, needs)
@@ -45,6 +51,8 @@ answer-choice-spec =
     widen-nine-requires
     widen-nine-requires-2
     widen-requires-2
-    returns
     widen-requires-3
+    returns
+    widen-requires-4
+    widen-requires-5
     returns-2)

@@ -1,13 +1,13 @@
--- next_atom finds the end of the line's first atom. The loop keeps `Scan`: the bytes from `at` to i leave `depth` brackets open,
+-- scan_atom finds the end of the line's first atom, and counts the bytes that it reads. The loop keeps `Scan`: the bytes from `at` to i leave `depth` brackets open,
 -- and the atom is these bytes with what closes the open brackets from i on, if anything does. The measure is the length of the line less i.
 use Prim.Native.Nat.{_-_}
 use borrow.Author.Needs.{needs}
 use native.Mathlib.Omega.{arith}
 use lib.ListN.{length}
 use Rattle.atom.specs.Atoms.{brackets}
-use Rattle.atom.proofs.Atoms.{none-past-end, none-at-right, one-byte, Scan, scan-start, scan-step, scan-end, scan-closed}
-use Rattle.atom.proofs.next_atom.Statement.{statement}
-use Rattle.atom.proofs.next_atom.Tie as tie
+use Rattle.atom.proofs.Atoms.{none-past-end, none-at-right, one-byte, Scan, scan-start, scan-step, scan-before, scan-end, scan-closed}
+use Rattle.atom.proofs.scan_atom.Statement.{statement}
+use Rattle.atom.proofs.scan_atom.Tie as tie
 
 abbrev Inv-loop : tie.InvT-loop
 Inv-loop line at left right b i₀ depth₀ i depth = Scan (brackets left right) line at i depth
@@ -33,6 +33,9 @@ returns-3 c = search (one-byte, needs)
 loop-holds : tie.Need-loop-holds Inv-loop μ-loop
 loop-holds c = search (scan-start, needs)
 
+sub-read : tie.Need-sub-read Inv-loop μ-loop
+sub-read c = search (scan-before, needs)
+
 returns-4 : tie.Need-returns-4 Inv-loop μ-loop
 returns-4 c = search (scan-end, needs)
 
@@ -53,11 +56,14 @@ loop-again c =
     let l = c .before .before .before .before .loop in
     scan-step _ _ _ _ (l .depth) _ (c .depth-past .ensures) (search needs) (c .before .before .before .loop-test .taken) (l .inv)
 
+sub-read-2 : tie.Need-sub-read-2 Inv-loop μ-loop
+sub-read-2 c = search (scan-before, needs)
+
 returns-5 : tie.Need-returns-5 Inv-loop μ-loop
 returns-5 c = search (scan-closed, needs)
 
-pub next-atom-spec : {M : Type 1} → statement M
-next-atom-spec =
+pub scan-atom-spec : {M : Type 1} → statement M
+scan-atom-spec =
     tie.close
     (tie.spec
     Inv-loop
@@ -68,10 +74,12 @@ next-atom-spec =
     add-i
     returns-3
     loop-holds
+    sub-read
     returns-4
     shared-slice-read-depth-past
     depth-past-requires
     add-i-2
     loop-less
     loop-again
+    sub-read-2
     returns-5)
