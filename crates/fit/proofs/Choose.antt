@@ -3,7 +3,7 @@ use mathlib.Core.Path.{_≡_, refl, sym, _∙_, ap, ap₂, subst, fun-ext}
 use mathlib.Core.Bool.{Bool, true, false}
 use mathlib.Core.List.{List, [], _∷_, _++_, map}
 use mathlib.Core.Option.{Option, none, some}
-use Prim.Native.Nat.{ℕ, zero, suc, _+_, _≤_, _<_}
+use Prim.Native.Nat.{ℕ, zero, suc, _+_, _≤_, _<_, _^_}
 use native.Mathlib.Omega.{arith}
 use lib.ListN.{length, getD, take, drop, replicate, length-map}
 use borrow.Author.Tests.{ne-eqb}
@@ -25,12 +25,13 @@ use Rattle.nodes.specs.declared.Node.{Node}
 use Rattle.nodes.specs.Rows.{noNode, elem, templateOf, kid, holey, height, holes, Tree, Stands}
 use Rattle.nodes.proofs.Rows.{kid-child, kid-falls, kid-lit, front-node, front-long}
 use Rattle.nodes.proofs.Templates.{walk-pre, walk-there}
-use Rattle.fit.specs.Outcome.{Told, Says, HoldsDead, Outcomes, sizeIn, placeTried, SearchedIn}
-use Rattle.fit.specs.Chosen.{TreeOf, Fits, Chosen, Chooses, noChoice, choiceOf}
+use Rattle.fit.specs.Outcome.{piecesIn, placesIn, bytesIn, Told, Says, HoldsDead, Outcomes, sizeIn, placeTried, SearchedIn}
+use Rattle.fit.specs.Chosen.{TreeOf, Fits, Chosen, Chooses, noChoice, choiceOf, Makes}
 use Rattle.fit.specs.declared.Choice.{Choice}
 use Rattle.fit.specs.declared.Outcome.{Outcome}
 use Rattle.fit.proofs.Steps.{told-none, told-some}
 use Rattle.fit.proofs.Pieces.{zero-at, lie-within, few-pieces, Stand, stand}
+use Rattle.fit.proofs.Few.{taken-fits, read-fits}
 use Rattle.fit.proofs.Trees.{spelt-at, tree-fitting}
 
 -- a reading's elements lead to an end node
@@ -52,8 +53,8 @@ same-none nothing = refl
 same-some : {f : Found} {o : Option Found} → Same (some f) o → (g : Found) × (o ≡ some g) × (g .parts ≡ f .parts)
 same-some (something q r i j) = (record { rest = q; parts = r; node = j }, refl, refl)
 
-module _ (m : Marks) (rows : List Node) (tree : Tree rows) (some-row : 0 < length rows) (line : Bytes) (o : Outcome) (dead dead′ ps′ : Bytes)
-    (done : Outcomes rows line 0 0 (suc (sizeIn rows line 0 0)) (λ n. placeTried m rows line 0 0 n) (record { dead = dead; dead′ = dead′; pieces = replicate 18 0; pieces′ = ps′ }) o)
+module _ (m : Marks) (rows : List Node) (tree : Tree rows) (some-row : 0 < length rows) (line : Bytes) (o : Outcome) (dead dead′ : Bytes) (ns′ : List ℕ)
+    (done : Outcomes rows line 0 0 (suc (sizeIn rows line 0 0)) (λ n. placeTried m rows line 0 0 n) (record { dead = dead; dead′ = dead′; notes = replicate 20 0; notes′ = ns′ }) o)
     (clear : HoldsDead (length rows) (suc (length line)) dead []) where
   -- fuel that is enough
   abbrev fuel : ℕ
@@ -63,18 +64,26 @@ module _ (m : Marks) (rows : List Node) (tree : Tree rows) (some-row : 0 < lengt
   abbrev result : Tried
   result = tryPlace m (kid rows) (holey rows) fuel 0 0 line []
 
+  -- the pieces that are noted
+  abbrev ps′ : List ℕ
+  ps′ = piecesIn ns′
+
   -- the outcome says what it finds
   told : Told (holes rows 0) 0 (result .found) o (replicate 18 0) ps′
   told = done .says fuel (omega arith) [] clear .0 .told
 
   module _ (ts : List Bytes) (of : TreeOf m rows ts) where
-    -- how many places it takes up
-    counted : o .places ≡ placesTaken m ts line
-    counted = done .says fuel (omega arith) [] clear .0 .places ∙ tree-fitting m rows tree ts of some-row line fuel (omega arith) .0
+    -- the notes say how many places it takes up, and how many bytes it reads
+    module _ (few : length rows ≤ 2048) (short : length line ≤ 200) (n : ℕ) (fits : n < 2 ^ 64) where
+      counted : n ≡ placesIn ns′ → n ≡ placesTaken m ts line
+      counted w =
+          omega (arith, w, done .says fuel (omega arith) [] clear .0 .counted .more-places, fits, taken-fits rows m tree some-row few line short fuel)
+          ∙ tree-fitting m rows tree ts of some-row line fuel (omega arith) .0
 
-    -- and how many bytes it reads
-    counted-bytes : o .bytes ≡ bytesRead m ts line
-    counted-bytes = done .says fuel (omega arith) [] clear .0 .bytes ∙ tree-fitting m rows tree ts of some-row line fuel (omega arith) .1
+      counted-bytes : n ≡ bytesIn ns′ → n ≡ bytesRead m ts line
+      counted-bytes w =
+          omega (arith, w, done .says fuel (omega arith) [] clear .0 .counted .more-bytes, fits, read-fits rows m tree some-row few line short fuel)
+          ∙ tree-fitting m rows tree ts of some-row line fuel (omega arith) .1
 
     -- the templates' tree has it too
     same : Same (result .found) (fitting m ts line .found)
@@ -96,7 +105,7 @@ module _ (m : Marks) (rows : List Node) (tree : Tree rows) (some-row : 0 < lengt
         (f, e, t, sound m (kid rows) (holey rows) (kid-lit rows tree) fuel 0 line f (sym u ∙ e))
 
     -- it is the chosen one
-    some-chosen : (k : ℕ) → k ≡ templateOf rows (o .node) → (ts : List Bytes) → TreeOf m rows ts → Chosen m ts line (choiceOf ps′ k o)
+    some-chosen : (k : ℕ) → k ≡ templateOf rows (o .node) → (ts : List Bytes) → TreeOf m rows ts → Chosen m ts line (choiceOf ns′ k)
     some-chosen k u ts of =
         let (f, e, (p, n, r, s), (j, w, h, x)) = reading in
         let (g, found, parts) = same-some (subst (λ (x : Option Found). Same x (fitting m ts line .found)) e (same ts of)) in
@@ -145,28 +154,26 @@ module _ (m : Marks) (kid : ℕ → Elem → ℕ) (holey : ℕ → Bool) where
       ∙ atom-by (tryPlace m kid holey n i) (holey i) p s ds))))))
 
 -- what is searched by the brackets is searched by the marks
-pub searched-by-brackets : (m : Marks) {row : List Node} {line : Bytes} {node at : ℕ} {dead dead′ pieces pieces′ : Bytes} {o : Outcome}
-    → SearchedIn (brackets (m .left) (m .right)) row line node at dead dead′ pieces pieces′ o → SearchedIn m row line node at dead dead′ pieces pieces′ o
-searched-by-brackets m {row} {line} {node} {at} {dead} {dead′} {pieces} {pieces′} {o} done = record {
+pub searched-by-brackets : (m : Marks) {row : List Node} {line : Bytes} {node at : ℕ} {dead dead′ : Bytes} {notes notes′ : List ℕ} {o : Outcome}
+    → SearchedIn (brackets (m .left) (m .right)) row line node at dead dead′ notes notes′ o → SearchedIn m row line node at dead dead′ notes notes′ o
+searched-by-brackets m {row} {line} {node} {at} {dead} {dead′} {notes} {notes′} {o} done = record {
   comes = record {
     each = λ made s lt.
         let rows = take made row in
         let d = done .comes .each made s lt in
         record {
           says = λ n l ds k.
-              subst (λ (F : ℕ → ℕ → Bytes → List Place → Tried). Says (holes rows node) at (F node at (drop at line) ds) o pieces pieces′
+              subst (λ (F : ℕ → ℕ → Bytes → List Place → Tried). Says (holes rows node) at (F node at (drop at line) ds) o notes notes′
               × HoldsDead (length rows) (suc (length line)) dead′ (F node at (drop at line) ds .dead)) (try-brackets m (kid rows) (holey rows) n) (d .says n l ds k);
           short = d .short;
           there = d .there;
         };
-    few = done .comes .few;
-    read = done .comes .read;
   };
 }
 
 -- ---- in a row at whose front the tree stands
 
-module _ {m : Marks} {row : List Node} {line : Bytes} {o : Outcome} {dead dead′ pieces pieces′ : Bytes} (done : SearchedIn m row line 0 0 dead dead′ pieces pieces′ o) where
+module _ {m : Marks} {row : List Node} {line : Bytes} {o : Outcome} {dead dead′ : Bytes} {notes notes′ : List ℕ} (done : SearchedIn m row line 0 0 dead dead′ notes notes′ o) where
   -- what is found is a node of the tree
   found-below : {count : ℕ} → Stands row count → 0 < count → o .node < count
   found-below {count} s root = omega (arith, done .comes .each count s root .there, front-long s)
@@ -176,38 +183,42 @@ module _ {m : Marks} {row : List Node} {line : Bytes} {o : Outcome} {dead dead�
     pub found-there : o .node < length row
     found-there = omega (arith, found-below (f .stands) (f .root), f .stands .within)
 
-    module _ (z : pieces ≡ replicate 18 0) (clear : HoldsDead (length (take count row)) (suc (length line)) dead []) where
-      -- the search of the tree, from no pieces on
+    module _ (z : notes ≡ replicate 20 0) (clear : HoldsDead (length (take count row)) (suc (length line)) dead []) (short : length line ≤ 200) where
+      -- the search of the tree, from no notes on
       from-none : Outcomes (take count row) line 0 0 (suc (sizeIn (take count row) line 0 0)) (λ n. placeTried m (take count row) line 0 0 n)
-          (record { dead = dead; dead′ = dead′; pieces = replicate 18 0; pieces′ = pieces′ }) o
-      from-none = subst (λ (ps : Bytes). Outcomes (take count row) line 0 0 (suc (sizeIn (take count row) line 0 0)) (λ n. placeTried m (take count row) line 0 0 n)
-          (record { dead = dead; dead′ = dead′; pieces = ps; pieces′ = pieces′ }) o) z (done .comes .each count (f .stands) (f .root))
+          (record { dead = dead; dead′ = dead′; notes = replicate 20 0; notes′ = notes′ }) o
+      from-none = subst (λ (ns : List ℕ). Outcomes (take count row) line 0 0 (suc (sizeIn (take count row) line 0 0)) (λ n. placeTried m (take count row) line 0 0 n)
+          (record { dead = dead; dead′ = dead′; notes = ns; notes′ = notes′ }) o) z (done .comes .each count (f .stands) (f .root))
 
       -- the tree has a node
       some-node : 0 < length (take count row)
       some-node = omega (arith, front-long (f .stands), f .root)
 
+      -- and few of them
+      few-nodes : length (take count row) ≤ 2048
+      few-nodes = omega (arith, front-long (f .stands), f .few)
+
       -- where nothing is found, the line is no call
-      pub no-call : {c : Choice} → o .node ≡ 0 → c ≡ noChoice o → Chooses m row count line c
+      pub no-call : {c : Choice} → o .node ≡ 0 → Makes (noChoice notes′) c → Chooses m row count line c
       unfolding nine
-      no-call n q = rw q record {
-        no-call = λ _ ts t. none-chosen m (take count row) (f .stands .tree) some-node line o dead dead′ pieces′ from-none clear ts (t .of) n;
-        blank = λ _. (refl, refl, refl);
-        call = λ e. false-not-true e;
-        within = λ i. omega (arith, zero-at 9 i);
-        places = λ ts t. counted m (take count row) (f .stands .tree) some-node line o dead dead′ pieces′ from-none clear ts (t .of);
-        bytes = λ ts t. counted-bytes m (take count row) (f .stands .tree) some-node line o dead dead′ pieces′ from-none clear ts (t .of);
+      no-call {c} n q = record {
+        no-call = λ _ ts t. none-chosen m (take count row) (f .stands .tree) some-node line o dead dead′ notes′ from-none clear ts (t .of) n;
+        blank = λ _. rw (q .is) (refl, refl, refl);
+        call = λ e. false-not-true (sym (ap (λ (c : Choice). c .found) (q .is)) ∙ e);
+        within = λ i. rw (q .is) (omega (arith, zero-at 9 i));
+        places = λ ts t. counted m (take count row) (f .stands .tree) some-node line o dead dead′ notes′ from-none clear ts (t .of) few-nodes short (c .places) (q .places) (ap (λ (c : Choice). c .places) (q .is));
+        bytes = λ ts t. counted-bytes m (take count row) (f .stands .tree) some-node line o dead dead′ notes′ from-none clear ts (t .of) few-nodes short (c .bytes) (q .bytes) (ap (λ (c : Choice). c .bytes) (q .is));
       }
 
       -- where something is found, the line is a call
-      pub is-call : {n : Node} {k : ℕ} {c : Choice} → ¬ (o .node ≡ 0) → n ≡ getD row (o .node) noNode → k ≡ n .template → c ≡ choiceOf pieces′ k o → Chooses m row count line c
-      is-call {n} {k} w x y q =
+      pub is-call : {n : Node} {k : ℕ} {c : Choice} → ¬ (o .node ≡ 0) → n ≡ getD row (o .node) noNode → k ≡ n .template → Makes (choiceOf notes′ k) c → Chooses m row count line c
+      is-call {n} {k} {c} w x y q =
           let is : k ≡ templateOf (take count row) (o .node) = y ∙ ap (λ (n : Node). n .template) (x ∙ sym (front-node row count (o .node) (found-below (f .stands) (f .root)))) in
-          rw q record {
-            no-call = λ e. false-not-true (sym e);
-            blank = λ e. false-not-true (sym e);
-            call = λ _ ts t. some-chosen m (take count row) (f .stands .tree) some-node line o dead dead′ pieces′ from-none clear w k is ts (t .of);
-            within = some-within m (take count row) (f .stands .tree) some-node line o dead dead′ pieces′ from-none clear w;
-            places = λ ts t. counted m (take count row) (f .stands .tree) some-node line o dead dead′ pieces′ from-none clear ts (t .of);
-            bytes = λ ts t. counted-bytes m (take count row) (f .stands .tree) some-node line o dead dead′ pieces′ from-none clear ts (t .of);
+          record {
+            no-call = λ e. false-not-true (sym e ∙ ap (λ (c : Choice). c .found) (q .is));
+            blank = λ e. false-not-true (sym e ∙ ap (λ (c : Choice). c .found) (q .is));
+            call = λ _ ts t. rw (q .is) (some-chosen m (take count row) (f .stands .tree) some-node line o dead dead′ notes′ from-none clear w k is ts (t .of));
+            within = rw (q .is) (some-within m (take count row) (f .stands .tree) some-node line o dead dead′ notes′ from-none clear w);
+            places = λ ts t. counted m (take count row) (f .stands .tree) some-node line o dead dead′ notes′ from-none clear ts (t .of) few-nodes short (c .places) (q .places) (ap (λ (c : Choice). c .places) (q .is));
+            bytes = λ ts t. counted-bytes m (take count row) (f .stands .tree) some-node line o dead dead′ notes′ from-none clear ts (t .of) few-nodes short (c .bytes) (q .bytes) (ap (λ (c : Choice). c .bytes) (q .is));
           }

@@ -2,6 +2,7 @@
 pub mod Nine
 mod Steps
 mod Taken
+mod Few
 mod Pieces
 mod Trees
 pub mod Choose

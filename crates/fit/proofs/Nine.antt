@@ -1,14 +1,16 @@
--- Nine numbers, one by one.
+-- Nine numbers one by one, and what the leaves do to the notes.
 use mathlib.Core.Path.{_≡_, refl, sym, _∙_, ap}
+use mathlib.Core.Bool.{true, false}
 use mathlib.Core.List.{List, [], _∷_}
-use Prim.Native.Nat.{ℕ, suc, _+_, _-_, _<_}
+use Prim.Native.Nat.{ℕ, suc, _+_, _-_, _%_, _<_, _^_}
 use native.Mathlib.Omega.{arith}
-use lib.ListN.{length, getD, take, drop, length-drop, drop-of-length-le}
-use lib.Seq.{drop-cons, take-all}
-use mathlib.Core.Bool.{true}
+use lib.ListN.{length, getD, set, take, drop, replicate, drop-of-length-le, length-set}
+use lib.Seq.{drop-cons, take-take, take-set-le, take-set-lt, getD-set-same, getD-set-other}
+use Rattle.model.proofs.Text.{drop-take}
 use Rattle.fit.specs.declared.Choice.{Choice}
 use Rattle.fit.specs.declared.Outcome.{Outcome}
-use Rattle.fit.specs.Chosen.{choiceOf}
+use Rattle.fit.specs.Chosen.{noChoice, choiceOf, Makes}
+use Rattle.fit.specs.Outcome.{piecesIn, placesIn, bytesIn, closePiece, Counted, Counts, StoresPiece}
 
 next : (a : List ℕ) (i : ℕ) (l : List ℕ) → i < length a → drop (suc i) a ≡ l → drop i a ≡ getD a i 0 ∷ l
 next a i l h e = drop-cons a i 0 h ∙ ap (λ (x : List ℕ). getD a i 0 ∷ x) e
@@ -25,14 +27,49 @@ pub nine-kept : {a : List ℕ} {x₀ x₁ x₂ x₃ x₄ x₅ x₆ x₇ x₈ : �
     → x₀ ∷ x₁ ∷ x₂ ∷ x₃ ∷ x₄ ∷ x₅ ∷ x₆ ∷ x₇ ∷ x₈ ∷ [] ≡ a
 nine-kept {a} l e₀ e₁ e₂ e₃ e₄ e₅ e₆ e₇ e₈ = rw (e₀, e₁, e₂, e₃, e₄, e₅, e₆, e₇, e₈) (all-nine a l)
 
--- the choice whose pieces are widened, part by part
-pub choice-widened : (ps : List ℕ) (t : ℕ) (o : Outcome) (a b : List ℕ) → length ps ≡ 18 → a ≡ take (9 - 0) ps → b ≡ take (18 - 9) (drop 9 ps)
-    → _≡_ {A = Choice} record { found = true; template = t; starts = a; lens = b; places = o .places; bytes = o .bytes } (choiceOf ps t o)
-choice-widened ps t o a b l e f =
-    let x : a ≡ take 9 ps = e in
-    let y : b ≡ drop 9 ps = f ∙ take-all 9 (drop 9 ps) (omega (arith, length-drop 9 ps)) in
-    rw (x, y) refl
+-- the choice whose pieces are copied, part by part
+pub choice-copied : (ns : List ℕ) (t : ℕ) (a b : List ℕ) → length ns ≡ 20 → a ≡ take (9 - 0) ns → b ≡ take (18 - 9) (drop 9 ns) → placesIn ns < 2 ^ 64 → bytesIn ns < 2 ^ 64
+    → Makes (choiceOf ns t) (record { found = true; template = t; starts = a; lens = b; places = placesIn ns; bytes = bytesIn ns })
+choice-copied ns t a b l e f u v =
+    let x : a ≡ take 9 (take 18 ns) = e ∙ sym (take-take 9 18 ns (omega arith)) in
+    let y : b ≡ drop 9 (take 18 ns) = f ∙ sym (drop-take 9 18 ns) in
+    record { is = rw (x, y) refl; places = u; bytes = v }
 
--- the length's place lies in the lent bytes
-pub piece-room : (k n : ℕ) → k < 9 → n ≡ 18 → k + 9 < n
+-- no call
+pub no-choice-made : (ns : List ℕ) → placesIn ns < 2 ^ 64 → bytesIn ns < 2 ^ 64
+    → Makes (noChoice ns) (record { found = false; template = 0; starts = replicate 9 0; lens = replicate 9 0; places = placesIn ns; bytes = bytesIn ns })
+no-choice-made ns u v = record { is = refl; places = u; bytes = v }
+
+-- the length's place lies in the lent notes
+pub piece-room : (k n : ℕ) → k < 9 → n ≡ 20 → k + 9 < n
 piece-room k n h e = omega arith
+
+-- a piece's start and length are noted
+pub piece-noted : (k at : ℕ) (o : Outcome) (ns : List ℕ) → k < 9 → length ns ≡ 20 → StoresPiece k at o ns (set (set ns k at) (k + 9) (o .rest)) (closePiece o)
+piece-noted k at o ns lt e = record {
+  stored = take-set-lt 18 (set ns k at) (k + 9) (o .rest) (omega arith) ∙ ap (λ (x : List ℕ). set x (k + 9) (o .rest)) (take-set-lt 18 ns k at (omega arith));
+  counted = record { more-places = rw (kept 18 (omega arith)) (omega arith); more-bytes = rw (kept 19 (omega arith)) (omega arith) };
+  is = refl;
+}
+  where
+    kept : (q : ℕ) → 17 < q → getD (set (set ns k at) (k + 9) (o .rest)) q 0 ≡ getD ns q 0
+    kept q u = getD-set-other (set ns k at) (k + 9) q (o .rest) 0 (λ z. omega arith) ∙ getD-set-other ns k q at 0 (λ z. omega arith)
+
+-- a place more, or bytes more, are counted
+pub place-counts : (ns : List ℕ) (r : ℕ) → length ns ≡ 20 → r ≡ (getD ns 18 0 + 1) % 2 ^ 64 → Counts 1 0 ns (set ns 18 r)
+place-counts ns r e w = record {
+  counted = record {
+    more-places = rw (getD-set-same ns 18 r 0 (omega arith)) (omega (arith, w));
+    more-bytes = rw (getD-set-other ns 18 19 r 0 (λ z. omega arith)) (omega arith);
+  };
+  stay = take-set-le 18 ns 18 r (omega arith);
+}
+
+pub bytes-count : (ns : List ℕ) (n r : ℕ) → length ns ≡ 20 → r ≡ (getD ns 19 0 + n) % 2 ^ 64 → Counts 0 n ns (set ns 19 r)
+bytes-count ns n r e w = record {
+  counted = record {
+    more-places = rw (getD-set-other ns 19 18 r 0 (λ z. omega arith)) (omega arith);
+    more-bytes = rw (getD-set-same ns 19 r 0 (omega arith)) (omega (arith, w));
+  };
+  stay = take-set-le 18 ns 19 r (omega arith);
+}

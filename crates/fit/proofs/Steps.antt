@@ -16,17 +16,16 @@ use Rattle.model.specs.Limits.{lineMost, nodesMost}
 use Rattle.model.specs.declared.Marks.{Marks}
 use Rattle.model.specs.Text.{Bytes, part}
 use Rattle.model.specs.Parts.{Elem, lit, hole, stop}
-use Rattle.model.specs.Places.{Found, withByte, pieceFound, withAtom, Place, isIn, Tried, idle, within, orTry, takeUp, afterLook, bytesOfLook, tryChild, tryEnd, tryAtom, tryByte, tryPiece, tryPlace}
+use Rattle.model.specs.Places.{Found, withByte, pieceFound, withAtom, Place, isIn, Tried, idle, within, orTry, takeUp, tryChild, tryEnd, tryAtom, tryByte, tryPiece, tryPlace}
 use Rattle.model.proofs.Choices.{false-not-true}
 use Rattle.model.proofs.Atoms.{none-some}
-use Rattle.model.proofs.Looks.{look-atom, look-most}
 use Rattle.model.proofs.Search.{rest-end, rest-byte, rest-piece}
 use Rattle.atom.specs.declared.Scanned.{Scanned}
 use Rattle.atom.specs.Atoms.{AtomAt}
 use Rattle.nodes.specs.declared.Node.{Node}
 use Rattle.nodes.specs.Rows.{noNode, elem, firstOf, countOf, code, kid, holey, height, holes, Tree, ChildFor, Stands}
 use Rattle.nodes.proofs.Rows.{kid-child, kid-falls, kid-lit, holes-lit, holes-hole, front-node, front-long, front-within, front-child}
-use Rattle.fit.specs.Outcome.{blank, onlyRead, passAtom, elementOf, elementAt, withPieceAt, withPieces, StoresPiece, startsIn, lensIn, Told, Says, HoldsDead, endsAt}
+use Rattle.fit.specs.Outcome.{blank, passAtom, elementOf, elementAt, piecesIn, Counted, Counts, withPieceAt, withPieces, StoresPiece, startsIn, lensIn, Told, Says, HoldsDead}
 use Rattle.fit.specs.Outcome.{Lent, Outcomes, sizeIn, placeTried, byteStep, pieceStep, atomStep, Asks, Comes, SearchedIn, ByteSearched, PieceSearched, AtomSearched}
 use Rattle.fit.specs.declared.Outcome.{Outcome}
 
@@ -54,17 +53,17 @@ atom-front m line end at e h = let z : end - 0 ≡ end = omega arith in subst (�
 -- ---- what an outcome says
 
 -- with node 0, that nothing is found
-pub told-none : (k at : ℕ) (x : Option Found) (o : Outcome) (ps ps′ : Bytes) → Told k at x o ps ps′ → o .node ≡ 0 → x ≡ none
+pub told-none : (k at : ℕ) (x : Option Found) (o : Outcome) (ps ps′ : List ℕ) → Told k at x o ps ps′ → o .node ≡ 0 → x ≡ none
 told-none k at none o ps ps′ h e = refl
 told-none k at (some f) o ps ps′ h e = absurd (omega (arith, h .0, e))
 
 -- with any other, what is found
-pub told-some : (k at : ℕ) (x : Option Found) (o : Outcome) (ps ps′ : Bytes) → Told k at x o ps ps′ → ¬ (o .node ≡ 0) → (f : Found) × (x ≡ some f) × Told k at (some f) o ps ps′
+pub told-some : (k at : ℕ) (x : Option Found) (o : Outcome) (ps ps′ : List ℕ) → Told k at x o ps ps′ → ¬ (o .node ≡ 0) → (f : Found) × (x ≡ some f) × Told k at (some f) o ps ps′
 told-some k at none o ps ps′ h e = absurd (e (h .0))
 told-some k at (some f) o ps ps′ h e = (f, refl, h)
 
 -- a byte in front leaves the outcome as it is
-told-byte : (k k′ at b : ℕ) (x : Option Found) (o : Outcome) (ps ps′ : Bytes) → k′ ≡ k → ((f : Found) → x ≡ some f → f .rest ≡ []) → Told k′ (at + 1) x o ps ps′ → Told k at (withByte b x) o ps ps′
+told-byte : (k k′ at b : ℕ) (x : Option Found) (o : Outcome) (ps ps′ : List ℕ) → k′ ≡ k → ((f : Found) → x ≡ some f → f .rest ≡ []) → Told k′ (at + 1) x o ps ps′ → Told k at (withByte b x) o ps ps′
 unfolding startsIn
 told-byte k k′ at b none o ps ps′ y z h = h
 told-byte k k′ at b (some f) o ps ps′ y z (p, e, r, s) =
@@ -73,26 +72,27 @@ told-byte k k′ at b (some f) o ps ps′ y z (p, e, r, s) =
     (p, e, r ∙ q, s ∙ ap₂ (λ (i j : ℕ). withPieces i (startsIn j (f .parts)) (lensIn (f .parts)) ps) y x)
 
 -- where a piece starts, it is stored
-told-piece : (k k′ at : ℕ) (x : Option Found) (o r : Outcome) (ps ps1 ps2 : Bytes) → k′ ≡ k + 1 → ¬ (o .node ≡ 0) → StoresPiece k at o ps1 ps2 r → Told k′ at x o ps ps1 → Told k at (pieceFound x) r ps ps2
+told-piece : (k k′ at : ℕ) (x : Option Found) (o r : Outcome) (ps ns1 ns2 : List ℕ) → k′ ≡ k + 1 → ¬ (o .node ≡ 0) → StoresPiece k at o ns1 ns2 r → Told k′ at x o ps (piecesIn ns1)
+    → Told k at (pieceFound x) r ps (piecesIn ns2)
 unfolding startsIn withPieces
-told-piece k k′ at none o r ps ps1 ps2 x z q h = absurd (z (h .0))
-told-piece k k′ at (some f) o r ps ps1 ps2 x z q (p, e, u, s) =
+told-piece k k′ at none o r ps ns1 ns2 x z q h = absurd (z (h .0))
+told-piece k k′ at (some f) o r ps ns1 ns2 x z q (p, e, u, s) =
     let y : at + 0 ≡ at = omega arith in
     rw (q .is) (
       p,
       e,
       refl,
-      rw y (q .stored ∙ ap₂ (λ (l : ℕ) (w : Bytes). withPieceAt k at l w) u
+      rw y (q .stored ∙ ap₂ (λ (l : ℕ) (w : List ℕ). withPieceAt k at l w) u
           (s ∙ ap (λ (i : ℕ). withPieces i (startsIn (at + length (f .rest)) (f .parts)) (lensIn (f .parts)) ps) x)),
     )
 
 -- where none is found, none is stored
-told-no-piece : (k k′ at : ℕ) (x : Option Found) (o : Outcome) (ps ps1 : Bytes) → o .node ≡ 0 → Told k′ at x o ps ps1 → Told k at (pieceFound x) o ps ps1
+told-no-piece : (k k′ at : ℕ) (x : Option Found) (o : Outcome) (ps ps1 : List ℕ) → o .node ≡ 0 → Told k′ at x o ps ps1 → Told k at (pieceFound x) o ps ps1
 told-no-piece k k′ at none o ps ps1 z h = h
 told-no-piece k k′ at (some f) o ps ps1 z h = absurd (omega (arith, h .0, z))
 
 -- an atom makes the open piece longer
-told-atom : (k at e : ℕ) (a : Bytes) (x : Option Found) (o : Outcome) (ps ps′ : Bytes) → at + length a ≡ e → Told k e x o ps ps′ → Told k at (withAtom a x) (passAtom (e - at) o) ps ps′
+told-atom : (k at e : ℕ) (a : Bytes) (x : Option Found) (o : Outcome) (ps ps′ : List ℕ) → at + length a ≡ e → Told k e x o ps ps′ → Told k at (withAtom a x) (passAtom (e - at) o) ps ps′
 told-atom k at e a none o ps ps′ h t = t
 told-atom k at e a (some f) o ps ps′ h (p, n, r, s) =
     let y : e + length (f .rest) ≡ at + length (a ++ f .rest) = omega (arith, length-append a (f .rest)) in
@@ -170,21 +170,10 @@ module _ {row : List Node} {made node : ℕ} (s : Stands row made) (lt : node < 
       let y : height (take made row) (suc j) ≡ height row c = ap (height (take made row)) (sym v) ∙ ap (λ (n : Node). n .height) (front-node row made c child-there) in
       omega (arith, l, y, ap (λ (n : Node). n .height) (front-node row made node lt))
 
--- which children are a template's end
-module _ (rows : List Node) where
-  pub ends-stop : (i c : ℕ) → kid rows i stop ≡ suc c → endsAt rows (suc c) ≡ true
-  ends-stop i c w = eq-eqb (elem rows (suc c)) 0 (kid-child rows i stop c w .1)
-
-  pub ends-lit : (i b c : ℕ) → kid rows i (lit b) ≡ suc c → endsAt rows (suc c) ≡ false
-  ends-lit i b c w = let h = kid-child rows i (lit b) c w .1 in ne-eqb (elem rows (suc c)) 0 (λ z. omega (arith, h, z))
-
-  pub ends-hole : (i c : ℕ) → kid rows i hole ≡ suc c → endsAt rows (suc c) ≡ false
-  ends-hole i c w = let h = kid-child rows i hole c w .1 in ne-eqb (elem rows (suc c)) 0 (λ z. omega (arith, h, z))
-
--- the search can ask of another node and place of the same rows
-elsewhere : {row : List Node} {dead pieces line : Bytes} {end node at : ℕ} (a : Asks row dead pieces line end node at) (node′ at′ : ℕ) → node′ < a .made → at′ ≤ end
-    → endsAt (take (a .made) row) node′ ≡ false → Asks row dead pieces line end node′ at′
-elsewhere a node′ at′ th lo pl = record {
+-- the search can ask of another node and place, and with other rows that are as long
+elsewhere : {row : List Node} {dead : Bytes} {notes : List ℕ} {line : Bytes} {end node at : ℕ} (a : Asks row dead notes line end node at) (dead1 : Bytes) (notes1 : List ℕ) (node′ at′ : ℕ)
+    → length dead1 ≡ length dead → length notes1 ≡ length notes → node′ < a .made → at′ ≤ end → Asks row dead1 notes1 line end node′ at′
+elsewhere a dead1 notes1 node′ at′ u v th lo = record {
   made = a .made;
   stands = a .stands;
   there = th;
@@ -192,15 +181,11 @@ elsewhere a node′ at′ th lo pl = record {
   high = a .high;
   few = a .few;
   short = a .short;
-  room = a .room;
-  plain = pl;
-  marked = a .marked;
-  holds = a .holds;
-  no-ends = a .no-ends;
-  nine = a .nine;
+  room = omega (arith, a .room, u);
+  twenty = v ∙ a .twenty;
 }
 
-module _ {row : List Node} {dead pieces line : Bytes} {end node at : ℕ} (a : Asks row dead pieces line end node at) where
+module _ {row : List Node} {dead : Bytes} {notes : List ℕ} {line : Bytes} {end node at : ℕ} (a : Asks row dead notes line end node at) where
   -- the node is one of the row's
   pub asks-node : node < length row
   asks-node = omega (arith, a .there, a .stands .within)
@@ -224,28 +209,18 @@ module _ {row : List Node} {dead pieces line : Bytes} {end node at : ℕ} (a : A
   pub line-long : length (take end line) ≡ end
   line-long = length-take-le end line (a .high)
 
-  -- the row's dead places, for the line and the tree that are searched
-  pub line-holds : HoldsDead (length (take (a .made) row)) (suc (length (take end line))) dead (a .marked)
-  line-holds = rw (line-long, front-long (a .stands)) (a .holds)
+  -- the same can be asked after a step, which leaves rows that are as long
+  pub asks-again : {dead1 : Bytes} {notes1 : List ℕ} → length dead1 ≡ length dead → length notes1 ≡ length notes → Asks row dead1 notes1 line end node at
+  asks-again {dead1} {notes1} u v = elsewhere a dead1 notes1 node at u v (a .there) (a .low)
 
   module _ {e c : ℕ} (h : ChildFor row node e c) where
-    -- the search can go on at a child, where there is one
-    go-on : (x : Elem) (at′ : ℕ) → e ≡ code x → ((j : ℕ) → kid (take (a .made) row) node x ≡ suc j → endsAt (take (a .made) row) (suc j) ≡ false) → ¬ (c ≡ 0) → at′ ≤ end
-        → Asks row dead pieces line end c at′
-    go-on x at′ w p z l =
-        let (j, v) = suc-of c z in
-        elsewhere a c at′ (child-there (a .stands) (a .there) h) l (rw v (p j (sym (child-is (a .stands) (a .there) h x w) ∙ v)))
+    -- the search can go on at the placeholder's child
+    pub asks-piece : Asks row dead notes line end c at
+    asks-piece = elsewhere a dead notes c at refl refl (child-there (a .stands) (a .there) h) (a .low)
 
-    -- at the placeholder's child
-    pub asks-piece : e ≡ 1 → ¬ (c ≡ 0) → Asks row dead pieces line end c at
-    asks-piece w z = go-on hole at w (ends-hole (take (a .made) row) node) z (a .low)
-
-    -- and there past a byte
-    pub asks-byte : e ≡ code (elementAt (take end line) at) → ¬ (c ≡ 0) → ¬ (at ≡ end) → Asks row dead pieces line end c (at + 1)
-    asks-byte w z n =
-        let lt : at < length (take end line) = omega (arith, line-long, a .low, n) in
-        let d = drop-cons (take end line) at 0 lt in
-        go-on (lit (getD (take end line) at 0)) (at + 1) (w ∙ ap (λ (s : Bytes). code (elementOf s)) d) (ends-lit (take (a .made) row) node (getD (take end line) at 0)) z (omega (arith, a .low, n))
+    -- and at a byte's, past the byte
+    pub asks-byte : ¬ (at ≡ end) → Asks row dead notes line end c (at + 1)
+    asks-byte n = elsewhere a dead notes c (at + 1) refl refl (child-there (a .stands) (a .there) h) (omega (arith, a .low, n))
 
     -- the child is less high, so the measure falls
     pub byte-less : e ≡ code (elementAt (take end line) at) → ¬ (c ≡ 0) → ¬ (at ≡ end) → 3 * (height row c + (end - (at + 1))) + 2 < 3 * (height row node + (end - at))
@@ -262,20 +237,14 @@ module _ {row : List Node} {dead pieces line : Bytes} {end node at : ℕ} (a : A
         let u = holes-hole rows (a .stands .tree) node j (sym (child-is (a .stands) (a .there) h hole w) ∙ v) in
         omega (arith, u, a .stands .tree .nine (suc j), y, ap (λ (n : Node). n .holes) (x ∙ sym (front-node row (a .made) node (a .there))))
 
-    -- and its start and its length are bytes
-    pub piece-fits : {m : Marks} {n : Node} {k : ℕ} {dead′ pieces′ : Bytes} {o : Outcome} → e ≡ 1 → ¬ (c ≡ 0) → SearchedIn m row (take end line) c at dead dead′ pieces pieces′ o → length pieces′ ≡ length pieces
-        → n ≡ getD row node noNode → k ≡ n .holes → (k < 9) × (at < 256) × (o .rest < 256) × (length pieces′ ≡ 18)
-    piece-fits w z g l x y = (
-      below-nine w z x y,
-      omega (arith, a .low, a .short),
-      omega (arith, g .comes .each (a .made) (a .stands) (child-there (a .stands) (a .there) h) .short, line-long, a .short),
-      l ∙ a .nine,
-    )
+    pub piece-fits : {m : Marks} {n : Node} {k : ℕ} {dead1 : Bytes} {notes1 : List ℕ} {o : Outcome} → e ≡ 1 → ¬ (c ≡ 0) → SearchedIn m row (take end line) c at dead dead1 notes notes1 o
+        → length notes1 ≡ length notes → n ≡ getD row node noNode → k ≡ n .holes → (k < 9) × (length notes1 ≡ 20)
+    piece-fits w z g l x y = (below-nine w z x y, l ∙ a .twenty)
 
   module _ {m : Marks} {e : Scanned} (h : AtomAt m (take end line) at e) (z : ¬ (e .end ≡ 0)) where
     -- the search can go on past an atom
-    pub asks-atom : Asks row dead pieces line end node (e .end)
-    asks-atom = elsewhere a node (e .end) (a .there) (omega (arith, h .within, line-long)) (a .plain)
+    pub asks-atom : {notes1 : List ℕ} → length notes1 ≡ length notes → Asks row dead notes1 line end node (e .end)
+    asks-atom {notes1} l = elsewhere a dead notes1 node (e .end) refl l (a .there) (omega (arith, h .within, line-long))
 
     -- the atom has a byte
     atom-ahead : at < e .end
@@ -289,50 +258,52 @@ module _ {row : List Node} {dead pieces line : Bytes} {end node at : ℕ} (a : A
     pub atom-less : 3 * (height row node + (end - e .end)) + 2 < 3 * (height row node + (end - at))
     atom-less = omega (arith, atom-ahead, h .within, line-long)
 
-    -- the piece stays within the line, and few bytes are read, so both sums fit
-    pub atom-fits : {o : Outcome} {dead′ pieces′ : Bytes} → SearchedIn m row (take end line) node (e .end) dead dead′ pieces pieces′ o → (o .rest + (e .end - at) < 2 ^ 64) × (o .bytes + (e .end - at) < 2 ^ 64)
-    atom-fits g = (
-      omega (arith, g .comes .each (a .made) (a .stands) (a .there) .short, atom-ahead, h .within, line-long, a .short),
-      omega (arith, g .comes .read, h .within, line-long, a .short),
-    )
+    -- the piece stays within the line, so its length fits
+    pub atom-fits : {o : Outcome} {dead′ : Bytes} {notes1 notes′ : List ℕ} → SearchedIn m row (take end line) node (e .end) dead dead′ notes1 notes′ o → o .rest + (e .end - at) < 2 ^ 64
+    atom-fits g = omega (arith, g .comes .each (a .made) (a .stands) (a .there) .short, atom-ahead, h .within, line-long, a .short)
+
+-- ---- counts
+
+-- nothing is counted
+pub counted-none : (ns : List ℕ) → Counted 0 0 ns ns
+counted-none ns = record { more-places = omega arith; more-bytes = omega arith }
+
+-- first some are counted, and then more
+pub counted-more : {p b q c : ℕ} (k n : ℕ) {ns ns1 ns2 : List ℕ} → k ≡ p + q → n ≡ b + c → Counted p b ns ns1 → Counted q c ns1 ns2 → Counted k n ns ns2
+counted-more k n u v x y = record {
+  more-places = omega (arith, u, x .more-places, y .more-places);
+  more-bytes = omega (arith, v, x .more-bytes, y .more-bytes);
+}
 
 -- ---- steps that take up nothing
 
--- a look that leads nowhere leaves the rows as they are
-pub look-comes : {row : List Node} {line : Bytes} {node at F G c : ℕ} {fuel : List Node → ℕ} {step : List Node → ℕ → List Place → Tried} {dead pieces : Bytes} {o : Outcome}
-    → ((made : ℕ) → Stands row made → node < made → (n : ℕ) (ds : List Place) → HoldsDead (length (take made row)) (suc (length line)) dead ds → fuel (take made row) ≤ n → step (take made row) n ds ≡ afterLook c (idle ds))
-    → c ≤ G → o ≡ onlyRead c → Comes row line node at fuel F G step (record { dead = dead; dead′ = dead; pieces = pieces; pieces′ = pieces }) o
-look-comes {row} {line} {node} {at} h le e = rw e record {
+-- a step that takes up no place and reads nothing leaves the rows as they are
+pub idle-comes : {row : List Node} {line : Bytes} {node at : ℕ} {fuel : List Node → ℕ} {step : List Node → ℕ → List Place → Tried} {dead : Bytes} {notes : List ℕ} {o : Outcome}
+    → ((made : ℕ) → Stands row made → node < made → (n : ℕ) (ds : List Place) → HoldsDead (length (take made row)) (suc (length line)) dead ds → fuel (take made row) ≤ n → step (take made row) n ds ≡ idle ds)
+    → o ≡ blank 0 → Comes row line node at fuel step (record { dead = dead; dead′ = dead; notes = notes; notes′ = notes }) o
+idle-comes {notes = notes} h e = rw e record {
   each = λ made s lt. record {
-    says = λ n l ds k. rw (h made s lt n ds k l) (record { told = (refl, refl); places = refl; bytes = omega arith }, k);
+    says = λ n l ds k. rw (h made s lt n ds k l) (record { told = (refl, refl); counted = counted-none notes }, k);
     short = omega arith;
     there = omega (arith, lt, front-long s);
   };
-  few = omega arith;
-  read = le;
 }
-
--- and so does a step that takes up no place and reads nothing
-pub idle-comes : {row : List Node} {line : Bytes} {node at F G : ℕ} {fuel : List Node → ℕ} {step : List Node → ℕ → List Place → Tried} {dead pieces : Bytes} {o : Outcome}
-    → ((made : ℕ) → Stands row made → node < made → (n : ℕ) (ds : List Place) → HoldsDead (length (take made row)) (suc (length line)) dead ds → fuel (take made row) ≤ n → step (take made row) n ds ≡ idle ds)
-    → o ≡ blank 0 0 → Comes row line node at fuel F G step (record { dead = dead; dead′ = dead; pieces = pieces; pieces′ = pieces }) o
-idle-comes h e = look-comes (λ made s lt n ds k l. h made s lt n ds k l) (omega arith) e
 
 -- no child has the byte, nor the end
 no-child : (kid : ℕ → Elem → ℕ) (F : ℕ → ℕ → Bytes → List Place → Tried) (i p : ℕ) (s : Bytes) (ds : List Place) → kid i (elementOf s) ≡ 0 → tryByte kid F i p s ds ≡ idle ds
 no-child kid F i p [] ds z = ap (λ (c : ℕ). tryEnd c p ds) z
 no-child kid F i p (b ∷ s) ds z = ap (λ (c : ℕ). within (withByte b) (tryChild (λ j. F j (p + 1) s ds) c ds)) z
 
-module _ {m : Marks} {row : List Node} {line : Bytes} {node at e c : ℕ} {dead pieces : Bytes} (h : ChildFor row node e c) where
+module _ {m : Marks} {row : List Node} {line : Bytes} {node at e c : ℕ} {dead : Bytes} {notes : List ℕ} (h : ChildFor row node e c) where
   -- no child has the byte, nor the end
-  pub byte-none : {o : Outcome} → e ≡ code (elementAt line at) → c ≡ 0 → o ≡ blank 0 0 → ByteSearched m row line node at dead dead pieces pieces o
+  pub byte-none : {o : Outcome} → e ≡ code (elementAt line at) → c ≡ 0 → o ≡ blank 0 → ByteSearched m row line node at dead dead notes notes o
   byte-none w z q = record {
     comes = idle-comes (λ made s lt n ds k l. no-child (kid (take made row)) (tryPlace m (kid (take made row)) (holey (take made row)) n) node at (drop at line) ds
         (sym (child-is s lt h (elementAt line at) w) ∙ z)) q;
   }
 
   -- no child is a placeholder's
-  pub piece-none : {o : Outcome} → e ≡ 1 → c ≡ 0 → o ≡ blank 0 0 → PieceSearched m row line node at dead dead pieces pieces o
+  pub piece-none : {o : Outcome} → e ≡ 1 → c ≡ 0 → o ≡ blank 0 → PieceSearched m row line node at dead dead notes notes o
   piece-none w z q = record {
     comes = idle-comes (λ made s lt n ds k l. ap (λ (i : ℕ). within pieceFound (tryChild (λ j. tryPlace m (kid (take made row)) (holey (take made row)) n j at (drop at line) ds) i ds))
         (sym (child-is s lt h hole w) ∙ z)) q;
@@ -343,7 +314,7 @@ module _ {m : Marks} {row : List Node} {line : Bytes} {node at e c : ℕ} {dead 
 -- what is found at a child: c is the child for x, and o the outcome from `next` on
 child-said : (m : Marks) (rows : List Node) (line : Bytes) (node at next n : ℕ) (x : Elem) (c : ℕ) (l : Lent) (ds : List Place) (o : Outcome) → Tree rows → c ≡ kid rows node x → ¬ (c ≡ 0) → at ≤ next
     → sizeIn rows line node at ≤ n → HoldsDead (length rows) (suc (length line)) (l .dead) ds → Outcomes rows line c next (suc (sizeIn rows line c next)) (λ n. placeTried m rows line c next n) l o
-    → Says (holes rows c) next (tryChild (λ j. tryPlace m (kid rows) (holey rows) n j next (drop next line) ds) (kid rows node x) ds) o (l .pieces) (l .pieces′)
+    → Says (holes rows c) next (tryChild (λ j. tryPlace m (kid rows) (holey rows) n j next (drop next line) ds) (kid rows node x) ds) o (l .notes) (l .notes′)
     × HoldsDead (length rows) (suc (length line)) (l .dead′) (tryChild (λ j. tryPlace m (kid rows) (holey rows) n j next (drop next line) ds) (kid rows node x) ds .dead)
 child-said m rows line node at next n x c l ds o tree w z le lt k h =
     let (j, v) = suc-of c z in
@@ -352,16 +323,16 @@ child-said m rows line node at next n x c l ds o tree w z le lt k h =
     rw (y, ← v) (h .says n (omega (arith, f, ap (height rows) v)) ds k)
 
 module _ (m : Marks) (rows : List Node) (line : Bytes) (node at c : ℕ) (o : Outcome) (tree : Tree rows) (z : ¬ (c ≡ 0)) where
-  -- the template ends here
-  end-outcomes : (dead pieces : Bytes) → length line ≤ at → c ≡ kid rows node (elementAt line at) → c < length rows → o ≡ blank c 1
-      → Outcomes rows line node at (sizeIn rows line node at) (λ n. byteStep m rows line node at n) (record { dead = dead; dead′ = dead; pieces = pieces; pieces′ = pieces }) o
+  -- the template ends here, at a place that is counted
+  end-outcomes : (dead : Bytes) (notes notes1 : List ℕ) → length line ≤ at → c ≡ kid rows node (elementAt line at) → c < length rows → Counts 1 0 notes notes1 → o ≡ blank c
+      → Outcomes rows line node at (sizeIn rows line node at) (λ n. byteStep m rows line node at n) (record { dead = dead; dead′ = dead; notes = notes; notes′ = notes1 }) o
   unfolding startsIn withPieces
-  end-outcomes dead pieces le w lt e =
+  end-outcomes dead notes notes1 le w lt q e =
       let (j, x) = suc-of c z in
       let d : drop at line ≡ [] = drop-of-length-le line le in
       let y : kid rows node stop ≡ suc j = ap (λ (s : Bytes). kid rows node (elementOf s)) (sym d) ∙ sym w ∙ x in
       rw e record {
-        says = λ n l ds k. rw (d, y) (record { told = (omega (arith, x), x, refl, refl); places = refl; bytes = refl }, k);
+        says = λ n l ds k. rw (d, y) (record { told = (omega (arith, x), x, refl, q .stay); counted = q .counted }, k);
         short = omega arith;
         there = lt;
       }
@@ -381,7 +352,7 @@ module _ (m : Marks) (rows : List Node) (line : Bytes) (node at c : ℕ) (o : Ou
       is = w ∙ ap (λ (s : Bytes). kid rows node (elementOf s)) d
 
       says : (n : ℕ) → sizeIn rows line node at ≤ n → (ds : List Place) → HoldsDead (length rows) (suc (length line)) (l .dead) ds
-          → Says (holes rows node) at (byteStep m rows line node at n ds) o (l .pieces) (l .pieces′) × HoldsDead (length rows) (suc (length line)) (l .dead′) (byteStep m rows line node at n ds .dead)
+          → Says (holes rows node) at (byteStep m rows line node at n ds) o (l .notes) (l .notes′) × HoldsDead (length rows) (suc (length line)) (l .dead′) (byteStep m rows line node at n ds .dead)
       says n le ds k =
           let (j, v) = suc-of c z in
           let y : kid rows node (lit b) ≡ suc j = sym is ∙ v in
@@ -389,36 +360,34 @@ module _ (m : Marks) (rows : List Node) (line : Bytes) (node at c : ℕ) (o : Ou
           let (s, g) = child-said m rows line node at (at + 1) n (lit b) c l ds o tree is z (omega arith) le k h in
           rw d (
             record {
-              told = told-byte (holes rows node) (holes rows c) at b (t .found) o (l .pieces) (l .pieces′) (ap (holes rows) v ∙ holes-lit rows tree node b j y)
+              told = told-byte (holes rows node) (holes rows c) at b (t .found) o (piecesIn (l .notes)) (piecesIn (l .notes′)) (ap (holes rows) v ∙ holes-lit rows tree node b j y)
                   (λ f e. place-rest m (kid rows) (holey rows) n (suc j) (at + 1) (drop (at + 1) line) ds f (kid-lit rows tree node b j y)
                   (subst (λ (i : ℕ). tryChild (λ j. tryPlace m (kid rows) (holey rows) n j (at + 1) (drop (at + 1) line) ds) i ds .found ≡ some f) y e)) (s .told);
-              places = s .places;
-              bytes = s .bytes;
+              counted = s .counted;
             },
             g,
           )
 
   -- what is found at the placeholder's child is a piece, and what follows it; r is the outcome with the piece stored
-  module _ (dead dead1 pieces pieces1 : Bytes) (w : c ≡ kid rows node hole)
-      (h : Outcomes rows line c at (suc (sizeIn rows line c at)) (λ n. placeTried m rows line c at n) (record { dead = dead; dead′ = dead1; pieces = pieces; pieces′ = pieces1 }) o) where
+  module _ (dead dead1 : Bytes) (notes notes1 : List ℕ) (w : c ≡ kid rows node hole)
+      (h : Outcomes rows line c at (suc (sizeIn rows line c at)) (λ n. placeTried m rows line c at n) (record { dead = dead; dead′ = dead1; notes = notes; notes′ = notes1 }) o) where
     -- what the search of the child says
     said-child : (n : ℕ) → sizeIn rows line node at ≤ n → (ds : List Place) → HoldsDead (length rows) (suc (length line)) dead ds
-        → Says (holes rows c) at (tryChild (λ j. tryPlace m (kid rows) (holey rows) n j at (drop at line) ds) (kid rows node hole) ds) o pieces pieces1
+        → Says (holes rows c) at (tryChild (λ j. tryPlace m (kid rows) (holey rows) n j at (drop at line) ds) (kid rows node hole) ds) o notes notes1
         × HoldsDead (length rows) (suc (length line)) dead1 (tryChild (λ j. tryPlace m (kid rows) (holey rows) n j at (drop at line) ds) (kid rows node hole) ds .dead)
-    said-child n le ds k = child-said m rows line node at at n hole c (record { dead = dead; dead′ = dead1; pieces = pieces; pieces′ = pieces1 }) ds o tree w z (omega arith) le k h
+    said-child n le ds k = child-said m rows line node at at n hole c (record { dead = dead; dead′ = dead1; notes = notes; notes′ = notes1 }) ds o tree w z (omega arith) le k h
 
     -- with the piece stored
-    piece-outcomes : (pieces2 : Bytes) (r : Outcome) → ¬ (o .node ≡ 0) → StoresPiece (holes rows node) at o pieces1 pieces2 r
-        → Outcomes rows line node at (sizeIn rows line node at) (λ n. pieceStep m rows line node at n) (record { dead = dead; dead′ = dead1; pieces = pieces; pieces′ = pieces2 }) r
-    piece-outcomes pieces2 r f q = record {
+    piece-outcomes : (notes2 : List ℕ) (r : Outcome) → ¬ (o .node ≡ 0) → StoresPiece (holes rows node) at o notes1 notes2 r
+        → Outcomes rows line node at (sizeIn rows line node at) (λ n. pieceStep m rows line node at n) (record { dead = dead; dead′ = dead1; notes = notes; notes′ = notes2 }) r
+    piece-outcomes notes2 r f q = record {
       says = λ n le ds k.
           let (j, v) = suc-of c z in
           let t : Tried = tryChild (λ j. tryPlace m (kid rows) (holey rows) n j at (drop at line) ds) (kid rows node hole) ds in
           let (s, g) = said-child n le ds k in (
             record {
-              told = told-piece (holes rows node) (holes rows c) at (t .found) o r pieces pieces1 pieces2 (ap (holes rows) v ∙ holes-hole rows tree node j (sym w ∙ v)) f q (s .told);
-              places = ap (λ (o : Outcome). o .places) (q .is) ∙ s .places;
-              bytes = ap (λ (o : Outcome). o .bytes) (q .is) ∙ s .bytes;
+              told = told-piece (holes rows node) (holes rows c) at (t .found) o r (piecesIn notes) notes1 notes2 (ap (holes rows) v ∙ holes-hole rows tree node j (sym w ∙ v)) f q (s .told);
+              counted = counted-more _ _ (omega arith) (omega arith) (s .counted) (q .counted);
             },
             g,
           );
@@ -427,66 +396,58 @@ module _ (m : Marks) (rows : List Node) (line : Bytes) (node at c : ℕ) (o : Ou
     }
 
     -- nothing is found there, nor here
-    no-piece-outcomes : o .node ≡ 0 → Outcomes rows line node at (sizeIn rows line node at) (λ n. pieceStep m rows line node at n) (record { dead = dead; dead′ = dead1; pieces = pieces; pieces′ = pieces1 }) o
+    no-piece-outcomes : o .node ≡ 0 → Outcomes rows line node at (sizeIn rows line node at) (λ n. pieceStep m rows line node at n) (record { dead = dead; dead′ = dead1; notes = notes; notes′ = notes1 }) o
     no-piece-outcomes f = record {
       says = λ n le ds k.
           let t : Tried = tryChild (λ j. tryPlace m (kid rows) (holey rows) n j at (drop at line) ds) (kid rows node hole) ds in
           let (s, g) = said-child n le ds k in
-          (record { told = told-no-piece (holes rows node) (holes rows c) at (t .found) o pieces pieces1 f (s .told); places = s .places; bytes = s .bytes }, g);
+          (record { told = told-no-piece (holes rows node) (holes rows c) at (t .found) o (piecesIn notes) (piecesIn notes1) f (s .told); counted = s .counted }, g);
       short = omega (arith, h .short);
       there = h .there;
     }
 
-module _ {m : Marks} {row : List Node} {dead pieces line : Bytes} {end node at : ℕ} (a : Asks row dead pieces line end node at) where
+module _ {m : Marks} {row : List Node} {dead : Bytes} {notes : List ℕ} {line : Bytes} {end node at : ℕ} (a : Asks row dead notes line end node at) where
   module _ {e c : ℕ} (h : ChildFor row node e c) {o : Outcome} (z : ¬ (c ≡ 0)) where
     -- the template ends here
-    pub byte-end : e ≡ code (elementAt (take end line) at) → at ≡ end → o ≡ blank c 1 → ByteSearched m row (take end line) node at dead dead pieces pieces o
-    byte-end w t q = record {
+    pub byte-end : {notes1 : List ℕ} → e ≡ code (elementAt (take end line) at) → at ≡ end → Counts 1 0 notes notes1 → o ≡ blank c → ByteSearched m row (take end line) node at dead dead notes notes1 o
+    byte-end {notes1} w t k q = record {
       comes = record {
         each = λ made s lt.
-            end-outcomes m (take made row) (take end line) node at c o (s .tree) z dead pieces (omega (arith, line-long a, t)) (child-is s lt h (elementAt (take end line) at) w)
-            (omega (arith, child-there s lt h, front-long s)) q;
-        few = omega (arith, ap (λ (o : Outcome). o .places) q);
-        read = omega (arith, ap (λ (o : Outcome). o .bytes) q);
+            end-outcomes m (take made row) (take end line) node at c o (s .tree) z dead notes notes1 (omega (arith, line-long a, t)) (child-is s lt h (elementAt (take end line) at) w)
+            (omega (arith, child-there s lt h, front-long s)) k q;
       };
     }
 
     -- what is found at the byte's child is found here
-    pub byte-below : {dead′ pieces′ : Bytes} → e ≡ code (elementAt (take end line) at) → ¬ (at ≡ end) → SearchedIn m row (take end line) c (at + 1) dead dead′ pieces pieces′ o
-        → ByteSearched m row (take end line) node at dead dead′ pieces pieces′ o
-    byte-below {dead′} {pieces′} w t g = record {
+    pub byte-below : {dead′ : Bytes} {notes′ : List ℕ} → e ≡ code (elementAt (take end line) at) → ¬ (at ≡ end) → SearchedIn m row (take end line) c (at + 1) dead dead′ notes notes′ o
+        → ByteSearched m row (take end line) node at dead dead′ notes notes′ o
+    byte-below {dead′} {notes′} w t g = record {
       comes = record {
         each = λ made s lt.
-            byte-outcomes m (take made row) (take end line) node at c o (s .tree) z (record { dead = dead; dead′ = dead′; pieces = pieces; pieces′ = pieces′ }) (omega (arith, line-long a, a .low, t))
+            byte-outcomes m (take made row) (take end line) node at c o (s .tree) z (record { dead = dead; dead′ = dead′; notes = notes; notes′ = notes′ }) (omega (arith, line-long a, a .low, t))
             (child-is s lt h (elementAt (take end line) at) w) (g .comes .each made s (child-there s lt h));
-        few = g .comes .few;
-        read = g .comes .read;
       };
     }
 
-    module _ {dead1 pieces1 : Bytes} (w : e ≡ 1) (g : SearchedIn m row (take end line) c at dead dead1 pieces pieces1 o) where
+    module _ {dead1 : Bytes} {notes1 : List ℕ} (w : e ≡ 1) (g : SearchedIn m row (take end line) c at dead dead1 notes notes1 o) where
       -- what is found at the placeholder's child is a piece, and what follows it
-      pub piece-below : {n : Node} {k : ℕ} {r : Outcome} {pieces2 : Bytes} → ¬ (o .node ≡ 0) → n ≡ getD row node noNode → k ≡ n .holes → StoresPiece k at o pieces1 pieces2 r
-          → PieceSearched m row (take end line) node at dead dead1 pieces pieces2 r
-      piece-below {n} {k} {r} {pieces2} f x y q = record {
+      pub piece-below : {n : Node} {k : ℕ} {r : Outcome} {notes2 : List ℕ} → ¬ (o .node ≡ 0) → n ≡ getD row node noNode → k ≡ n .holes → StoresPiece k at o notes1 notes2 r
+          → PieceSearched m row (take end line) node at dead dead1 notes notes2 r
+      piece-below {n} {k} {r} {notes2} f x y q = record {
         comes = record {
           each = λ made s lt.
               let v : k ≡ holes (take made row) node = y ∙ ap (λ (n : Node). n .holes) (x ∙ sym (front-node row made node lt)) in
-              piece-outcomes m (take made row) (take end line) node at c o (s .tree) z dead dead1 pieces pieces1 (child-is s lt h hole w) (g .comes .each made s (child-there s lt h)) pieces2 r f
-              (subst (λ (k : ℕ). StoresPiece k at o pieces1 pieces2 r) v q);
-          few = omega (arith, g .comes .few, ap (λ (o : Outcome). o .places) (q .is));
-          read = omega (arith, g .comes .read, ap (λ (o : Outcome). o .bytes) (q .is));
+              piece-outcomes m (take made row) (take end line) node at c o (s .tree) z dead dead1 notes notes1 (child-is s lt h hole w) (g .comes .each made s (child-there s lt h)) notes2 r f
+              (subst (λ (k : ℕ). StoresPiece k at o notes1 notes2 r) v q);
         };
       }
 
       -- nothing is found there
-      pub piece-nowhere : o .node ≡ 0 → PieceSearched m row (take end line) node at dead dead1 pieces pieces1 o
+      pub piece-nowhere : o .node ≡ 0 → PieceSearched m row (take end line) node at dead dead1 notes notes1 o
       piece-nowhere f = record {
         comes = record {
           each = λ made s lt.
-              no-piece-outcomes m (take made row) (take end line) node at c o (s .tree) z dead dead1 pieces pieces1 (child-is s lt h hole w) (g .comes .each made s (child-there s lt h)) f;
-          few = g .comes .few;
-          read = g .comes .read;
+              no-piece-outcomes m (take made row) (take end line) node at c o (s .tree) z dead dead1 notes notes1 (child-is s lt h hole w) (g .comes .each made s (child-there s lt h)) f;
         };
       }
 
@@ -496,58 +457,64 @@ module _ {m : Marks} {row : List Node} {dead pieces line : Bytes} {end node at :
 holey-is : (row : List Node) (node made : ℕ) {n : Node} {b : Bool} → node < made → n ≡ getD row node noNode → b ≡ eqb (n .element) 1 → holey (take made row) node ≡ b
 holey-is row node made lt x y = sym (y ∙ ap (λ (n : Node). eqb (n .element) 1) (x ∙ sym (front-node row made node lt)))
 
--- the atom makes the open piece longer
-atom-outcomes : (m : Marks) (rows : List Node) (line : Bytes) (node at : ℕ) (r : Scanned) (l : Lent) (o : Outcome) → holey rows node ≡ true → AtomAt m line at r → ¬ (r .end ≡ 0)
-    → Outcomes rows line node (r .end) (suc (sizeIn rows line node (r .end))) (λ n. placeTried m rows line node (r .end) n) l o
-    → Outcomes rows line node at (sizeIn rows line node at) (λ n. atomStep m rows line node at n) l (passAtom (r .end - at) o)
-atom-outcomes m rows line node at r l o t a z h = record { says = says; short = omega (arith, h .short, up, a .within); there = h .there }
-  where
-    e : ℕ
-    e = r .end
+module _ (m : Marks) (rows : List Node) (line : Bytes) (node at : ℕ) (r : Scanned) (t : holey rows node ≡ true) (a : AtomAt m line at r) where
+  -- there is no atom, and what the look reads is counted
+  look-outcomes : (dead : Bytes) (notes notes1 : List ℕ) (o : Outcome) → node < length rows → r .end ≡ 0 → Counts 0 (r .read) notes notes1 → o ≡ blank 0
+      → Outcomes rows line node at (sizeIn rows line node at) (λ n. atomStep m rows line node at n) (record { dead = dead; dead′ = dead; notes = notes; notes′ = notes1 }) o
+  look-outcomes dead notes notes1 o lt z q e = rw e record {
+    says = λ n l ds k. rw (t, a .nowhere z, ← a .read) (record { told = (refl, q .stay); counted = counted-more _ _ (omega arith) (omega arith) (q .counted) (counted-none notes1) }, k);
+    short = omega arith;
+    there = omega (arith, lt);
+  }
 
-    up : at < e
-    up = a .ahead (omega (arith, z))
+  -- the atom makes the open piece longer
+  atom-outcomes : (dead dead′ : Bytes) (notes notes1 notes′ : List ℕ) (o : Outcome) → ¬ (r .end ≡ 0) → Counts 0 (r .read) notes notes1
+      → Outcomes rows line node (r .end) (suc (sizeIn rows line node (r .end))) (λ n. placeTried m rows line node (r .end) n) (record { dead = dead; dead′ = dead′; notes = notes1; notes′ = notes′ }) o
+      → Outcomes rows line node at (sizeIn rows line node at) (λ n. atomStep m rows line node at n) (record { dead = dead; dead′ = dead′; notes = notes; notes′ = notes′ }) (passAtom (r .end - at) o)
+  atom-outcomes dead dead′ notes notes1 notes′ o z q h = record { says = says; short = omega (arith, h .short, up, a .within); there = h .there }
+    where
+      e : ℕ
+      e = r .end
 
-    long : at + length (part line at e) ≡ e
-    long = simp (length-take, length-drop) (omega (arith, up, a .within))
+      up : at < e
+      up = a .ahead (omega (arith, z))
 
-    read : bytesOfLook m (drop at line) ≡ e - at
-    read = look-atom m (drop at line) (part line at e) (drop e line) (a .found (omega (arith, z))) ∙ omega (arith, long)
+      long : at + length (part line at e) ≡ e
+      long = simp (length-take, length-drop) (omega (arith, up, a .within))
 
-    says : (n : ℕ) → sizeIn rows line node at ≤ n → (ds : List Place) → HoldsDead (length rows) (suc (length line)) (l .dead) ds
-        → Says (holes rows node) at (atomStep m rows line node at n ds) (passAtom (e - at) o) (l .pieces) (l .pieces′)
-        × HoldsDead (length rows) (suc (length line)) (l .dead′) (atomStep m rows line node at n ds .dead)
-    says n le ds k =
-        let (s, g) = h .says n (omega (arith, up, a .within, le)) ds k in
-        rw (t, read, a .found (omega (arith, z)), long) (
-          record {
-            told = told-atom (holes rows node) at e (part line at e) (placeTried m rows line node e n ds .found) o (l .pieces) (l .pieces′) long (s .told);
-            places = s .places;
-            bytes = omega (arith, s .bytes);
-          },
-          g,
-        )
+      says : (n : ℕ) → sizeIn rows line node at ≤ n → (ds : List Place) → HoldsDead (length rows) (suc (length line)) dead ds
+          → Says (holes rows node) at (atomStep m rows line node at n ds) (passAtom (e - at) o) notes notes′
+          × HoldsDead (length rows) (suc (length line)) dead′ (atomStep m rows line node at n ds .dead)
+      says n le ds k =
+          let (s, g) = h .says n (omega (arith, up, a .within, le)) ds k in
+          rw (t, ← a .read, a .found (omega (arith, z)), long) (
+            record {
+              told = subst (λ (ps : List ℕ). Told (holes rows node) at (withAtom (part line at e) (placeTried m rows line node e n ds .found)) (passAtom (e - at) o) ps (piecesIn notes′)) (q .stay)
+                  (told-atom (holes rows node) at e (part line at e) (placeTried m rows line node e n ds .found) o (piecesIn notes1) (piecesIn notes′) long (s .told));
+              counted = counted-more _ _ (omega arith) refl (q .counted) (s .counted);
+            },
+            g,
+          )
 
-module _ {m : Marks} {row : List Node} {dead pieces line : Bytes} {end node at : ℕ} (a : Asks row dead pieces line end node at) {n : Node} {b : Bool} (x : n ≡ getD row node noNode) (y : b ≡ eqb (n .element) 1) where
+module _ {m : Marks} {row : List Node} {line : Bytes} {node at : ℕ} {dead : Bytes} {notes : List ℕ} {n : Node} {b : Bool} (x : n ≡ getD row node noNode) (y : b ≡ eqb (n .element) 1) where
   -- the node is no placeholder's
-  pub atom-not : {o : Outcome} → b ≡ false → o ≡ blank 0 0 → AtomSearched m row (take end line) node at dead dead pieces pieces o
+  pub atom-not : {o : Outcome} → b ≡ false → o ≡ blank 0 → AtomSearched m row line node at dead dead notes notes o
   atom-not f q = record { comes = idle-comes (λ made s lt k ds h l. rw (holey-is row node made lt x y ∙ f) refl) q }
 
-  -- there is no atom, and what the look reads is counted
-  pub atom-none : {e : Scanned} {o : Outcome} → b ≡ true → AtomAt m (take end line) at e → e .end ≡ 0 → o ≡ onlyRead (e .read) → AtomSearched m row (take end line) node at dead dead pieces pieces o
-  atom-none {e} t g z q = record {
-    comes = look-comes (λ made s lt k ds h l. rw (holey-is row node made lt x y ∙ t, g .nowhere z, g .read) refl)
-        (omega (arith, g .read, look-most m (drop at (take end line)), length-drop at (take end line), line-long a, a .short)) q;
-  }
+  module _ {e : Scanned} {notes1 : List ℕ} (t : b ≡ true) (g : AtomAt m line at e) (k : Counts 0 (e .read) notes notes1) where
+    -- there is no atom
+    pub atom-none : {o : Outcome} → e .end ≡ 0 → o ≡ blank 0 → AtomSearched m row line node at dead dead notes notes1 o
+    atom-none {o} z q = record {
+      comes = record {
+        each = λ made s lt. look-outcomes m (take made row) line node at e (holey-is row node made lt x y ∙ t) g dead notes notes1 o (omega (arith, lt, front-long s)) z k q;
+      };
+    }
 
-  -- the open piece has the atom
-  pub atom-below : {e : Scanned} {o u : Outcome} {dead′ pieces′ : Bytes} → b ≡ true → AtomAt m (take end line) at e → ¬ (e .end ≡ 0) → SearchedIn m row (take end line) node (e .end) dead dead′ pieces pieces′ o → u ≡ passAtom (e .end - at) o
-      → AtomSearched m row (take end line) node at dead dead′ pieces pieces′ u
-  atom-below {e} {o} {u} {dead′} {pieces′} t g z w q = rw q record {
-    comes = record {
-      each = λ made s lt.
-          atom-outcomes m (take made row) (take end line) node at e (record { dead = dead; dead′ = dead′; pieces = pieces; pieces′ = pieces′ }) o (holey-is row node made lt x y ∙ t) g z (w .comes .each made s lt);
-      few = w .comes .few;
-      read = omega (arith, w .comes .read, g .within, line-long a, a .short);
-    };
-  }
+    -- the open piece has the atom
+    pub atom-below : {o u : Outcome} {dead′ : Bytes} {notes′ : List ℕ} → ¬ (e .end ≡ 0) → SearchedIn m row line node (e .end) dead dead′ notes1 notes′ o → u ≡ passAtom (e .end - at) o
+        → AtomSearched m row line node at dead dead′ notes notes′ u
+    atom-below {o} {u} {dead′} {notes′} z w q = rw q record {
+      comes = record {
+        each = λ made s lt. atom-outcomes m (take made row) line node at e (holey-is row node made lt x y ∙ t) g dead dead′ notes notes1 notes′ o z k (w .comes .each made s lt);
+      };
+    }

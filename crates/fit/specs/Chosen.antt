@@ -3,7 +3,7 @@ use mathlib.Core.Path.{_≡_}
 use mathlib.Core.Bool.{true, false}
 use mathlib.Core.Option.{none, some}
 use mathlib.Core.List.{List, [], map}
-use Prim.Native.Nat.{ℕ, _+_, _≤_, _<_}
+use Prim.Native.Nat.{ℕ, _+_, _≤_, _<_, _^_}
 use lib.ListN.{length, getD, take, drop, replicate}
 use Rattle.model.specs.Limits.{lineMost, nodesMost, deadLeast}
 use Rattle.model.specs.declared.Marks.{Marks}
@@ -17,15 +17,21 @@ use Rattle.nodes.specs.declared.Node.{Node}
 use Rattle.nodes.specs.Rows.{elem, holes, Stands}
 use Rattle.nodes.specs.Templates.{Beginnings}
 use Rattle.fit.specs.declared.Choice.{Choice}
-use Rattle.fit.specs.declared.Outcome.{Outcome}
+use Rattle.fit.specs.Outcome.{piecesIn, placesIn, bytesIn}
 
--- no call, after a search with this outcome
-abbrev pub noChoice : Outcome → Choice
-noChoice o = record { found = false; template = 0; starts = replicate 9 0; lens = replicate 9 0; places = o .places; bytes = o .bytes }
+-- no call, after a search with these notes
+abbrev pub noChoice : List ℕ → Choice
+noChoice ns = record { found = false; template = 0; starts = replicate 9 0; lens = replicate 9 0; places = placesIn ns; bytes = bytesIn ns }
 
--- the call of a template with the stored pieces, after a search with this outcome
-abbrev pub choiceOf : Bytes → ℕ → Outcome → Choice
-choiceOf ps template o = record { found = true; template = template; starts = take 9 ps; lens = drop 9 ps; places = o .places; bytes = o .bytes }
+-- the call of a template with the pieces that are noted
+abbrev pub choiceOf : List ℕ → ℕ → Choice
+choiceOf ns template = record { found = true; template = template; starts = take 9 (piecesIn ns); lens = drop 9 (piecesIn ns); places = placesIn ns; bytes = bytesIn ns }
+
+-- a choice, whose counts are words of 64 bits
+pub record Makes (c r : Choice) : Type 0 where
+  pub is : r ≡ c
+  pub places : r .places < 2 ^ 64
+  pub bytes : r .bytes < 2 ^ 64
 
 -- what fitting the first `end` bytes of a line asks: a tree of `count` nodes stands in the row of nodes, and the row of dead places is long enough
 pub record Fits (row : List Node) (count : ℕ) (dead line : Bytes) (end : ℕ) : Type 0 where

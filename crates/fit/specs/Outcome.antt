@@ -1,46 +1,32 @@
 -- What the code's outcome says of what a search comes to, and what the lent rows hold then.
 use mathlib.Core.Path.{_≡_}
-use mathlib.Core.Bool.{Bool, true, false}
 use mathlib.Core.List.{List, [], _∷_, map}
 use mathlib.Core.Option.{Option, none, some}
-use Prim.Native.Nat.{ℕ, zero, suc, _+_, _-_, _*_, _≤_, _<_}
-use lib.Dec.{eqb}
-use lib.ListN.{length, take, drop, set}
+use Prim.Native.Nat.{ℕ, suc, _+_, _-_, _*_, _%_, _≤_, _<_, _^_}
+use lib.ListN.{length, getD, take, drop, set}
 use Rattle.model.specs.Limits.{lineMost, nodesMost}
 use Rattle.model.specs.declared.Marks.{Marks}
 use Rattle.model.specs.Text.{Bytes}
 use Rattle.model.specs.Parts.{Elem, lit, stop, ReadingPart, byte, piece, pieces}
 use Rattle.model.specs.Places.{Found, Place, isIn, Tried, orTry, tryByte, tryPiece, tryAtom, tryPlace}
 use Rattle.nodes.specs.declared.Node.{Node}
-use Rattle.nodes.specs.Rows.{elem, kid, holey, height, holes, Stands}
+use Rattle.nodes.specs.Rows.{kid, holey, height, holes, Stands}
 use Rattle.places.specs.Bits.{bit}
 use Rattle.fit.specs.declared.Outcome.{Outcome}
 
 -- ---- outcomes as the code makes them
 
--- at a node with no piece, with so many places
-abbrev pub blank : ℕ → ℕ → Outcome
-blank j k = record { node = j; rest = 0; places = k; bytes = 0 }
-
--- nothing is found, and n bytes were read
-abbrev pub onlyRead : ℕ → Outcome
-onlyRead n = record { node = 0; rest = 0; places = 0; bytes = n }
+-- at a node with no piece
+abbrev pub blank : ℕ → Outcome
+blank j = record { node = j; rest = 0 }
 
 -- where the open piece starts: nothing is left of it
 abbrev pub closePiece : Outcome → Outcome
-closePiece o = record { node = o .node; rest = 0; places = o .places; bytes = o .bytes }
+closePiece o = record { node = o .node; rest = 0 }
 
--- with n bytes more in the open piece, which were read
+-- with n bytes more in the open piece
 abbrev pub passAtom : ℕ → Outcome → Outcome
-passAtom n o = record { node = o .node; rest = o .rest + n; places = o .places; bytes = o .bytes + n }
-
--- with a place more
-abbrev pub countPlace : Outcome → Outcome
-countPlace o = record { node = o .node; rest = o .rest; places = o .places + 1; bytes = o .bytes }
-
--- after a, which led nowhere
-abbrev pub countAfter : Outcome → Outcome → Outcome
-countAfter a o = record { node = o .node; rest = o .rest; places = a .places + o .places; bytes = a .bytes + o .bytes }
+passAtom n o = record { node = o .node; rest = o .rest + n }
 
 -- ---- the element that leads on
 
@@ -53,21 +39,45 @@ elementOf (b ∷ s) = lit b
 abbrev pub elementAt : Bytes → ℕ → Elem
 elementAt line at = elementOf (drop at line)
 
--- ---- the lent bytes of pieces: nine starts, then nine lengths
+-- ---- the lent notes: nine starts and nine lengths of pieces, a count of places and one of bytes
+
+abbrev pub piecesIn : List ℕ → List ℕ
+piecesIn ns = take 18 ns
+
+abbrev pub placesIn : List ℕ → ℕ
+placesIn ns = getD ns 18 0
+
+abbrev pub bytesIn : List ℕ → ℕ
+bytesIn ns = getD ns 19 0
+
+-- the same as words of 64 bits, which is all that a sum that may wrap tells
+abbrev pub SameWord : ℕ → ℕ → Type 0
+SameWord a b = a % 2 ^ 64 ≡ b % 2 ^ 64
+
+-- so many places and bytes are counted
+pub record Counted (places bytes : ℕ) (ns ns′ : List ℕ) : Type 0 where
+  pub more-places : SameWord (placesIn ns′) (placesIn ns + places)
+  pub more-bytes : SameWord (bytesIn ns′) (bytesIn ns + bytes)
+
+-- and the pieces stay
+pub record Counts (places bytes : ℕ) (ns ns′ : List ℕ) : Type 0 where
+  pub counted : Counted places bytes ns ns′
+  pub stay : piecesIn ns′ ≡ piecesIn ns
 
 -- with start and length of piece k
-abbrev pub withPieceAt : (k start long : ℕ) → Bytes → Bytes
+abbrev pub withPieceAt : (k start long : ℕ) → List ℕ → List ℕ
 withPieceAt k s l ps = set (set ps k s) (k + 9) l
 
 -- with those of the pieces from piece k on
-unfoldable pub withPieces : ℕ → (starts lens : List ℕ) → Bytes → Bytes
+unfoldable pub withPieces : ℕ → (starts lens : List ℕ) → List ℕ → List ℕ
 withPieces k [] ls ps = ps
 withPieces k (s ∷ ss) [] ps = ps
 withPieces k (s ∷ ss) (l ∷ ls) ps = withPieceAt k s l (withPieces (k + 1) ss ls ps)
 
 -- what store_piece does
-pub record StoresPiece (k at : ℕ) (o : Outcome) (ps ps′ : Bytes) (r : Outcome) : Type 0 where
-  pub stored : ps′ ≡ withPieceAt k at (o .rest) ps
+pub record StoresPiece (k at : ℕ) (o : Outcome) (ns ns′ : List ℕ) (r : Outcome) : Type 0 where
+  pub stored : piecesIn ns′ ≡ withPieceAt k at (o .rest) (piecesIn ns)
+  pub counted : Counted 0 0 ns ns′
   pub is : r ≡ closePiece o
 
 -- where the pieces of r start, if r starts at place `at`
@@ -83,16 +93,15 @@ lensIn r = map (λ p. length p) (pieces r)
 -- ---- what an outcome says
 
 -- the outcome o says what is found from place `at` on, with k pieces before; where nothing is found, no piece is stored
-abbrev pub Told : (k at : ℕ) → Option Found → Outcome → (ps ps′ : Bytes) → Type 0
+abbrev pub Told : (k at : ℕ) → Option Found → Outcome → (ps ps′ : List ℕ) → Type 0
 Told k at none o ps ps′ = (o .node ≡ 0) × (ps′ ≡ ps)
 Told k at (some f) o ps ps′ = (0 < o .node) × (o .node ≡ f .node) × (o .rest ≡ length (f .rest))
     × (ps′ ≡ withPieces k (startsIn (at + length (f .rest)) (f .parts)) (lensIn (f .parts)) ps)
 
 -- and how many places were taken up, and bytes read
-pub record Says (k at : ℕ) (t : Tried) (o : Outcome) (ps ps′ : Bytes) : Type 0 where
-  pub told : Told k at (t .found) o ps ps′
-  pub places : o .places ≡ length (t .taken)
-  pub bytes : o .bytes ≡ t .bytes
+pub record Says (k at : ℕ) (t : Tried) (o : Outcome) (ns ns′ : List ℕ) : Type 0 where
+  pub told : Told k at (t .found) o (piecesIn ns) (piecesIn ns′)
+  pub counted : Counted (length (t .taken)) (t .bytes) ns ns′
 
 -- ---- dead places
 
@@ -100,32 +109,19 @@ pub record Says (k at : ℕ) (t : Tried) (o : Outcome) (ps ps′ : Bytes) : Type
 abbrev pub HoldsDead : (count w : ℕ) → Bytes → List Place → Type 0
 HoldsDead count w row ds = (i p : ℕ) → i < count → p < w → bit row (i * w + p) ≡ isIn i p ds
 
--- a template ends at the node
-abbrev pub endsAt : List Node → ℕ → Bool
-endsAt rows zero = false
-endsAt rows (suc j) = eqb (elem rows (suc j)) 0
-
 -- ---- a search, or one of its steps
 
--- no search takes up more places than 2,048 nodes have in a line of 200 bytes
-abbrev pub placesMost : ℕ
-placesMost = 411648
-
--- nor reads more bytes than these times 200
-abbrev pub bytesMost : ℕ
-bytesMost = 82329600
-
--- what lies in the rows before and after it: dead places, and pieces
+-- what lies in the lent rows before and after it: dead places, and notes
 pub record Lent : Type 0 where
   pub dead : Bytes
   pub dead′ : Bytes
-  pub pieces : Bytes
-  pub pieces′ : Bytes
+  pub notes : List ℕ
+  pub notes′ : List ℕ
 
 -- the outcome from the node and place `at` on, for any fuel from b on and any dead places that the row holds, and those that it holds then
 pub record Outcomes (rows : List Node) (line : Bytes) (node at b : ℕ) (step : ℕ → List Place → Tried) (x : Lent) (o : Outcome) : Type 0 where
   pub says : (n : ℕ) → b ≤ n → (ds : List Place) → HoldsDead (length rows) (suc (length line)) (x .dead) ds
-      → Says (holes rows node) at (step n ds) o (x .pieces) (x .pieces′) × HoldsDead (length rows) (suc (length line)) (x .dead′) (step n ds .dead)
+      → Says (holes rows node) at (step n ds) o (x .notes) (x .notes′) × HoldsDead (length rows) (suc (length line)) (x .dead′) (step n ds .dead)
   pub short : o .rest ≤ length line - at
   pub there : o .node < length rows
 
@@ -155,9 +151,9 @@ module _ (m : Marks) (rows : List Node) (line : Bytes) (node at n : ℕ) where
 
 -- ---- in a row at whose front a tree stands
 
--- the node is one of such a tree's and no template's end, the place lies in the first `end` bytes of the line, the row `dead` has a bit for
--- each place and holds dead places at none of which a template ends, and there is room for nine pieces
-pub record Asks (row : List Node) (dead pieces line : Bytes) (end node at : ℕ) : Type 0 where
+-- the node is one of such a tree's, the place lies in the first `end` bytes of the line, the row `dead` has a bit for each place, and there are
+-- twenty notes
+pub record Asks (row : List Node) (dead : Bytes) (notes : List ℕ) (line : Bytes) (end node at : ℕ) : Type 0 where
   pub made : ℕ
   pub stands : Stands row made
   pub there : node < made
@@ -166,37 +162,31 @@ pub record Asks (row : List Node) (dead pieces line : Bytes) (end node at : ℕ)
   pub few : made ≤ nodesMost
   pub short : end ≤ lineMost
   pub room : made * suc end ≤ 8 * length dead
-  pub plain : endsAt (take made row) node ≡ false
-  pub marked : List Place
-  pub holds : HoldsDead made (suc end) dead marked
-  pub no-ends : (i p : ℕ) → isIn i p marked ≡ true → endsAt (take made row) i ≡ false
-  pub nine : length pieces ≡ 18
+  pub twenty : length notes ≡ 20
 
--- the outcome, whatever tree it is; it counts F places and G bytes at most
-pub record Comes (row : List Node) (line : Bytes) (node at : ℕ) (fuel : List Node → ℕ) (F G : ℕ) (step : List Node → ℕ → List Place → Tried) (x : Lent) (o : Outcome) : Type 0 where
+-- the outcome, whatever tree it is
+pub record Comes (row : List Node) (line : Bytes) (node at : ℕ) (fuel : List Node → ℕ) (step : List Node → ℕ → List Place → Tried) (x : Lent) (o : Outcome) : Type 0 where
   pub each : (made : ℕ) → Stands row made → node < made → Outcomes (take made row) line node at (fuel (take made row)) (step (take made row)) x o
-  pub few : o .places ≤ F
-  pub read : o .bytes ≤ G
 
 -- of the search
-pub record SearchedIn (m : Marks) (row : List Node) (line : Bytes) (node at : ℕ) (dead dead′ pieces pieces′ : Bytes) (o : Outcome) : Type 0 where
-  pub comes : Comes row line node at (λ rows. suc (sizeIn rows line node at)) placesMost bytesMost (λ rows n. placeTried m rows line node at n)
-      (record { dead = dead; dead′ = dead′; pieces = pieces; pieces′ = pieces′ }) o
+pub record SearchedIn (m : Marks) (row : List Node) (line : Bytes) (node at : ℕ) (dead dead′ : Bytes) (notes notes′ : List ℕ) (o : Outcome) : Type 0 where
+  pub comes : Comes row line node at (λ rows. suc (sizeIn rows line node at)) (λ rows n. placeTried m rows line node at n)
+      (record { dead = dead; dead′ = dead′; notes = notes; notes′ = notes′ }) o
 
 -- of its three steps
-pub record ByteSearched (m : Marks) (row : List Node) (line : Bytes) (node at : ℕ) (dead dead′ pieces pieces′ : Bytes) (o : Outcome) : Type 0 where
-  pub comes : Comes row line node at (λ rows. sizeIn rows line node at) placesMost bytesMost (λ rows n. byteStep m rows line node at n)
-      (record { dead = dead; dead′ = dead′; pieces = pieces; pieces′ = pieces′ }) o
+pub record ByteSearched (m : Marks) (row : List Node) (line : Bytes) (node at : ℕ) (dead dead′ : Bytes) (notes notes′ : List ℕ) (o : Outcome) : Type 0 where
+  pub comes : Comes row line node at (λ rows. sizeIn rows line node at) (λ rows n. byteStep m rows line node at n)
+      (record { dead = dead; dead′ = dead′; notes = notes; notes′ = notes′ }) o
 
-pub record PieceSearched (m : Marks) (row : List Node) (line : Bytes) (node at : ℕ) (dead dead′ pieces pieces′ : Bytes) (o : Outcome) : Type 0 where
-  pub comes : Comes row line node at (λ rows. sizeIn rows line node at) placesMost bytesMost (λ rows n. pieceStep m rows line node at n)
-      (record { dead = dead; dead′ = dead′; pieces = pieces; pieces′ = pieces′ }) o
+pub record PieceSearched (m : Marks) (row : List Node) (line : Bytes) (node at : ℕ) (dead dead′ : Bytes) (notes notes′ : List ℕ) (o : Outcome) : Type 0 where
+  pub comes : Comes row line node at (λ rows. sizeIn rows line node at) (λ rows n. pieceStep m rows line node at n)
+      (record { dead = dead; dead′ = dead′; notes = notes; notes′ = notes′ }) o
 
-pub record AtomSearched (m : Marks) (row : List Node) (line : Bytes) (node at : ℕ) (dead dead′ pieces pieces′ : Bytes) (o : Outcome) : Type 0 where
-  pub comes : Comes row line node at (λ rows. sizeIn rows line node at) placesMost (bytesMost + lineMost) (λ rows n. atomStep m rows line node at n)
-      (record { dead = dead; dead′ = dead′; pieces = pieces; pieces′ = pieces′ }) o
+pub record AtomSearched (m : Marks) (row : List Node) (line : Bytes) (node at : ℕ) (dead dead′ : Bytes) (notes notes′ : List ℕ) (o : Outcome) : Type 0 where
+  pub comes : Comes row line node at (λ rows. sizeIn rows line node at) (λ rows n. atomStep m rows line node at n)
+      (record { dead = dead; dead′ = dead′; notes = notes; notes′ = notes′ }) o
 
 -- and of all of them
-pub record TakenUp (m : Marks) (row : List Node) (line : Bytes) (node at : ℕ) (dead dead′ pieces pieces′ : Bytes) (o : Outcome) : Type 0 where
-  pub comes : Comes row line node at (λ rows. sizeIn rows line node at) (3 * placesMost) (3 * bytesMost + lineMost) (λ rows n. allSteps m rows line node at n)
-      (record { dead = dead; dead′ = dead′; pieces = pieces; pieces′ = pieces′ }) o
+pub record TakenUp (m : Marks) (row : List Node) (line : Bytes) (node at : ℕ) (dead dead′ : Bytes) (notes notes′ : List ℕ) (o : Outcome) : Type 0 where
+  pub comes : Comes row line node at (λ rows. sizeIn rows line node at) (λ rows n. allSteps m rows line node at n)
+      (record { dead = dead; dead′ = dead′; notes = notes; notes′ = notes′ }) o

@@ -8,105 +8,76 @@ ghost use lib.ListN.{length, take};
 ghost use Rattle.model.specs.Limits.{lineMost, nodesMost};
 ghost use Rattle.atom.specs.Atoms.{brackets, AtomAt};
 ghost use Rattle.nodes.specs.Rows.{code};
-ghost use Rattle.fit.specs.Outcome.{blank, onlyRead, StoresPiece, passAtom, countPlace, countAfter, elementAt, Asks, SearchedIn, TakenUp, ByteSearched, PieceSearched, AtomSearched};
-ghost use Rattle.fit.specs.Chosen.{noChoice, choiceOf, Fits, Chooses};
+ghost use Rattle.fit.specs.Outcome.{blank, StoresPiece, passAtom, Counts, elementAt, Asks, SearchedIn, TakenUp, ByteSearched, PieceSearched, AtomSearched};
+ghost use Rattle.fit.specs.Chosen.{noChoice, choiceOf, Makes, Fits, Chooses};
 use atom::Scanned;
-use buffer::wide;
 use model::Marks;
 use nodes::Node;
 use places::clear;
 use places::is_dead;
 use places::set_dead;
+use std::num::wrapping_add_usize;
 
-// The lent bytes of a search's pieces: nine starts, then nine lengths.
-const PIECE_BYTES: usize = 18;
+// The lent notes of a search: nine starts and nine lengths of pieces, how many places were taken up, and how many bytes were read where the
+// next atom was looked for. What is counted there need not be handed back and added up at every place.
+const NOTES: usize = 20;
 
-// What a search finds: the node of the template's end, 0 where there is none; the length of what is left of the piece that is open
-// where the search starts; how many places it took up; and how many bytes it read where it looked for the next atom. The pieces that are
-// opened later go to lent bytes.
+const PLACES: usize = 18;
+
+const BYTES: usize = 19;
+
+// What a search finds: the node of the template's end, 0 where there is none; and the length of what is left of the piece that is open
+// where the search starts. The pieces that are opened later go to the notes.
 pub struct Outcome {
     pub node: usize,
     pub rest: usize,
-    pub places: usize,
-    pub bytes: usize,
 }
 
 // The outcome at a node with no piece.
-fn no_piece(node: usize, places: usize) -> Outcome
-    ensures { λ r. ⌜ r ≡ blank node places ⌝ }
+fn no_piece(node: usize) -> Outcome
+    ensures { λ r. ⌜ r ≡ blank node ⌝ }
 {
-    Outcome {
-        node,
-        rest: 0,
-        places,
-        bytes: 0,
-    }
-}
-
-// The outcome of a look that found no atom.
-fn only_read(bytes: usize) -> Outcome
-    ensures { λ r. ⌜ r ≡ onlyRead bytes ⌝ }
-{
-    Outcome {
-        node: 0,
-        rest: 0,
-        places: 0,
-        bytes,
-    }
+    Outcome { node, rest: 0 }
 }
 
 // Piece k starts at a place: what is left of it is all of it.
-fn store_piece(pieces: &mut [u8], k: usize, at: usize, o: Outcome) -> Outcome
-    requires { ⌜ (k < 9) × (at < 256) × (o .rest < 256) × (length (now pieces) ≡ 18) ⌝ }
-    ensures { λ r. ⌜ StoresPiece k at o (now (pieces .entry)) (now (pieces .exit)) r ⌝ }
+fn store_piece(notes: &mut [usize], k: usize, at: usize, o: Outcome) -> Outcome
+    requires { ⌜ (k < 9) × (length (now notes) ≡ 20) ⌝ }
+    ensures { λ r. ⌜ StoresPiece k at o (now (notes .entry)) (now (notes .exit)) r ⌝ }
 {
-    pieces[k] = at as u8;
-    pieces[k + 9] = o.rest as u8;
+    notes[k] = at;
+    notes[k + 9] = o.rest;
     Outcome {
         node: o.node,
         rest: 0,
-        places: o.places,
-        bytes: o.bytes,
     }
 }
 
-// The outcome with an atom of n bytes more in the open piece, which were read.
+// The outcome with an atom of n bytes more in the open piece.
 fn pass_atom(o: Outcome, n: usize) -> Outcome
-    requires { ⌜ (o .rest + n < 2 ^ 64) × (o .bytes + n < 2 ^ 64) ⌝ }
+    requires { ⌜ o .rest + n < 2 ^ 64 ⌝ }
     ensures { λ r. ⌜ r ≡ passAtom n o ⌝ }
 {
     Outcome {
         node: o.node,
         rest: o.rest + n,
-        places: o.places,
-        bytes: o.bytes + n,
     }
 }
 
-// The outcome with a place more.
-fn count_place(o: Outcome) -> Outcome
-    requires { ⌜ o .places + 1 < 2 ^ 64 ⌝ }
-    ensures { λ r. ⌜ r ≡ countPlace o ⌝ }
+// A place is taken up. That no count comes near 2^64 is known of a whole search alone (Few); here it may wrap.
+fn count_place(notes: &mut [usize])
+    requires { ⌜ length (now notes) ≡ 20 ⌝ }
+    ensures { λ _. ⌜ Counts 1 0 (now (notes .entry)) (now (notes .exit)) ⌝ }
 {
-    Outcome {
-        node: o.node,
-        rest: o.rest,
-        places: o.places + 1,
-        bytes: o.bytes,
-    }
+    notes[PLACES] = wrapping_add_usize(notes[PLACES], 1);
 }
 
-// The outcome after one that led nowhere.
-fn count_after(a: Outcome, o: Outcome) -> Outcome
-    requires { ⌜ (a .places + o .places < 2 ^ 64) × (a .bytes + o .bytes < 2 ^ 64) ⌝ }
-    ensures { λ r. ⌜ r ≡ countAfter a o ⌝ }
+// So many bytes were read.
+fn count_bytes(notes: &mut [usize], n: usize)
+    requires { ⌜ length (now notes) ≡ 20 ⌝ }
+    ensures { λ _. ⌜ Counts 0 n (now (notes .entry)) (now (notes .exit)) ⌝ }
 {
-    Outcome {
-        node: o.node,
-        rest: o.rest,
-        places: a.places + o.places,
-        bytes: a.bytes + o.bytes,
-    }
+    notes[BYTES] = wrapping_add_usize(notes[BYTES], n);
 }
 
 // The number of a place: so many positions for each node.
@@ -144,25 +115,26 @@ fn search(
     right: u8,
     nodes: &[Node],
     dead: &mut [u8],
-    pieces: &mut [u8],
+    notes: &mut [usize],
     line: &[u8],
     end: usize,
     node: usize,
     at: usize,
 ) -> Outcome
-    requires { ⌜ Asks (now nodes) (now dead) (now pieces) (now line) end node at ⌝ }
+    requires { ⌜ Asks (now nodes) (now dead) (now notes) (now line) end node at ⌝ }
     ensures { λ r. ⌜ SearchedIn (brackets left right) (now (nodes .entry)) (take end (now (line .entry))) node at
-        (now (dead .entry)) (now (dead .exit)) (now (pieces .entry)) (now (pieces .exit)) r ⌝ }
+        (now (dead .entry)) (now (dead .exit)) (now (notes .entry)) (now (notes .exit)) r ⌝ }
 {
     let place = number_place(end, node, at);
     if is_dead(dead, place) {
-        return no_piece(0, 0);
+        return no_piece(0);
     }
-    let found = take_up(left, right, nodes, dead, pieces, line, end, node, at);
+    count_place(notes);
+    let found = take_up(left, right, nodes, dead, notes, line, end, node, at);
     if found.node == 0 {
         set_dead(dead, place);
     }
-    count_place(found)
+    found
 }
 
 // From a place by the next byte or the line's end, else by a placeholder, else by an atom more.
@@ -171,26 +143,25 @@ fn take_up(
     right: u8,
     nodes: &[Node],
     dead: &mut [u8],
-    pieces: &mut [u8],
+    notes: &mut [usize],
     line: &[u8],
     end: usize,
     node: usize,
     at: usize,
 ) -> Outcome
-    requires { ⌜ Asks (now nodes) (now dead) (now pieces) (now line) end node at ⌝ }
+    requires { ⌜ Asks (now nodes) (now dead) (now notes) (now line) end node at ⌝ }
     ensures { λ r. ⌜ TakenUp (brackets left right) (now (nodes .entry)) (take end (now (line .entry))) node at
-        (now (dead .entry)) (now (dead .exit)) (now (pieces .entry)) (now (pieces .exit)) r ⌝ }
+        (now (dead .entry)) (now (dead .exit)) (now (notes .entry)) (now (notes .exit)) r ⌝ }
 {
-    let byte = search_byte(left, right, nodes, dead, pieces, line, end, node, at);
+    let byte = search_byte(left, right, nodes, dead, notes, line, end, node, at);
     if byte.node != 0 {
         return byte;
     }
-    let piece = search_piece(left, right, nodes, dead, pieces, line, end, node, at);
+    let piece = search_piece(left, right, nodes, dead, notes, line, end, node, at);
     if piece.node != 0 {
-        return count_after(byte, piece);
+        return piece;
     }
-    let longer = search_atom(left, right, nodes, dead, pieces, line, end, node, at);
-    count_after(byte, count_after(piece, longer))
+    search_atom(left, right, nodes, dead, notes, line, end, node, at)
 }
 
 // To the child for the next byte, or for the template's end.
@@ -199,24 +170,25 @@ fn search_byte(
     right: u8,
     nodes: &[Node],
     dead: &mut [u8],
-    pieces: &mut [u8],
+    notes: &mut [usize],
     line: &[u8],
     end: usize,
     node: usize,
     at: usize,
 ) -> Outcome
-    requires { ⌜ Asks (now nodes) (now dead) (now pieces) (now line) end node at ⌝ }
+    requires { ⌜ Asks (now nodes) (now dead) (now notes) (now line) end node at ⌝ }
     ensures { λ r. ⌜ ByteSearched (brackets left right) (now (nodes .entry)) (take end (now (line .entry))) node at
-        (now (dead .entry)) (now (dead .exit)) (now (pieces .entry)) (now (pieces .exit)) r ⌝ }
+        (now (dead .entry)) (now (dead .exit)) (now (notes .entry)) (now (notes .exit)) r ⌝ }
 {
     let c = nodes::child(nodes, node, element_at(line, end, at));
     if c == 0 {
-        return no_piece(0, 0);
+        return no_piece(0);
     }
     if at == end {
-        return no_piece(c, 1);
+        count_place(notes);
+        return no_piece(c);
     }
-    search(left, right, nodes, dead, pieces, line, end, c, at + 1)
+    search(left, right, nodes, dead, notes, line, end, c, at + 1)
 }
 
 // To the placeholder's child, where a piece starts.
@@ -225,26 +197,26 @@ fn search_piece(
     right: u8,
     nodes: &[Node],
     dead: &mut [u8],
-    pieces: &mut [u8],
+    notes: &mut [usize],
     line: &[u8],
     end: usize,
     node: usize,
     at: usize,
 ) -> Outcome
-    requires { ⌜ Asks (now nodes) (now dead) (now pieces) (now line) end node at ⌝ }
+    requires { ⌜ Asks (now nodes) (now dead) (now notes) (now line) end node at ⌝ }
     ensures { λ r. ⌜ PieceSearched (brackets left right) (now (nodes .entry)) (take end (now (line .entry))) node at
-        (now (dead .entry)) (now (dead .exit)) (now (pieces .entry)) (now (pieces .exit)) r ⌝ }
+        (now (dead .entry)) (now (dead .exit)) (now (notes .entry)) (now (notes .exit)) r ⌝ }
 {
     let c = nodes::child(nodes, node, 1);
     if c == 0 {
-        return no_piece(0, 0);
+        return no_piece(0);
     }
-    let piece = search(left, right, nodes, dead, pieces, line, end, c, at);
+    let piece = search(left, right, nodes, dead, notes, line, end, c, at);
     if piece.node == 0 {
         return piece;
     }
     let n = nodes::node_at(nodes, node);
-    store_piece(pieces, nodes::holes_of(n), at, piece)
+    store_piece(notes, nodes::holes_of(n), at, piece)
 }
 
 // An atom more in the open piece, if the node is a placeholder's.
@@ -253,25 +225,26 @@ fn search_atom(
     right: u8,
     nodes: &[Node],
     dead: &mut [u8],
-    pieces: &mut [u8],
+    notes: &mut [usize],
     line: &[u8],
     end: usize,
     node: usize,
     at: usize,
 ) -> Outcome
-    requires { ⌜ Asks (now nodes) (now dead) (now pieces) (now line) end node at ⌝ }
+    requires { ⌜ Asks (now nodes) (now dead) (now notes) (now line) end node at ⌝ }
     ensures { λ r. ⌜ AtomSearched (brackets left right) (now (nodes .entry)) (take end (now (line .entry))) node at
-        (now (dead .entry)) (now (dead .exit)) (now (pieces .entry)) (now (pieces .exit)) r ⌝ }
+        (now (dead .entry)) (now (dead .exit)) (now (notes .entry)) (now (notes .exit)) r ⌝ }
 {
     if !nodes::has_element(nodes::node_at(nodes, node), 1) {
-        return no_piece(0, 0);
+        return no_piece(0);
     }
     let next = find_atom(left, right, line, end, at);
+    count_bytes(notes, next.read);
     let past = next.end;
     if past == 0 {
-        return only_read(next.read);
+        return no_piece(0);
     }
-    let longer = search(left, right, nodes, dead, pieces, line, end, node, past);
+    let longer = search(left, right, nodes, dead, notes, line, end, node, past);
     pass_atom(longer, past - at)
 }
 
@@ -286,50 +259,41 @@ pub struct Choice {
     pub bytes: usize,
 }
 
-// No call, after a search with this outcome.
-fn no_choice(o: Outcome) -> Choice
-    ensures { λ r. ⌜ r ≡ noChoice o ⌝ }
+// No call, after a search with these notes.
+fn no_choice(notes: &[usize]) -> Choice
+    requires { ⌜ length (now notes) ≡ 20 ⌝ }
+    ensures { λ r. ⌜ Makes (noChoice (now (notes .entry))) r ⌝ }
 {
     Choice {
         found: false,
         template: 0,
         starts: [0; 9],
         lens: [0; 9],
-        places: o.places,
-        bytes: o.bytes,
+        places: notes[PLACES],
+        bytes: notes[BYTES],
     }
 }
 
-// Nine bytes as numbers.
-fn wide_nine(a: &[u8]) -> [usize; 9]
+// Nine numbers by value.
+fn copy_nine(a: &[usize]) -> [usize; 9]
     requires { ⌜ length (now a) ≡ 9 ⌝ }
     ensures { λ r. ⌜ r ≡ now (a .entry) ⌝ }
 {
-    [
-        wide(a[0]),
-        wide(a[1]),
-        wide(a[2]),
-        wide(a[3]),
-        wide(a[4]),
-        wide(a[5]),
-        wide(a[6]),
-        wide(a[7]),
-        wide(a[8]),
-    ]
+    [a[0], a[1], a[2], a[3], a[4], a[5], a[6], a[7], a[8]]
 }
 
-// The call of a template, after a search with this outcome.
-fn make_choice(pieces: &[u8], template: usize, o: Outcome) -> Choice
-    requires { ⌜ length (now pieces) ≡ 18 ⌝ }
-    ensures { λ r. ⌜ r ≡ choiceOf (now (pieces .entry)) template o ⌝ }
+// The call of a template, after a search with these notes.
+fn make_choice(notes: &[usize], template: usize) -> Choice
+    requires { ⌜ length (now notes) ≡ 20 ⌝ }
+    ensures { λ r. ⌜ Makes (choiceOf (now (notes .entry)) template) r ⌝ }
 {
     Choice {
         found: true,
         template,
-        starts: wide_nine(&pieces[0..9]),
-        lens: wide_nine(&pieces[9..18]),
-        places: o.places,
-        bytes: o.bytes,
+        starts: copy_nine(&notes[0..9]),
+        lens: copy_nine(&notes[9..18]),
+        places: notes[PLACES],
+        bytes: notes[BYTES],
     }
 }
 
@@ -347,14 +311,14 @@ pub fn first_reading(
     ensures { λ r. ⌜ Chooses m (now (nodes .entry)) count (take end (now (line .entry))) r ⌝ }
 {
     clear(dead, count * (end + 1));
-    let mut pieces = [0u8; PIECE_BYTES];
+    let mut notes = [0usize; NOTES];
     let left = m.left;
     let right = m.right;
-    let found = search(left, right, nodes, dead, &mut pieces, line, end, 0, 0);
+    let found = search(left, right, nodes, dead, &mut notes, line, end, 0, 0);
     let j = found.node;
     if j == 0 {
-        return no_choice(found);
+        return no_choice(&notes);
     }
     let n = nodes::node_at(nodes, j);
-    make_choice(&pieces, nodes::template_of(n), found)
+    make_choice(&notes, nodes::template_of(n))
 }

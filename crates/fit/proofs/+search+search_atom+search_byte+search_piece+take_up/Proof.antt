@@ -49,9 +49,9 @@ use Rattle.walk_laws.proofs.Walk as Walk
 use Rattle.walk_laws.proofs.Again as Again
 use borrow.Author.Tests.{not-true, not-false}
 use Rattle.nodes.specs.Rows.{height}
-use Rattle.fit.proofs.Steps.{asks-node, asks-children, asks-number, asks-bit, asks-byte, asks-piece, asks-atom, byte-less, piece-less, atom-less, piece-fits, atom-before, atom-fits}
+use Rattle.fit.proofs.Steps.{asks-node, asks-children, asks-number, asks-bit, asks-again, asks-byte, asks-piece, asks-atom, byte-less, piece-less, atom-less, piece-fits, atom-before, atom-fits}
 use Rattle.fit.proofs.Steps.{byte-none, byte-end, byte-below, piece-none, piece-below, piece-nowhere, atom-not, atom-none, atom-below}
-use Rattle.fit.proofs.Taken.{asks-second, asks-third, first-found, second-found, third-found, sum-fits, last-fits, all-fit, asks-bit-again, place-fits, was-dead, leads-on, leads-nowhere}
+use Rattle.fit.proofs.Taken.{asks-second, first-found, second-found, third-found, asks-bit-again, was-dead, leads-on, leads-nowhere}
 use Rattle.atom.proofs.Scanned as Scanned-T
 use Rattle.atom.proofs.Scanned.Laws as Scanned-L
 use Rattle.fit.proofs.Outcome as Outcome-T
@@ -71,14 +71,14 @@ use Rattle.fit.proofs.no_piece as g-no-piece
 use Rattle.fit.proofs.no_piece.Symbol as g-no-piece-def
 use Rattle.fit.proofs.no_piece.Symbol.{name as #g-no-piece}
 use Rattle.fit.proofs.no_piece.Met as g-no-piece-thm
-use Rattle.places.proofs.set_dead as g-set-dead
-use Rattle.places.proofs.set_dead.Symbol as g-set-dead-def
-use Rattle.places.proofs.set_dead.Symbol.{name as #g-set-dead}
-use Rattle.places.proofs.set_dead.Met as g-set-dead-thm
 use Rattle.fit.proofs.count_place as g-count-place
 use Rattle.fit.proofs.count_place.Symbol as g-count-place-def
 use Rattle.fit.proofs.count_place.Symbol.{name as #g-count-place}
 use Rattle.fit.proofs.count_place.Met as g-count-place-thm
+use Rattle.places.proofs.set_dead as g-set-dead
+use Rattle.places.proofs.set_dead.Symbol as g-set-dead-def
+use Rattle.places.proofs.set_dead.Symbol.{name as #g-set-dead}
+use Rattle.places.proofs.set_dead.Met as g-set-dead-thm
 use Rattle.nodes.proofs.node_at as g-node-at
 use Rattle.nodes.proofs.node_at.Symbol as g-node-at-def
 use Rattle.nodes.proofs.node_at.Symbol.{name as #g-node-at}
@@ -91,10 +91,10 @@ use Rattle.fit.proofs.find_atom as g-find-atom
 use Rattle.fit.proofs.find_atom.Symbol as g-find-atom-def
 use Rattle.fit.proofs.find_atom.Symbol.{name as #g-find-atom}
 use Rattle.fit.proofs.find_atom.Met as g-find-atom-thm
-use Rattle.fit.proofs.only_read as g-only-read
-use Rattle.fit.proofs.only_read.Symbol as g-only-read-def
-use Rattle.fit.proofs.only_read.Symbol.{name as #g-only-read}
-use Rattle.fit.proofs.only_read.Met as g-only-read-thm
+use Rattle.fit.proofs.count_bytes as g-count-bytes
+use Rattle.fit.proofs.count_bytes.Symbol as g-count-bytes-def
+use Rattle.fit.proofs.count_bytes.Symbol.{name as #g-count-bytes}
+use Rattle.fit.proofs.count_bytes.Met as g-count-bytes-thm
 use Rattle.fit.proofs.pass_atom as g-pass-atom
 use Rattle.fit.proofs.pass_atom.Symbol as g-pass-atom-def
 use Rattle.fit.proofs.pass_atom.Symbol.{name as #g-pass-atom}
@@ -115,10 +115,6 @@ use Rattle.fit.proofs.store_piece as g-store-piece
 use Rattle.fit.proofs.store_piece.Symbol as g-store-piece-def
 use Rattle.fit.proofs.store_piece.Symbol.{name as #g-store-piece}
 use Rattle.fit.proofs.store_piece.Met as g-store-piece-thm
-use Rattle.fit.proofs.count_after as g-count-after
-use Rattle.fit.proofs.count_after.Symbol as g-count-after-def
-use Rattle.fit.proofs.count_after.Symbol.{name as #g-count-after}
-use Rattle.fit.proofs.count_after.Met as g-count-after-thm
 use Rattle.fit.proofs.search as f-search
 use Rattle.fit.proofs.search.Key.{name as #search}
 use Rattle.fit.proofs.search_atom as f-search-atom
@@ -133,7 +129,7 @@ use Rattle.fit.proofs.+search+search_atom+search_byte+search_piece+take
 use Rattle.fit.proofs.+search+search_atom+search_byte+search_piece+take_up.Code as code
 
 abbrev measure-search : ℕ → ℕ → RefT (List Node) → RefT (List ℕ) → RefT (List ℕ) → RefT (List ℕ) → ℕ → ℕ → ℕ → ℕ
-measure-search left right nodes dead pieces line end node at = 3 * (height (nodes .now) node + (end - at)) + 2
+measure-search left right nodes dead notes line end node at = 3 * (height (nodes .now) node + (end - at)) + 2
 
 module _ {M : Type 1} (𝓤 : URA M) (H : Heap 𝓤) (A : Atoms 𝓤) (mem : Memory → SProp 𝓤) (run : Routine → Fun 𝓤) where
   abbrev μ-search : Walk.Of 𝓤 H A f-search.ended (f-search.clauses 𝓤 H A mem run) .Ghost → ℕ
@@ -141,10 +137,10 @@ module _ {M : Type 1} (𝓤 : URA M) (H : Heap 𝓤) (A : Atoms 𝓤) (mem : Mem
       (y .0 .3 .1 .1 .1 .1 .1 .0) (y .0 .3 .1 .1 .1 .1 .1 .1 .0) (y .0 .3 .1 .1 .1 .1 .1 .1 .1 .0) (y .0 .3 .1 .1 .1 .1 .1 .1 .1 .1 .0)
 
 abbrev stayed-search : Stays (f-search.ended .signature .params) (f-search.ended .kept)
-stayed-search = (stay-dropped (plain (λ _. (UInt w8))) yes, (stay-dropped (plain (λ _. (UInt w8))) yes, (stay-dropped (shrSliceOf (0 ∷ []) tt (plain (λ _. Node-T.the-row))) yes, (gave-slice (1 ∷ []) tt (plain (λ _. (UInt w8))), (gave-slice (2 ∷ []) tt (plain (λ _. (UInt w8))), (stay-dropped (shrSliceOf (3 ∷ []) tt (plain (λ _. (UInt w8)))) yes, (stay-dropped (plain (λ _. (UInt w64))) yes, (stay-dropped (plain (λ _. (UInt w64))) yes, (stay-dropped (plain (λ _. (UInt w64))) yes, tt)))))))))
+stayed-search = (stay-dropped (plain (λ _. (UInt w8))) yes, (stay-dropped (plain (λ _. (UInt w8))) yes, (stay-dropped (shrSliceOf (0 ∷ []) tt (plain (λ _. Node-T.the-row))) yes, (gave-slice (1 ∷ []) tt (plain (λ _. (UInt w8))), (gave-slice (2 ∷ []) tt (plain (λ _. (UInt w64))), (stay-dropped (shrSliceOf (3 ∷ []) tt (plain (λ _. (UInt w8)))) yes, (stay-dropped (plain (λ _. (UInt w64))) yes, (stay-dropped (plain (λ _. (UInt w64))) yes, (stay-dropped (plain (λ _. (UInt w64))) yes, tt)))))))))
 
 abbrev measure-search-atom : ℕ → ℕ → RefT (List Node) → RefT (List ℕ) → RefT (List ℕ) → RefT (List ℕ) → ℕ → ℕ → ℕ → ℕ
-measure-search-atom left right nodes dead pieces line end node at = 3 * (height (nodes .now) node + (end - at))
+measure-search-atom left right nodes dead notes line end node at = 3 * (height (nodes .now) node + (end - at))
 
 module _ {M : Type 1} (𝓤 : URA M) (H : Heap 𝓤) (A : Atoms 𝓤) (mem : Memory → SProp 𝓤) (run : Routine → Fun 𝓤) where
   abbrev μ-search-atom : Walk.Of 𝓤 H A f-search-atom.ended (f-search-atom.clauses 𝓤 H A mem run) .Ghost → ℕ
@@ -152,10 +148,10 @@ module _ {M : Type 1} (𝓤 : URA M) (H : Heap 𝓤) (A : Atoms 𝓤) (mem : Mem
       (y .0 .3 .1 .1 .1 .1 .1 .0) (y .0 .3 .1 .1 .1 .1 .1 .1 .0) (y .0 .3 .1 .1 .1 .1 .1 .1 .1 .0) (y .0 .3 .1 .1 .1 .1 .1 .1 .1 .1 .0)
 
 abbrev stayed-search-atom : Stays (f-search-atom.ended .signature .params) (f-search-atom.ended .kept)
-stayed-search-atom = (stay-dropped (plain (λ _. (UInt w8))) yes, (stay-dropped (plain (λ _. (UInt w8))) yes, (stay-dropped (shrSliceOf (0 ∷ []) tt (plain (λ _. Node-T.the-row))) yes, (gave-slice (1 ∷ []) tt (plain (λ _. (UInt w8))), (gave-slice (2 ∷ []) tt (plain (λ _. (UInt w8))), (stay-dropped (shrSliceOf (3 ∷ []) tt (plain (λ _. (UInt w8)))) yes, (stay-dropped (plain (λ _. (UInt w64))) yes, (stay-dropped (plain (λ _. (UInt w64))) yes, (stay-dropped (plain (λ _. (UInt w64))) yes, tt)))))))))
+stayed-search-atom = (stay-dropped (plain (λ _. (UInt w8))) yes, (stay-dropped (plain (λ _. (UInt w8))) yes, (stay-dropped (shrSliceOf (0 ∷ []) tt (plain (λ _. Node-T.the-row))) yes, (gave-slice (1 ∷ []) tt (plain (λ _. (UInt w8))), (gave-slice (2 ∷ []) tt (plain (λ _. (UInt w64))), (stay-dropped (shrSliceOf (3 ∷ []) tt (plain (λ _. (UInt w8)))) yes, (stay-dropped (plain (λ _. (UInt w64))) yes, (stay-dropped (plain (λ _. (UInt w64))) yes, (stay-dropped (plain (λ _. (UInt w64))) yes, tt)))))))))
 
 abbrev measure-search-byte : ℕ → ℕ → RefT (List Node) → RefT (List ℕ) → RefT (List ℕ) → RefT (List ℕ) → ℕ → ℕ → ℕ → ℕ
-measure-search-byte left right nodes dead pieces line end node at = 3 * (height (nodes .now) node + (end - at))
+measure-search-byte left right nodes dead notes line end node at = 3 * (height (nodes .now) node + (end - at))
 
 module _ {M : Type 1} (𝓤 : URA M) (H : Heap 𝓤) (A : Atoms 𝓤) (mem : Memory → SProp 𝓤) (run : Routine → Fun 𝓤) where
   abbrev μ-search-byte : Walk.Of 𝓤 H A f-search-byte.ended (f-search-byte.clauses 𝓤 H A mem run) .Ghost → ℕ
@@ -163,10 +159,10 @@ module _ {M : Type 1} (𝓤 : URA M) (H : Heap 𝓤) (A : Atoms 𝓤) (mem : Mem
       (y .0 .3 .1 .1 .1 .1 .1 .0) (y .0 .3 .1 .1 .1 .1 .1 .1 .0) (y .0 .3 .1 .1 .1 .1 .1 .1 .1 .0) (y .0 .3 .1 .1 .1 .1 .1 .1 .1 .1 .0)
 
 abbrev stayed-search-byte : Stays (f-search-byte.ended .signature .params) (f-search-byte.ended .kept)
-stayed-search-byte = (stay-dropped (plain (λ _. (UInt w8))) yes, (stay-dropped (plain (λ _. (UInt w8))) yes, (stay-dropped (shrSliceOf (0 ∷ []) tt (plain (λ _. Node-T.the-row))) yes, (gave-slice (1 ∷ []) tt (plain (λ _. (UInt w8))), (gave-slice (2 ∷ []) tt (plain (λ _. (UInt w8))), (stay-dropped (shrSliceOf (3 ∷ []) tt (plain (λ _. (UInt w8)))) yes, (stay-dropped (plain (λ _. (UInt w64))) yes, (stay-dropped (plain (λ _. (UInt w64))) yes, (stay-dropped (plain (λ _. (UInt w64))) yes, tt)))))))))
+stayed-search-byte = (stay-dropped (plain (λ _. (UInt w8))) yes, (stay-dropped (plain (λ _. (UInt w8))) yes, (stay-dropped (shrSliceOf (0 ∷ []) tt (plain (λ _. Node-T.the-row))) yes, (gave-slice (1 ∷ []) tt (plain (λ _. (UInt w8))), (gave-slice (2 ∷ []) tt (plain (λ _. (UInt w64))), (stay-dropped (shrSliceOf (3 ∷ []) tt (plain (λ _. (UInt w8)))) yes, (stay-dropped (plain (λ _. (UInt w64))) yes, (stay-dropped (plain (λ _. (UInt w64))) yes, (stay-dropped (plain (λ _. (UInt w64))) yes, tt)))))))))
 
 abbrev measure-search-piece : ℕ → ℕ → RefT (List Node) → RefT (List ℕ) → RefT (List ℕ) → RefT (List ℕ) → ℕ → ℕ → ℕ → ℕ
-measure-search-piece left right nodes dead pieces line end node at = 3 * (height (nodes .now) node + (end - at))
+measure-search-piece left right nodes dead notes line end node at = 3 * (height (nodes .now) node + (end - at))
 
 module _ {M : Type 1} (𝓤 : URA M) (H : Heap 𝓤) (A : Atoms 𝓤) (mem : Memory → SProp 𝓤) (run : Routine → Fun 𝓤) where
   abbrev μ-search-piece : Walk.Of 𝓤 H A f-search-piece.ended (f-search-piece.clauses 𝓤 H A mem run) .Ghost → ℕ
@@ -174,10 +170,10 @@ module _ {M : Type 1} (𝓤 : URA M) (H : Heap 𝓤) (A : Atoms 𝓤) (mem : Mem
       (y .0 .3 .1 .1 .1 .1 .1 .0) (y .0 .3 .1 .1 .1 .1 .1 .1 .0) (y .0 .3 .1 .1 .1 .1 .1 .1 .1 .0) (y .0 .3 .1 .1 .1 .1 .1 .1 .1 .1 .0)
 
 abbrev stayed-search-piece : Stays (f-search-piece.ended .signature .params) (f-search-piece.ended .kept)
-stayed-search-piece = (stay-dropped (plain (λ _. (UInt w8))) yes, (stay-dropped (plain (λ _. (UInt w8))) yes, (stay-dropped (shrSliceOf (0 ∷ []) tt (plain (λ _. Node-T.the-row))) yes, (gave-slice (1 ∷ []) tt (plain (λ _. (UInt w8))), (gave-slice (2 ∷ []) tt (plain (λ _. (UInt w8))), (stay-dropped (shrSliceOf (3 ∷ []) tt (plain (λ _. (UInt w8)))) yes, (stay-dropped (plain (λ _. (UInt w64))) yes, (stay-dropped (plain (λ _. (UInt w64))) yes, (stay-dropped (plain (λ _. (UInt w64))) yes, tt)))))))))
+stayed-search-piece = (stay-dropped (plain (λ _. (UInt w8))) yes, (stay-dropped (plain (λ _. (UInt w8))) yes, (stay-dropped (shrSliceOf (0 ∷ []) tt (plain (λ _. Node-T.the-row))) yes, (gave-slice (1 ∷ []) tt (plain (λ _. (UInt w8))), (gave-slice (2 ∷ []) tt (plain (λ _. (UInt w64))), (stay-dropped (shrSliceOf (3 ∷ []) tt (plain (λ _. (UInt w8)))) yes, (stay-dropped (plain (λ _. (UInt w64))) yes, (stay-dropped (plain (λ _. (UInt w64))) yes, (stay-dropped (plain (λ _. (UInt w64))) yes, tt)))))))))
 
 abbrev measure-take-up : ℕ → ℕ → RefT (List Node) → RefT (List ℕ) → RefT (List ℕ) → RefT (List ℕ) → ℕ → ℕ → ℕ → ℕ
-measure-take-up left right nodes dead pieces line end node at = 3 * (height (nodes .now) node + (end - at)) + 1
+measure-take-up left right nodes dead notes line end node at = 3 * (height (nodes .now) node + (end - at)) + 1
 
 module _ {M : Type 1} (𝓤 : URA M) (H : Heap 𝓤) (A : Atoms 𝓤) (mem : Memory → SProp 𝓤) (run : Routine → Fun 𝓤) where
   abbrev μ-take-up : Walk.Of 𝓤 H A f-take-up.ended (f-take-up.clauses 𝓤 H A mem run) .Ghost → ℕ
@@ -185,11 +181,11 @@ module _ {M : Type 1} (𝓤 : URA M) (H : Heap 𝓤) (A : Atoms 𝓤) (mem : Mem
       (y .0 .3 .1 .1 .1 .1 .1 .0) (y .0 .3 .1 .1 .1 .1 .1 .1 .0) (y .0 .3 .1 .1 .1 .1 .1 .1 .1 .0) (y .0 .3 .1 .1 .1 .1 .1 .1 .1 .1 .0)
 
 abbrev stayed-take-up : Stays (f-take-up.ended .signature .params) (f-take-up.ended .kept)
-stayed-take-up = (stay-dropped (plain (λ _. (UInt w8))) yes, (stay-dropped (plain (λ _. (UInt w8))) yes, (stay-dropped (shrSliceOf (0 ∷ []) tt (plain (λ _. Node-T.the-row))) yes, (gave-slice (1 ∷ []) tt (plain (λ _. (UInt w8))), (gave-slice (2 ∷ []) tt (plain (λ _. (UInt w8))), (stay-dropped (shrSliceOf (3 ∷ []) tt (plain (λ _. (UInt w8)))) yes, (stay-dropped (plain (λ _. (UInt w64))) yes, (stay-dropped (plain (λ _. (UInt w64))) yes, (stay-dropped (plain (λ _. (UInt w64))) yes, tt)))))))))
+stayed-take-up = (stay-dropped (plain (λ _. (UInt w8))) yes, (stay-dropped (plain (λ _. (UInt w8))) yes, (stay-dropped (shrSliceOf (0 ∷ []) tt (plain (λ _. Node-T.the-row))) yes, (gave-slice (1 ∷ []) tt (plain (λ _. (UInt w8))), (gave-slice (2 ∷ []) tt (plain (λ _. (UInt w64))), (stay-dropped (shrSliceOf (3 ∷ []) tt (plain (λ _. (UInt w8)))) yes, (stay-dropped (plain (λ _. (UInt w64))) yes, (stay-dropped (plain (λ _. (UInt w64))) yes, (stay-dropped (plain (λ _. (UInt w64))) yes, tt)))))))))
 
 module _ {M : Type 1} (𝓤 : URA M) (H : Heap 𝓤) (A : Atoms 𝓤) (W : Given 𝓤 H A) (mem : Memory → SProp 𝓤) (run : Routine → Fun 𝓤) (κ₀ : Lft)
     (q₀ : Share) (κ₁ : Lft) (q₁ : Share) (κ₂ : Lft) (q₂ : Share) (κ₃ : Lft) (q₃ : Share) (left : ℕ) (right : ℕ) (nodes : RefT (List Node))
-    (dead : RefT (List ℕ)) (pieces : RefT (List ℕ)) (line : RefT (List ℕ)) (end : ℕ) (node : ℕ) (at : ℕ) where
+    (dead : RefT (List ℕ)) (notes : RefT (List ℕ)) (line : RefT (List ℕ)) (end : ℕ) (node : ℕ) (at : ℕ) where
   abbrev T-search-nodes : RattleType
   T-search-nodes = ShrSlice (named 0) κ₀ Node-T.the-row
 
@@ -208,14 +204,14 @@ module _ {M : Type 1} (𝓤 : URA M) (H : Heap 𝓤) (A : Atoms 𝓤) (W : Given
   abbrev v-search-dead : Val
   v-search-dead = sliceVal (dead .ptr) (length (dead .now))
 
-  abbrev T-search-pieces : RattleType
-  T-search-pieces = MutSlice (named 2) κ₂ (UInt w8)
+  abbrev T-search-notes : RattleType
+  T-search-notes = MutSlice (named 2) κ₂ (UInt w64)
 
-  abbrev Y-search-pieces : Ty
-  Y-search-pieces = sliceTy (tyRef (named 2) mut (pointee ((UInt w8) .written)))
+  abbrev Y-search-notes : Ty
+  Y-search-notes = sliceTy (tyRef (named 2) mut (pointee ((UInt w64) .written)))
 
-  abbrev v-search-pieces : Val
-  v-search-pieces = sliceVal (pieces .ptr) (length (pieces .now))
+  abbrev v-search-notes : Val
+  v-search-notes = sliceVal (notes .ptr) (length (notes .now))
 
   abbrev T-search-line : RattleType
   T-search-line = ShrSlice (named 3) κ₃ (UInt w8)
@@ -227,7 +223,7 @@ module _ {M : Type 1} (𝓤 : URA M) (H : Heap 𝓤) (A : Atoms 𝓤) (W : Given
   v-search-line = sliceVal (line .ptr) (length (line .now))
 
   abbrev bound-search : Walk.Of 𝓤 H A f-search.ended (f-search.clauses 𝓤 H A mem run) .Ghost
-  bound-search = (((κ₀, (κ₁, (κ₂, (κ₃, tt)))), (q₀, (q₁, (q₂, (q₃, tt)))), tt, (left, (right, (nodes, (dead, (pieces, (line, (end, (node, (at, tt))))))))), ((vint w8 left) ∷ [], ((vint w8 right) ∷ [], (v-search-nodes ∷ [], (v-search-dead ∷ [], (v-search-pieces ∷ [], (v-search-line ∷ [], ((vint w64 end) ∷ [], ((vint w64 node) ∷ [], ((vint w64 at) ∷ [], tt)))))))))), tt)
+  bound-search = (((κ₀, (κ₁, (κ₂, (κ₃, tt)))), (q₀, (q₁, (q₂, (q₃, tt)))), tt, (left, (right, (nodes, (dead, (notes, (line, (end, (node, (at, tt))))))))), ((vint w8 left) ∷ [], ((vint w8 right) ∷ [], (v-search-nodes ∷ [], (v-search-dead ∷ [], (v-search-notes ∷ [], (v-search-line ∷ [], ((vint w64 end) ∷ [], ((vint w64 node) ∷ [], ((vint w64 at) ∷ [], tt)))))))))), tt)
 
   abbrev Post-search : Val → SProp 𝓤
   Post-search = walkOf 𝓤 H A f-search.ended stayed-search (f-search.clauses 𝓤 H A mem run) .post bound-search
@@ -235,83 +231,85 @@ module _ {M : Type 1} (𝓤 : URA M) (H : Heap 𝓤) (A : Atoms 𝓤) (W : Given
   module _ (C : Calls 𝓤 H) (Λ : Loops 𝓤 H) (fm : FmC 𝓤 H (W .laws) C) (known-number-place : Triple 𝓤 (C #g-number-place)
       (Walk.Of 𝓤 H A g-number-place.ended (g-number-place.clauses 𝓤 H A mem run))) (known-is-dead : Triple 𝓤 (C #g-is-dead)
       (Walk.Of 𝓤 H A g-is-dead.ended (g-is-dead.clauses 𝓤 H A mem run))) (known-no-piece : Triple 𝓤 (C #g-no-piece)
-      (Walk.Of 𝓤 H A g-no-piece.ended (g-no-piece.clauses 𝓤 H A mem run))) (known-set-dead : Triple 𝓤 (C #g-set-dead)
-      (Walk.Of 𝓤 H A g-set-dead.ended (g-set-dead.clauses 𝓤 H A mem run))) (known-count-place : Triple 𝓤 (C #g-count-place)
-      (Walk.Of 𝓤 H A g-count-place.ended (g-count-place.clauses 𝓤 H A mem run)))
+      (Walk.Of 𝓤 H A g-no-piece.ended (g-no-piece.clauses 𝓤 H A mem run))) (known-count-place : Triple 𝓤 (C #g-count-place)
+      (Walk.Of 𝓤 H A g-count-place.ended (g-count-place.clauses 𝓤 H A mem run))) (known-set-dead : Triple 𝓤 (C #g-set-dead)
+      (Walk.Of 𝓤 H A g-set-dead.ended (g-set-dead.clauses 𝓤 H A mem run)))
       (known-search : (y : Walk.Of 𝓤 H A f-search.ended (f-search.clauses 𝓤 H A mem run) .Ghost)
-      → μ-search 𝓤 H A mem run y < measure-search left right nodes dead pieces line end node at
+      → μ-search 𝓤 H A mem run y < measure-search left right nodes dead notes line end node at
       → ent 𝓤 (Walk.Of 𝓤 H A f-search.ended (f-search.clauses 𝓤 H A mem run) .pre y)
       (C #search (Walk.Of 𝓤 H A f-search.ended (f-search.clauses 𝓤 H A mem run) .args y)
       (Walk.Of 𝓤 H A f-search.ended (f-search.clauses 𝓤 H A mem run) .post y)))
       (known-search-atom : (y : Walk.Of 𝓤 H A f-search-atom.ended (f-search-atom.clauses 𝓤 H A mem run) .Ghost)
-      → μ-search-atom 𝓤 H A mem run y < measure-search left right nodes dead pieces line end node at
+      → μ-search-atom 𝓤 H A mem run y < measure-search left right nodes dead notes line end node at
       → ent 𝓤 (Walk.Of 𝓤 H A f-search-atom.ended (f-search-atom.clauses 𝓤 H A mem run) .pre y)
       (C #search-atom (Walk.Of 𝓤 H A f-search-atom.ended (f-search-atom.clauses 𝓤 H A mem run) .args y)
       (Walk.Of 𝓤 H A f-search-atom.ended (f-search-atom.clauses 𝓤 H A mem run) .post y)))
       (known-search-byte : (y : Walk.Of 𝓤 H A f-search-byte.ended (f-search-byte.clauses 𝓤 H A mem run) .Ghost)
-      → μ-search-byte 𝓤 H A mem run y < measure-search left right nodes dead pieces line end node at
+      → μ-search-byte 𝓤 H A mem run y < measure-search left right nodes dead notes line end node at
       → ent 𝓤 (Walk.Of 𝓤 H A f-search-byte.ended (f-search-byte.clauses 𝓤 H A mem run) .pre y)
       (C #search-byte (Walk.Of 𝓤 H A f-search-byte.ended (f-search-byte.clauses 𝓤 H A mem run) .args y)
       (Walk.Of 𝓤 H A f-search-byte.ended (f-search-byte.clauses 𝓤 H A mem run) .post y)))
       (known-search-piece : (y : Walk.Of 𝓤 H A f-search-piece.ended (f-search-piece.clauses 𝓤 H A mem run) .Ghost)
-      → μ-search-piece 𝓤 H A mem run y < measure-search left right nodes dead pieces line end node at
+      → μ-search-piece 𝓤 H A mem run y < measure-search left right nodes dead notes line end node at
       → ent 𝓤 (Walk.Of 𝓤 H A f-search-piece.ended (f-search-piece.clauses 𝓤 H A mem run) .pre y)
       (C #search-piece (Walk.Of 𝓤 H A f-search-piece.ended (f-search-piece.clauses 𝓤 H A mem run) .args y)
       (Walk.Of 𝓤 H A f-search-piece.ended (f-search-piece.clauses 𝓤 H A mem run) .post y)))
       (known-take-up : (y : Walk.Of 𝓤 H A f-take-up.ended (f-take-up.clauses 𝓤 H A mem run) .Ghost)
-      → μ-take-up 𝓤 H A mem run y < measure-search left right nodes dead pieces line end node at
+      → μ-take-up 𝓤 H A mem run y < measure-search left right nodes dead notes line end node at
       → ent 𝓤 (Walk.Of 𝓤 H A f-take-up.ended (f-take-up.clauses 𝓤 H A mem run) .pre y)
       (C #take-up (Walk.Of 𝓤 H A f-take-up.ended (f-take-up.clauses 𝓤 H A mem run) .args y)
       (Walk.Of 𝓤 H A f-take-up.ended (f-take-up.clauses 𝓤 H A mem run) .post y))) where
     walk-search : (fits-left : left < 2 ^ 8) → (fits-right : right < 2 ^ 8) → (is-nodes : Is T-search-nodes nodes (v-search-nodes ∷ []))
-        → (is-dead : Is T-search-dead dead (v-search-dead ∷ [])) → (is-pieces : Is T-search-pieces pieces (v-search-pieces ∷ []))
+        → (is-dead : Is T-search-dead dead (v-search-dead ∷ [])) → (is-notes : Is T-search-notes notes (v-search-notes ∷ []))
         → (is-line : Is T-search-line line (v-search-line ∷ [])) → (fits-end : end < 2 ^ 64) → (fits-node : node < 2 ^ 64) → (fits-at : at < 2 ^ 64)
-        → (pre : Asks (now nodes) (now dead) (now pieces) (now line) end node at)
+        → (pre : Asks (now nodes) (now dead) (now notes) (now line) end node at)
         → ent 𝓤 (onEntry 𝓤 H A f-search.signature (κ₀, (κ₁, (κ₂, (κ₃, tt)))) (q₀, (q₁, (q₂, (q₃, tt))))
-        (left, (right, (nodes, (dead, (pieces, (line, (end, (node, (at, tt)))))))))
-        ((vint w8 left) ∷ [], ((vint w8 right) ∷ [], (v-search-nodes ∷ [], (v-search-dead ∷ [], (v-search-pieces ∷ [], (v-search-line ∷ [], ((vint w64 end) ∷ [], ((vint w64 node) ∷ [], ((vint w64 at) ∷ [], tt)))))))))) (WpFn 𝓤 H C Λ code.search-function ((vint w8 left) ∷ (vint w8 right) ∷ v-search-nodes ∷ v-search-dead ∷ v-search-pieces ∷ v-search-line ∷ (vint w64 end) ∷ (vint w64 node) ∷ (vint w64 at) ∷ []) Post-search)
-    walk-search fits-left fits-right is-nodes is-dead is-pieces is-line fits-end fits-node fits-at pre =
+        (left, (right, (nodes, (dead, (notes, (line, (end, (node, (at, tt)))))))))
+        ((vint w8 left) ∷ [], ((vint w8 right) ∷ [], (v-search-nodes ∷ [], (v-search-dead ∷ [], (v-search-notes ∷ [], (v-search-line ∷ [], ((vint w64 end) ∷ [], ((vint w64 node) ∷ [], ((vint w64 at) ∷ [], tt)))))))))) (WpFn 𝓤 H C Λ code.search-function ((vint w8 left) ∷ (vint w8 right) ∷ v-search-nodes ∷ v-search-dead ∷ v-search-notes ∷ v-search-line ∷ (vint w64 end) ∷ (vint w64 node) ∷ (vint w64 at) ∷ []) Post-search)
+    walk-search fits-left fits-right is-nodes is-dead is-notes is-line fits-end fits-node fits-at pre =
         Kit.qed W (raw (alive 𝓤 H A f-search.signature (κ₀, (κ₁, (κ₂, (κ₃, tt)))) (q₀, (q₁, (q₂, (q₃, tt))))) ∷ ‵ (owns ((UInt w8) ∷ (UInt w8) ∷
-        T-search-nodes ∷ T-search-dead ∷ T-search-pieces ∷ T-search-line ∷ (UInt w64) ∷ (UInt w64) ∷ (UInt w64) ∷ [])
-        (left, (right, (nodes, (dead, (pieces, (line, (end, (node, (at, tt)))))))))
-        ((vint w8 left) ∷ [], ((vint w8 right) ∷ [], (v-search-nodes ∷ [], (v-search-dead ∷ [], (v-search-pieces ∷ [], (v-search-line ∷ [], ((vint w64 end) ∷ [], ((vint w64 node) ∷ [], ((vint w64 at) ∷ [], tt)))))))))) ∷ []) ∵
+        T-search-nodes ∷ T-search-dead ∷ T-search-notes ∷ T-search-line ∷ (UInt w64) ∷ (UInt w64) ∷ (UInt w64) ∷ [])
+        (left, (right, (nodes, (dead, (notes, (line, (end, (node, (at, tt)))))))))
+        ((vint w8 left) ∷ [], ((vint w8 right) ∷ [], (v-search-nodes ∷ [], (v-search-dead ∷ [], (v-search-notes ∷ [], (v-search-line ∷ [], ((vint w64 end) ∷ [], ((vint w64 node) ∷ [], ((vint w64 at) ∷ [], tt)))))))))) ∷ []) ∵
         Walk.move ! (1 ∷ []) (
         Walk.hears W (Walk.gone ((UInt w8) .own left ((vint w8 left) ∷ [])) ∷ Walk.gone ((UInt w8) .own right ((vint w8 right) ∷ [])) ∷
         Walk.stays (T-search-nodes .own nodes (v-search-nodes ∷ [])) ∷ Walk.stays (T-search-dead .own dead (v-search-dead ∷ [])) ∷
-        Walk.stays (T-search-pieces .own pieces (v-search-pieces ∷ [])) ∷ Walk.stays (T-search-line .own line (v-search-line ∷ [])) ∷
+        Walk.stays (T-search-notes .own notes (v-search-notes ∷ [])) ∷ Walk.stays (T-search-line .own line (v-search-line ∷ [])) ∷
         Walk.gone ((UInt w64) .own end ((vint w64 end) ∷ [])) ∷ Walk.gone ((UInt w64) .own node ((vint w64 node) ∷ [])) ∷
         Walk.gone ((UInt w64) .own at ((vint w64 at) ∷ [])) ∷ []) ! (
         Walk.move ! (4 ∷ []) (Walk.tokens-out W ((κ₀, q₀) ∷ (κ₁, q₁) ∷ (κ₂, q₂) ∷ (κ₃, q₃) ∷ []) ! (id⊢ 𝓤 _) (
-        Walk.enter ! C Λ code.search-function ((vint w8 left) ∷ (vint w8 right) ∷ v-search-nodes ∷ v-search-dead ∷ v-search-pieces ∷ v-search-line ∷
+        Walk.enter ! C Λ code.search-function ((vint w8 left) ∷ (vint w8 right) ∷ v-search-nodes ∷ v-search-dead ∷ v-search-notes ∷ v-search-line ∷
         (vint w64 end) ∷ (vint w64 node) ∷ (vint w64 at) ∷ []) Post-search (
-        Run.alloc1 ! (λ l₀. Run.alloc1 ! (λ l₁. Run.alloc1 ! (λ l₂. Run.alloc1 ! (λ l₃. Run.alloc1 ! (λ l₄. Run.alloc1 ! (λ l₅. Run.alloc1 ! (λ l₆. Run.alloc1 ! (λ l₇. Run.alloc1 ! (λ l₈. Run.alloc1 ! (λ l₉. Run.alloc1 ! (λ l₁₀. Run.alloc1 ! (λ l₁₁. Run.alloc1 ! (λ l₁₂. Run.alloc1 ! (λ l₁₃. Run.alloc1 ! (λ l₁₄. Run.alloc1 ! (λ l₁₅. Run.alloc1 ! (λ l₁₆. Run.alloc1 ! (λ l₁₇. Run.alloc1 ! (λ l₁₈. Run.alloc1 ! (λ l₁₉. Run.alloc1 ! (λ l₂₀. Run.alloc1 ! (λ l₂₁. Run.alloc1 ! (λ l₂₂.
+        Run.alloc1 ! (λ l₀. Run.alloc1 ! (λ l₁. Run.alloc1 ! (λ l₂. Run.alloc1 ! (λ l₃. Run.alloc1 ! (λ l₄. Run.alloc1 ! (λ l₅. Run.alloc1 ! (λ l₆. Run.alloc1 ! (λ l₇. Run.alloc1 ! (λ l₈. Run.alloc1 ! (λ l₉. Run.alloc1 ! (λ l₁₀. Run.alloc1 ! (λ l₁₁. Run.alloc1 ! (λ l₁₂. Run.alloc1 ! (λ l₁₃. Run.alloc1 ! (λ l₁₄. Run.alloc1 ! (λ l₁₅. Run.alloc1 ! (λ l₁₆. Run.alloc1 ! (λ l₁₇. Run.alloc1 ! (λ l₁₈. Run.alloc1 ! (λ l₁₉. Run.alloc1 ! (λ l₂₀. Run.alloc1 ! (λ l₂₁. Run.alloc1 ! (λ l₂₂. Run.alloc1 ! (λ l₂₃. Run.alloc1 ! (λ l₂₄. Run.alloc1 ! (λ l₂₅.
         let E : Env 𝓤 H = Walk.at-addresses (code.search-function .locals) (l₀ ∷ l₁ ∷ l₂ ∷ l₃ ∷ l₄ ∷ l₅ ∷ l₆ ∷ l₇ ∷ l₈ ∷ l₉ ∷ l₁₀ ∷ l₁₁ ∷ l₁₂ ∷
-        l₁₃ ∷ l₁₄ ∷ l₁₅ ∷ l₁₆ ∷ l₁₇ ∷ l₁₈ ∷ l₁₉ ∷ l₂₀ ∷ l₂₁ ∷ l₂₂ ∷ []) in
-        Walk.move ! (44 ∷ 44 ∷ 42 ∷ 42 ∷ 40 ∷ 40 ∷ 38 ∷ 38 ∷ 36 ∷ 36 ∷ 34 ∷ 34 ∷ 32 ∷ 32 ∷ 30 ∷ 30 ∷ 28 ∷ 28 ∷ 26 ∷ 26 ∷ 24 ∷ 24 ∷ 22 ∷ 22 ∷ 20 ∷
-        20 ∷ 18 ∷ 18 ∷ 16 ∷ 16 ∷ 14 ∷ 14 ∷ 12 ∷ 12 ∷ 10 ∷ 10 ∷ 8 ∷ 8 ∷ 6 ∷ 6 ∷ 4 ∷ 4 ∷ 2 ∷ 2 ∷ 0 ∷ 0 ∷ []) (
+        l₁₃ ∷ l₁₄ ∷ l₁₅ ∷ l₁₆ ∷ l₁₇ ∷ l₁₈ ∷ l₁₉ ∷ l₂₀ ∷ l₂₁ ∷ l₂₂ ∷ l₂₃ ∷ l₂₄ ∷ l₂₅ ∷ []) in
+        Walk.move ! (50 ∷ 50 ∷ 48 ∷ 48 ∷ 46 ∷ 46 ∷ 44 ∷ 44 ∷ 42 ∷ 42 ∷ 40 ∷ 40 ∷ 38 ∷ 38 ∷ 36 ∷ 36 ∷ 34 ∷ 34 ∷ 32 ∷ 32 ∷ 30 ∷ 30 ∷ 28 ∷ 28 ∷ 26 ∷
+        26 ∷ 24 ∷ 24 ∷ 22 ∷ 22 ∷ 20 ∷ 20 ∷ 18 ∷ 18 ∷ 16 ∷ 16 ∷ 14 ∷ 14 ∷ 12 ∷ 12 ∷ 10 ∷ 10 ∷ 8 ∷ 8 ∷ 6 ∷ 6 ∷ 4 ∷ 4 ∷ 2 ∷ 2 ∷ 0 ∷ 0 ∷ []) (
         Walk.gathers ! (Walk.bare Outcome-L.mir l₀ ∷ Walk.bare (tyInt w8) l₁ ∷ Walk.bare (tyInt w8) l₂ ∷ Walk.bare Y-search-nodes l₃ ∷
-        Walk.bare Y-search-dead l₄ ∷ Walk.bare Y-search-pieces l₅ ∷ Walk.bare Y-search-line l₆ ∷ Walk.bare (tyInt w64) l₇ ∷
+        Walk.bare Y-search-dead l₄ ∷ Walk.bare Y-search-notes l₅ ∷ Walk.bare Y-search-line l₆ ∷ Walk.bare (tyInt w64) l₇ ∷
         Walk.bare (tyInt w64) l₈ ∷ Walk.bare (tyInt w64) l₉ ∷ Walk.bare (tyInt w64) l₁₀ ∷ Walk.bare Outcome-L.mir l₁₁ ∷ Walk.bare tyBool l₁₂ ∷
         Walk.bare (tyRef erased imm (pointee ((UInt w8) .written))) l₁₃ ∷
-        Walk.bare (sliceTy (tyRef erased imm (pointee ((UInt w8) .written)))) l₁₄ ∷
-        Walk.bare (tyRef erased mut (pointee ((UInt w8) .written))) l₁₅ ∷
-        Walk.bare (sliceTy (tyRef erased mut (pointee ((UInt w8) .written)))) l₁₆ ∷
-        Walk.bare (tyRef erased mut (pointee ((UInt w8) .written))) l₁₇ ∷
-        Walk.bare (sliceTy (tyRef erased mut (pointee ((UInt w8) .written)))) l₁₈ ∷ Walk.bare tyBool l₁₉ ∷ Walk.bare tyUnit l₂₀ ∷
-        Walk.bare (tyRef erased mut (pointee ((UInt w8) .written))) l₂₁ ∷
-        Walk.bare (sliceTy (tyRef erased mut (pointee ((UInt w8) .written)))) l₂₂ ∷ []) (‵ (flft κ₀ q₀) ∷ ‵ (flft κ₁ q₁) ∷ ‵ (flft κ₂ q₂) ∷
+        Walk.bare (sliceTy (tyRef erased imm (pointee ((UInt w8) .written)))) l₁₄ ∷ Walk.bare tyUnit l₁₅ ∷
+        Walk.bare (tyRef erased mut (pointee ((UInt w64) .written))) l₁₆ ∷
+        Walk.bare (sliceTy (tyRef erased mut (pointee ((UInt w64) .written)))) l₁₇ ∷
+        Walk.bare (tyRef erased mut (pointee ((UInt w8) .written))) l₁₈ ∷
+        Walk.bare (sliceTy (tyRef erased mut (pointee ((UInt w8) .written)))) l₁₉ ∷
+        Walk.bare (tyRef erased mut (pointee ((UInt w64) .written))) l₂₀ ∷
+        Walk.bare (sliceTy (tyRef erased mut (pointee ((UInt w64) .written)))) l₂₁ ∷ Walk.bare tyBool l₂₂ ∷ Walk.bare tyUnit l₂₃ ∷
+        Walk.bare (tyRef erased mut (pointee ((UInt w8) .written))) l₂₄ ∷
+        Walk.bare (sliceTy (tyRef erased mut (pointee ((UInt w8) .written)))) l₂₅ ∷ []) (‵ (flft κ₀ q₀) ∷ ‵ (flft κ₁ q₁) ∷ ‵ (flft κ₂ q₂) ∷
         ‵ (flft κ₃ q₃) ∷ ‵ (T-search-line .own line (sliceVal (line .ptr) (length (line .now)) ∷ [])) ∷
-        ‵ (T-search-pieces .own pieces (sliceVal (pieces .ptr) (length (pieces .now)) ∷ [])) ∷ ‵ (T-search-dead .own dead (sliceVal (dead .ptr)
+        ‵ (T-search-notes .own notes (sliceVal (notes .ptr) (length (notes .now)) ∷ [])) ∷ ‵ (T-search-dead .own dead (sliceVal (dead .ptr)
         (length (dead .now)) ∷ [])) ∷ ‵ (T-search-nodes .own nodes (sliceVal (nodes .ptr) (length (nodes .now)) ∷ [])) ∷ []) (λ Fd ed.
         Walk.allocated ! (Walk.after-result ! (Walk.pass ! (Run.init ! 1 refl ((tt, record { fits = fits-left }))) (
         Walk.pass ! (Run.init ! 2 refl ((tt, record { fits = fits-right }))) (
         Walk.pass ! (Run.init ! 3 refl (shr-slice-lawful 𝓤 H A W (named 0) κ₀ Node-T.the-row .typed nodes _ is-nodes .0)) (
         Walk.pass ! (Run.init ! 4 refl (mut-slice-lawful 𝓤 H A W (named 1) κ₁ (UInt w8) .typed dead _ is-dead .0)) (
-        Walk.pass ! (Run.init ! 5 refl (mut-slice-lawful 𝓤 H A W (named 2) κ₂ (UInt w8) .typed pieces _ is-pieces .0)) (
+        Walk.pass ! (Run.init ! 5 refl (mut-slice-lawful 𝓤 H A W (named 2) κ₂ (UInt w64) .typed notes _ is-notes .0)) (
         Walk.pass ! (Run.init ! 6 refl (shr-slice-lawful 𝓤 H A W (named 3) κ₃ (UInt w8) .typed line _ is-line .0)) (
         Walk.pass ! (Run.init ! 7 refl ((tt, record { fits = fits-end }))) (Walk.pass ! (Run.init ! 8 refl ((tt, record { fits = fits-node }))) (
         Walk.pass ! (Run.init ! 9 refl ((tt, record { fits = fits-at }))) (Walk.passed ! (
-        -- [the locals; their ends; κ₀; κ₁; κ₂; κ₃; line; pieces; dead; nodes]
+        -- [the locals; their ends; κ₀; κ₁; κ₂; κ₃; line; notes; dead; nodes]
         -- call 1: number_place (end, node, at)
         Walk.gives W (Walk.made ((UInt w64) .own end ((vint w64 end) ∷ [])) (uint-makes 𝓤 H A W w64 end _ (refl, fits-end)) ∷
         Walk.made ((UInt w64) .own node ((vint w64 node) ∷ [])) (uint-makes 𝓤 H A W w64 node _ (refl, fits-node)) ∷
@@ -327,28 +325,30 @@ module _ {M : Type 1} (𝓤 : URA M) (H : Heap 𝓤) (A : Atoms 𝓤) (W : Given
         Walk.written-out ! (‵ (froom Outcome-L.mir l₀ 0) ∷ ‵ (fat fullShare (tyInt w8) l₁ 0 (vint w8 left)) ∷
         ‵ (fat fullShare (tyInt w8) l₂ 0 (vint w8 right)) ∷ ‵ (fat fullShare Y-search-nodes l₃ 0 (sliceVal (nodes .ptr) (length (nodes .now)))) ∷
         ‵ (fat fullShare Y-search-dead l₄ 0 (sliceVal (dead .ptr) (length (dead .now)))) ∷
-        ‵ (fat fullShare Y-search-pieces l₅ 0 (sliceVal (pieces .ptr) (length (pieces .now)))) ∷
+        ‵ (fat fullShare Y-search-notes l₅ 0 (sliceVal (notes .ptr) (length (notes .now)))) ∷
         ‵ (fat fullShare Y-search-line l₆ 0 (sliceVal (line .ptr) (length (line .now)))) ∷ ‵ (fat fullShare (tyInt w64) l₇ 0 (vint w64 end)) ∷
         ‵ (fat fullShare (tyInt w64) l₈ 0 (vint w64 node)) ∷ ‵ (fat fullShare (tyInt w64) l₉ 0 (vint w64 at)) ∷
         ‵ (fat fullShare (tyInt w64) l₁₀ 0 (vint w64 r1)) ∷ ‵ (froom Outcome-L.mir l₁₁ 0) ∷ ‵ (froom tyBool l₁₂ 0) ∷
         ‵ (froom (tyRef erased imm (pointee ((UInt w8) .written))) l₁₃ 0) ∷
-        ‵ (froom (sliceTy (tyRef erased imm (pointee ((UInt w8) .written)))) l₁₄ 0) ∷
-        ‵ (froom (tyRef erased mut (pointee ((UInt w8) .written))) l₁₅ 0) ∷
-        ‵ (froom (sliceTy (tyRef erased mut (pointee ((UInt w8) .written)))) l₁₆ 0) ∷
-        ‵ (froom (tyRef erased mut (pointee ((UInt w8) .written))) l₁₇ 0) ∷
-        ‵ (froom (sliceTy (tyRef erased mut (pointee ((UInt w8) .written)))) l₁₈ 0) ∷ ‵ (froom tyBool l₁₉ 0) ∷ ‵ (froom tyUnit l₂₀ 0) ∷
-        ‵ (froom (tyRef erased mut (pointee ((UInt w8) .written))) l₂₁ 0) ∷
-        ‵ (froom (sliceTy (tyRef erased mut (pointee ((UInt w8) .written)))) l₂₂ 0) ∷ ‵ Fd ∷ ‵ (flft κ₀ q₀) ∷ ‵ (flft κ₁ q₁) ∷ ‵ (flft κ₂ q₂) ∷
+        ‵ (froom (sliceTy (tyRef erased imm (pointee ((UInt w8) .written)))) l₁₄ 0) ∷ ‵ (froom tyUnit l₁₅ 0) ∷
+        ‵ (froom (tyRef erased mut (pointee ((UInt w64) .written))) l₁₆ 0) ∷
+        ‵ (froom (sliceTy (tyRef erased mut (pointee ((UInt w64) .written)))) l₁₇ 0) ∷
+        ‵ (froom (tyRef erased mut (pointee ((UInt w8) .written))) l₁₈ 0) ∷
+        ‵ (froom (sliceTy (tyRef erased mut (pointee ((UInt w8) .written)))) l₁₉ 0) ∷
+        ‵ (froom (tyRef erased mut (pointee ((UInt w64) .written))) l₂₀ 0) ∷
+        ‵ (froom (sliceTy (tyRef erased mut (pointee ((UInt w64) .written)))) l₂₁ 0) ∷ ‵ (froom tyBool l₂₂ 0) ∷ ‵ (froom tyUnit l₂₃ 0) ∷
+        ‵ (froom (tyRef erased mut (pointee ((UInt w8) .written))) l₂₄ 0) ∷
+        ‵ (froom (sliceTy (tyRef erased mut (pointee ((UInt w8) .written)))) l₂₅ 0) ∷ ‵ Fd ∷ ‵ (flft κ₀ q₀) ∷ ‵ (flft κ₁ q₁) ∷ ‵ (flft κ₂ q₂) ∷
         ‵ (flft κ₃ q₃) ∷ ‵ (T-search-line .own line (sliceVal (line .ptr) (length (line .now)) ∷ [])) ∷
-        ‵ (T-search-pieces .own pieces (sliceVal (pieces .ptr) (length (pieces .now)) ∷ [])) ∷ ‵ (T-search-dead .own dead (sliceVal (dead .ptr)
+        ‵ (T-search-notes .own notes (sliceVal (notes .ptr) (length (notes .now)) ∷ [])) ∷ ‵ (T-search-dead .own dead (sliceVal (dead .ptr)
         (length (dead .now)) ∷ [])) ∷ ‵ (T-search-nodes .own nodes (sliceVal (nodes .ptr) (length (nodes .now)) ∷ [])) ∷ []) refl (
         Walk.sets ! (Run.addr ! (Run.from ! (Run.fld ! refl (Run.hop ! (Part.look-in ! 4 (Part.sub ! 0 refl (Part.whole !))) (Run.stop !)))))
         (Run.init ! 13 refl ((tt, tt))) (
         Walk.sets ! (Part.agg ! (Run.and-then ! (Walk.local ! 13 refl) (Run.and-then ! (Walk.part ! 4 refl refl refl) (Run.no-more !))))
         (Run.init ! 14 refl ((tt, (tt, (record { fits = is-dead .0 .1 .0 }, tt))))) (
-        -- [the locals; their ends; κ₀; κ₁; κ₂; κ₃; line; pieces; dead; nodes]
+        -- [the locals; their ends; κ₀; κ₁; κ₂; κ₃; line; notes; dead; nodes]
         -- call 2: is_dead (dead, r1)
-        Walk.move ! (30 ∷ 25 ∷ []) (Again.shares W (UInt w8) κ₁ q₁ dead (named 1) (named 0) (dead .now) ! tt (λ ν1 δ1.
+        Walk.move ! (33 ∷ 28 ∷ []) (Again.shares W (UInt w8) κ₁ q₁ dead (named 1) (named 0) (dead .now) ! tt (λ ν1 δ1.
         Walk.gives W (Walk.kept (ShrSlice (named 0) (ν1 ∷ []) (UInt w8) .own (record { ptr = (dead .ptr); name = δ1; now = (dead .now) })
         ((sliceVal (dead .ptr) (length (dead .now))) ∷ [])) ∷ Walk.made ((UInt w64) .own r1 ((vint w64 r1) ∷ []))
         (uint-makes 𝓤 H A W w64 r1 _ (refl, is1 .1)) ∷ []) _ ! (
@@ -365,30 +365,32 @@ module _ {M : Type 1} (𝓤 : URA M) (H : Heap 𝓤) (A : Atoms 𝓤) (W : Given
         ‵ (froom Outcome-L.mir l₀ 0) ∷ ‵ (fat fullShare (tyInt w8) l₁ 0 (vint w8 left)) ∷ ‵ (fat fullShare (tyInt w8) l₂ 0 (vint w8 right)) ∷
         ‵ (fat fullShare Y-search-nodes l₃ 0 (sliceVal (nodes .ptr) (length (nodes .now)))) ∷
         ‵ (fat fullShare Y-search-dead l₄ 0 (sliceVal (dead .ptr) (length (dead .now)))) ∷
-        ‵ (fat fullShare Y-search-pieces l₅ 0 (sliceVal (pieces .ptr) (length (pieces .now)))) ∷
+        ‵ (fat fullShare Y-search-notes l₅ 0 (sliceVal (notes .ptr) (length (notes .now)))) ∷
         ‵ (fat fullShare Y-search-line l₆ 0 (sliceVal (line .ptr) (length (line .now)))) ∷ ‵ (fat fullShare (tyInt w64) l₇ 0 (vint w64 end)) ∷
         ‵ (fat fullShare (tyInt w64) l₈ 0 (vint w64 node)) ∷ ‵ (fat fullShare (tyInt w64) l₉ 0 (vint w64 at)) ∷
         ‵ (fat fullShare (tyInt w64) l₁₀ 0 (vint w64 r1)) ∷ ‵ (froom Outcome-L.mir l₁₁ 0) ∷ ‵ (fat fullShare tyBool l₁₂ 0 (vbool r2)) ∷
         ‵ (fat fullShare (tyRef erased imm (pointee ((UInt w8) .written))) l₁₃ 0 (vptr (dead .ptr .0) (dead .ptr .1))) ∷
         ‵ (fat fullShare (sliceTy (tyRef erased imm (pointee ((UInt w8) .written)))) l₁₄ 0 (sliceVal (dead .ptr) (length (dead .now)))) ∷
-        ‵ (froom (tyRef erased mut (pointee ((UInt w8) .written))) l₁₅ 0) ∷
-        ‵ (froom (sliceTy (tyRef erased mut (pointee ((UInt w8) .written)))) l₁₆ 0) ∷
-        ‵ (froom (tyRef erased mut (pointee ((UInt w8) .written))) l₁₇ 0) ∷
-        ‵ (froom (sliceTy (tyRef erased mut (pointee ((UInt w8) .written)))) l₁₈ 0) ∷ ‵ (froom tyBool l₁₉ 0) ∷ ‵ (froom tyUnit l₂₀ 0) ∷
-        ‵ (froom (tyRef erased mut (pointee ((UInt w8) .written))) l₂₁ 0) ∷
-        ‵ (froom (sliceTy (tyRef erased mut (pointee ((UInt w8) .written)))) l₂₂ 0) ∷ ‵ Fd ∷ ‵ (flft κ₀ q₀) ∷ ‵ (flft κ₂ q₂) ∷ ‵ (flft κ₃ q₃) ∷
-        ‵ (T-search-line .own line (sliceVal (line .ptr) (length (line .now)) ∷ [])) ∷ ‵ (T-search-pieces .own pieces (sliceVal (pieces .ptr)
-        (length (pieces .now)) ∷ [])) ∷ ‵ (T-search-nodes .own nodes (sliceVal (nodes .ptr) (length (nodes .now)) ∷ [])) ∷ []) refl (
+        ‵ (froom tyUnit l₁₅ 0) ∷ ‵ (froom (tyRef erased mut (pointee ((UInt w64) .written))) l₁₆ 0) ∷
+        ‵ (froom (sliceTy (tyRef erased mut (pointee ((UInt w64) .written)))) l₁₇ 0) ∷
+        ‵ (froom (tyRef erased mut (pointee ((UInt w8) .written))) l₁₈ 0) ∷
+        ‵ (froom (sliceTy (tyRef erased mut (pointee ((UInt w8) .written)))) l₁₉ 0) ∷
+        ‵ (froom (tyRef erased mut (pointee ((UInt w64) .written))) l₂₀ 0) ∷
+        ‵ (froom (sliceTy (tyRef erased mut (pointee ((UInt w64) .written)))) l₂₁ 0) ∷ ‵ (froom tyBool l₂₂ 0) ∷ ‵ (froom tyUnit l₂₃ 0) ∷
+        ‵ (froom (tyRef erased mut (pointee ((UInt w8) .written))) l₂₄ 0) ∷
+        ‵ (froom (sliceTy (tyRef erased mut (pointee ((UInt w8) .written)))) l₂₅ 0) ∷ ‵ Fd ∷ ‵ (flft κ₀ q₀) ∷ ‵ (flft κ₂ q₂) ∷ ‵ (flft κ₃ q₃) ∷
+        ‵ (T-search-line .own line (sliceVal (line .ptr) (length (line .now)) ∷ [])) ∷ ‵ (T-search-notes .own notes (sliceVal (notes .ptr)
+        (length (notes .now)) ∷ [])) ∷ ‵ (T-search-nodes .own nodes (sliceVal (nodes .ptr) (length (nodes .now)) ∷ [])) ∷ []) refl (
         Walk.first-then ! (Run.branches ! (Walk.local ! 14 refl)
         (λ h1. let t1 : r2 ≡ true = Walk.is-true _ h1 in
-        -- [dead; κ₁; the locals; their ends; κ₀; κ₂; κ₃; line; pieces; nodes]
-        -- call 3: no_piece (0, 0)
-        Walk.gives W (Walk.made ((UInt w64) .own 0 ((vint w64 0) ∷ [])) (uint-makes 𝓤 H A W w64 0 _ (refl, lit< tt)) ∷
-        Walk.made ((UInt w64) .own 0 ((vint w64 0) ∷ [])) (uint-makes 𝓤 H A W w64 0 _ (refl, lit< tt)) ∷ []) _ ! (
+        -- [dead; κ₁; the locals; their ends; κ₀; κ₂; κ₃; line; notes; nodes]
+        -- call 3: no_piece (0)
+        Walk.gives W (Walk.made ((UInt w64) .own 0 ((vint w64 0) ∷ [])) (uint-makes 𝓤 H A W w64 0 _ (refl, lit< tt)) ∷ []) _ ! (
         Walk.tokens-in W ([]) _ ! (alive 𝓤 H A g-no-piece.signature tt tt) (id⊢ 𝓤 _) (
         Walk.asks W ! fm g-no-piece.ended (g-no-piece.clauses 𝓤 H A mem run)
-        ((tt, tt, tt, (0, (0, tt)), ((vint w64 0) ∷ [], ((vint w64 0) ∷ [], tt))), tt) _ (known-no-piece ((tt, tt, tt, (0, (0, tt)), ((vint w64 0) ∷ [], ((vint w64 0) ∷ [], tt))), tt)) (id⊢ 𝓤 (emp 𝓤)) (λ r ws. id⊢ 𝓤 _)
-        (Run.and-then ! (Run.lit ! tt) (Run.and-then ! (Run.lit ! tt) (Run.no-more !))) (λ u3 r3 is3′ e3.
+        ((tt, tt, tt, (0, tt), ((vint w64 0) ∷ [], tt)), tt) _ (known-no-piece ((tt, tt, tt, (0, tt), ((vint w64 0) ∷ [], tt)), tt)) (id⊢ 𝓤 (emp 𝓤))
+        (λ r ws. id⊢ 𝓤 _)
+        (Run.and-then ! (Run.lit ! tt) (Run.no-more !)) (λ u3 r3 is3′ e3.
         Walk.tokens-out W ([]) ! (id⊢ 𝓤 _) (
         Walk.lands-in ! (Walk.init-as ! 2 refl (LL.lawful Outcome-T.the-type Outcome-L.the-laws 𝓤 H A W .typed r3 _ is3′ .0)
         (ap only (LL.tells Outcome-T.the-type Outcome-L.the-laws r3 _ is3′))) (
@@ -398,300 +400,290 @@ module _ {M : Type 1} (𝓤 : URA M) (H : Heap 𝓤) (A : Atoms 𝓤) (W : Given
         ‵ (fat fullShare Outcome-L.mir l₀ 0 (Outcome-L.lowered r3)) ∷ ‵ (fat fullShare (tyInt w8) l₁ 0 (vint w8 left)) ∷
         ‵ (fat fullShare (tyInt w8) l₂ 0 (vint w8 right)) ∷ ‵ (fat fullShare Y-search-nodes l₃ 0 (sliceVal (nodes .ptr) (length (nodes .now)))) ∷
         ‵ (fat fullShare Y-search-dead l₄ 0 (sliceVal (dead .ptr) (length (dead .now)))) ∷
-        ‵ (fat fullShare Y-search-pieces l₅ 0 (sliceVal (pieces .ptr) (length (pieces .now)))) ∷
+        ‵ (fat fullShare Y-search-notes l₅ 0 (sliceVal (notes .ptr) (length (notes .now)))) ∷
         ‵ (fat fullShare Y-search-line l₆ 0 (sliceVal (line .ptr) (length (line .now)))) ∷ ‵ (fat fullShare (tyInt w64) l₇ 0 (vint w64 end)) ∷
         ‵ (fat fullShare (tyInt w64) l₈ 0 (vint w64 node)) ∷ ‵ (fat fullShare (tyInt w64) l₉ 0 (vint w64 at)) ∷
         ‵ (fat fullShare (tyInt w64) l₁₀ 0 (vint w64 r1)) ∷ ‵ (froom Outcome-L.mir l₁₁ 0) ∷ ‵ (fat fullShare tyBool l₁₂ 0 (vbool r2)) ∷
         ‵ (fat fullShare (tyRef erased imm (pointee ((UInt w8) .written))) l₁₃ 0 (vptr (dead .ptr .0) (dead .ptr .1))) ∷
         ‵ (fat fullShare (sliceTy (tyRef erased imm (pointee ((UInt w8) .written)))) l₁₄ 0 (sliceVal (dead .ptr) (length (dead .now)))) ∷
-        ‵ (froom (tyRef erased mut (pointee ((UInt w8) .written))) l₁₅ 0) ∷
-        ‵ (froom (sliceTy (tyRef erased mut (pointee ((UInt w8) .written)))) l₁₆ 0) ∷
-        ‵ (froom (tyRef erased mut (pointee ((UInt w8) .written))) l₁₇ 0) ∷
-        ‵ (froom (sliceTy (tyRef erased mut (pointee ((UInt w8) .written)))) l₁₈ 0) ∷ ‵ (froom tyBool l₁₉ 0) ∷ ‵ (froom tyUnit l₂₀ 0) ∷
-        ‵ (froom (tyRef erased mut (pointee ((UInt w8) .written))) l₂₁ 0) ∷
-        ‵ (froom (sliceTy (tyRef erased mut (pointee ((UInt w8) .written)))) l₂₂ 0) ∷ ‵ Fd ∷ ‵ (flft κ₀ q₀) ∷ ‵ (flft κ₂ q₂) ∷ ‵ (flft κ₃ q₃) ∷
-        ‵ (T-search-line .own line (sliceVal (line .ptr) (length (line .now)) ∷ [])) ∷ ‵ (T-search-pieces .own pieces (sliceVal (pieces .ptr)
-        (length (pieces .now)) ∷ [])) ∷ ‵ (T-search-nodes .own nodes (sliceVal (nodes .ptr) (length (nodes .now)) ∷ [])) ∷ []) refl (
+        ‵ (froom tyUnit l₁₅ 0) ∷ ‵ (froom (tyRef erased mut (pointee ((UInt w64) .written))) l₁₆ 0) ∷
+        ‵ (froom (sliceTy (tyRef erased mut (pointee ((UInt w64) .written)))) l₁₇ 0) ∷
+        ‵ (froom (tyRef erased mut (pointee ((UInt w8) .written))) l₁₈ 0) ∷
+        ‵ (froom (sliceTy (tyRef erased mut (pointee ((UInt w8) .written)))) l₁₉ 0) ∷
+        ‵ (froom (tyRef erased mut (pointee ((UInt w64) .written))) l₂₀ 0) ∷
+        ‵ (froom (sliceTy (tyRef erased mut (pointee ((UInt w64) .written)))) l₂₁ 0) ∷ ‵ (froom tyBool l₂₂ 0) ∷ ‵ (froom tyUnit l₂₃ 0) ∷
+        ‵ (froom (tyRef erased mut (pointee ((UInt w8) .written))) l₂₄ 0) ∷
+        ‵ (froom (sliceTy (tyRef erased mut (pointee ((UInt w8) .written)))) l₂₅ 0) ∷ ‵ Fd ∷ ‵ (flft κ₀ q₀) ∷ ‵ (flft κ₂ q₂) ∷ ‵ (flft κ₃ q₃) ∷
+        ‵ (T-search-line .own line (sliceVal (line .ptr) (length (line .now)) ∷ [])) ∷ ‵ (T-search-notes .own notes (sliceVal (notes .ptr)
+        (length (notes .now)) ∷ [])) ∷ ‵ (T-search-nodes .own nodes (sliceVal (nodes .ptr) (length (nodes .now)) ∷ [])) ∷ []) refl (
         Walk.returns-by ! Post-search (Walk.through 𝓤 H C Λ E _ _ Post-search refl) (Run.look ! 2 refl) (
-        Walk.move ! (2 ∷ 2 ∷ 2 ∷ 2 ∷ 2 ∷ 2 ∷ 2 ∷ 2 ∷ 2 ∷ 2 ∷ 2 ∷ 2 ∷ 2 ∷ 2 ∷ 2 ∷ 2 ∷ 2 ∷ 2 ∷ 2 ∷ 2 ∷ 2 ∷ 2 ∷ 2 ∷ 2 ∷ []) (
+        Walk.move ! (2 ∷ 2 ∷ 2 ∷ 2 ∷ 2 ∷ 2 ∷ 2 ∷ 2 ∷ 2 ∷ 2 ∷ 2 ∷ 2 ∷ 2 ∷ 2 ∷ 2 ∷ 2 ∷ 2 ∷ 2 ∷ 2 ∷ 2 ∷ 2 ∷ 2 ∷ 2 ∷ 2 ∷ 2 ∷ 2 ∷ 2 ∷ []) (
         Walk.frees-gathered ! (Walk.full Outcome-L.mir l₀ (Outcome-L.lowered r3) ∷ Walk.full (tyInt w8) l₁ (vint w8 left) ∷
         Walk.full (tyInt w8) l₂ (vint w8 right) ∷ Walk.full Y-search-nodes l₃ (sliceVal (nodes .ptr) (length (nodes .now))) ∷
-        Walk.full Y-search-dead l₄ (sliceVal (dead .ptr) (length (dead .now))) ∷ Walk.full Y-search-pieces l₅ (sliceVal (pieces .ptr)
-        (length (pieces .now))) ∷ Walk.full Y-search-line l₆ (sliceVal (line .ptr) (length (line .now))) ∷ Walk.full (tyInt w64) l₇ (vint w64 end) ∷
+        Walk.full Y-search-dead l₄ (sliceVal (dead .ptr) (length (dead .now))) ∷ Walk.full Y-search-notes l₅ (sliceVal (notes .ptr)
+        (length (notes .now))) ∷ Walk.full Y-search-line l₆ (sliceVal (line .ptr) (length (line .now))) ∷ Walk.full (tyInt w64) l₇ (vint w64 end) ∷
         Walk.full (tyInt w64) l₈ (vint w64 node) ∷ Walk.full (tyInt w64) l₉ (vint w64 at) ∷ Walk.full (tyInt w64) l₁₀ (vint w64 r1) ∷
         Walk.bare Outcome-L.mir l₁₁ ∷ Walk.full tyBool l₁₂ (vbool r2) ∷
         Walk.full (tyRef erased imm (pointee ((UInt w8) .written))) l₁₃ (vptr (dead .ptr .0) (dead .ptr .1)) ∷
         Walk.full (sliceTy (tyRef erased imm (pointee ((UInt w8) .written)))) l₁₄ (sliceVal (dead .ptr) (length (dead .now))) ∷
-        Walk.bare (tyRef erased mut (pointee ((UInt w8) .written))) l₁₅ ∷
-        Walk.bare (sliceTy (tyRef erased mut (pointee ((UInt w8) .written)))) l₁₆ ∷
-        Walk.bare (tyRef erased mut (pointee ((UInt w8) .written))) l₁₇ ∷
-        Walk.bare (sliceTy (tyRef erased mut (pointee ((UInt w8) .written)))) l₁₈ ∷ Walk.bare tyBool l₁₉ ∷ Walk.bare tyUnit l₂₀ ∷
-        Walk.bare (tyRef erased mut (pointee ((UInt w8) .written))) l₂₁ ∷
-        Walk.bare (sliceTy (tyRef erased mut (pointee ((UInt w8) .written)))) l₂₂ ∷ []) Fd ed (‵ (T-search-dead .own dead (sliceVal (dead .ptr)
+        Walk.bare tyUnit l₁₅ ∷ Walk.bare (tyRef erased mut (pointee ((UInt w64) .written))) l₁₆ ∷
+        Walk.bare (sliceTy (tyRef erased mut (pointee ((UInt w64) .written)))) l₁₇ ∷
+        Walk.bare (tyRef erased mut (pointee ((UInt w8) .written))) l₁₈ ∷
+        Walk.bare (sliceTy (tyRef erased mut (pointee ((UInt w8) .written)))) l₁₉ ∷
+        Walk.bare (tyRef erased mut (pointee ((UInt w64) .written))) l₂₀ ∷
+        Walk.bare (sliceTy (tyRef erased mut (pointee ((UInt w64) .written)))) l₂₁ ∷ Walk.bare tyBool l₂₂ ∷ Walk.bare tyUnit l₂₃ ∷
+        Walk.bare (tyRef erased mut (pointee ((UInt w8) .written))) l₂₄ ∷
+        Walk.bare (sliceTy (tyRef erased mut (pointee ((UInt w8) .written)))) l₂₅ ∷ []) Fd ed (‵ (T-search-dead .own dead (sliceVal (dead .ptr)
         (length (dead .now)) ∷ [])) ∷ ‵ (flft κ₁ q₁) ∷ ‵ (flft κ₀ q₀) ∷ ‵ (flft κ₂ q₂) ∷ ‵ (flft κ₃ q₃) ∷
-        ‵ (T-search-line .own line (sliceVal (line .ptr) (length (line .now)) ∷ [])) ∷ ‵ (T-search-pieces .own pieces (sliceVal (pieces .ptr)
-        (length (pieces .now)) ∷ [])) ∷ ‵ (T-search-nodes .own nodes (sliceVal (nodes .ptr) (length (nodes .now)) ∷ [])) ∷ []) (
+        ‵ (T-search-line .own line (sliceVal (line .ptr) (length (line .now)) ∷ [])) ∷ ‵ (T-search-notes .own notes (sliceVal (notes .ptr)
+        (length (notes .now)) ∷ [])) ∷ ‵ (T-search-nodes .own nodes (sliceVal (nodes .ptr) (length (nodes .now)) ∷ [])) ∷ []) (
         Walk.move ! (0 ∷ 5 ∷ []) (
         Walk.gives W (Walk.nothing ∷ Walk.nothing ∷ Walk.nothing ∷ Walk.turned (T-search-dead .own dead (sliceVal (dead .ptr) (length (dead .now)) ∷
         [])) (finally (UInt w8) (dead .name) (dead .now)) (Walk.ended-slice 𝓤 H A W (named 1) κ₁ (UInt w8) dead (dead .now) _) ∷
-        Walk.turned (T-search-pieces .own pieces (sliceVal (pieces .ptr) (length (pieces .now)) ∷ [])) (finally (UInt w8) (pieces .name)
-        (pieces .now)) (Walk.ended-slice 𝓤 H A W (named 2) κ₂ (UInt w8) pieces (pieces .now) _) ∷ Walk.nothing ∷ Walk.nothing ∷ Walk.nothing ∷
-        Walk.nothing ∷ []) _ ! (
+        Walk.turned (T-search-notes .own notes (sliceVal (notes .ptr) (length (notes .now)) ∷ [])) (finally (UInt w64) (notes .name) (notes .now))
+        (Walk.ended-slice 𝓤 H A W (named 2) κ₂ (UInt w64) notes (notes .now) _) ∷ Walk.nothing ∷ Walk.nothing ∷ Walk.nothing ∷ Walk.nothing ∷
+        []) _ ! (
         Walk.move ! (2 ∷ 1 ∷ 1 ∷ 1 ∷ []) (
         Walk.tokens-in W ((κ₀, q₀) ∷ (κ₁, q₁) ∷ (κ₂, q₂) ∷ (κ₃, q₃) ∷ []) _ ! (alive 𝓤 H A f-search.signature (κ₀, (κ₁, (κ₂, (κ₃, tt))))
         (q₀, (q₁, (q₂, (q₃, tt))))) (id⊢ 𝓤 _) (
         Walk.use0 W ! (‵ (Outcome-T.the-row .own r3 ((Outcome-L.lowered r3) ∷ []))) (LL.makes Outcome-T.the-type Outcome-L.the-plain 𝓤 H A r3 _ is3) (
         Walk.keep ! (1 ∷ 1 ∷ 0 ∷ []) (
-        Kit.by ! (Walk.leave-by 𝓤 H A W f-search.ended (f-search.clauses 𝓤 H A mem run) stayed-search bound-search (Outcome-L.lowered r3) r3 (tt, (tt, (tt, ((dead .now), ((pieces .now), (tt, (tt, (tt, (tt, tt))))))))) (tt, (tt, (tt, (refl, (refl, (tt, (tt, (tt, (tt, tt))))))))) (factI 𝓤 _ (emp 𝓤) (was-dead pre e1 e2 t1 e3)))))))))))))))))))
+        Kit.by ! (Walk.leave-by 𝓤 H A W f-search.ended (f-search.clauses 𝓤 H A mem run) stayed-search bound-search (Outcome-L.lowered r3) r3 (tt, (tt, (tt, ((dead .now), ((notes .now), (tt, (tt, (tt, (tt, tt))))))))) (tt, (tt, (tt, (refl, (refl, (tt, (tt, (tt, (tt, tt))))))))) (factI 𝓤 _ (emp 𝓤) (was-dead pre e1 e2 t1 e3)))))))))))))))))))
         (λ h1. let t1 : r2 ≡ false = Walk.is-false _ h1 in
         Walk.skips-then ! (
-        Walk.sets ! (Run.addr ! (Run.from ! (Run.fld ! refl (Run.hop ! (Part.look-in ! 6 (Part.sub ! 0 refl (Part.whole !))) (Run.stop !)))))
-        (Run.init ! 17 refl ((tt, tt))) (
-        Walk.sets ! (Part.agg ! (Run.and-then ! (Walk.local ! 17 refl) (Run.and-then ! (Walk.part ! 6 refl refl refl) (Run.no-more !))))
-        (Run.init ! 18 refl ((tt, (tt, (record { fits = is-dead .0 .1 .0 }, tt))))) (
         Walk.sets ! (Run.addr ! (Run.from ! (Run.fld ! refl (Run.hop ! (Part.look-in ! 7 (Part.sub ! 0 refl (Part.whole !))) (Run.stop !)))))
-        (Run.init ! 19 refl ((tt, tt))) (
-        Walk.sets ! (Part.agg ! (Run.and-then ! (Walk.local ! 19 refl) (Run.and-then ! (Walk.part ! 7 refl refl refl) (Run.no-more !))))
-        (Run.init ! 20 refl ((tt, (tt, (record { fits = is-pieces .0 .1 .0 }, tt))))) (
-        -- [dead; κ₁; the locals; their ends; κ₀; κ₂; κ₃; line; pieces; nodes]
-        -- call 4: take_up (left, right, nodes, dead, pieces, line, end, node, at)
-        Again.lends W (UInt w8) κ₁ q₁ dead (named 1) (named 1) (dead .now) ! tt (λ ν2 δ2.
-        Walk.move ! (31 ∷ 28 ∷ []) (Again.lends W (UInt w8) κ₂ q₂ pieces (named 2) (named 2) (pieces .now) ! tt (λ ν3 δ3.
-        Walk.move ! (33 ∷ 3 ∷ 0 ∷ 30 ∷ []) (
+        (Run.init ! 18 refl ((tt, tt))) (
+        Walk.sets ! (Part.agg ! (Run.and-then ! (Walk.local ! 18 refl) (Run.and-then ! (Walk.part ! 7 refl refl refl) (Run.no-more !))))
+        (Run.init ! 19 refl ((tt, (tt, (record { fits = is-notes .0 .1 .0 }, tt))))) (
+        -- [dead; κ₁; the locals; their ends; κ₀; κ₂; κ₃; line; notes; nodes]
+        -- call 4: count_place (notes)
+        Walk.move ! (33 ∷ 30 ∷ []) (Again.lends W (UInt w64) κ₂ q₂ notes (named 2) (named 0) (notes .now) ! tt (λ ν2 δ2.
+        Walk.gives W (Walk.kept (MutSlice (named 0) (ν2 ∷ []) (UInt w64) .own (record { ptr = (notes .ptr); name = δ2; now = (notes .now) })
+        ((sliceVal (notes .ptr) (length (notes .now))) ∷ [])) ∷ []) _ ! (
+        Walk.move ! (2 ∷ []) (
+        Walk.tokens-in W (((ν2 ∷ []), fullShare) ∷ []) _ ! (alive 𝓤 H A g-count-place.signature ((ν2 ∷ []), tt) (fullShare, tt)) (id⊢ 𝓤 _) (
+        Walk.asksˡ W ! fm g-count-place.ended (g-count-place.clauses 𝓤 H A mem run)
+        ((((ν2 ∷ []), tt), (fullShare, tt), tt, ((record { ptr = (notes .ptr); name = δ2; now = (notes .now) }), tt), ((sliceVal (notes .ptr) (length (notes .now))) ∷ [], tt)), tt) _ (known-count-place ((((ν2 ∷ []), tt), (fullShare, tt), tt, ((record { ptr = (notes .ptr); name = δ2; now = (notes .now) }), tt), ((sliceVal (notes .ptr) (length (notes .now))) ∷ [], tt)), tt)) (factI 𝓤 _ (emp 𝓤) (pre .twenty)) (λ r ws. id⊢ 𝓤 _)
+        (Run.and-then ! (Walk.local ! 21 refl) (Run.no-more !)) (λ u4 r4 ws4 is4′ e4.
+        Walk.returned W (((ν2 ∷ []), fullShare) ∷ []) (Walk.final (finally (UInt w64) δ2 (ws4 .0)) (length (ws4 .0)) (length (notes .now)) ∷
+        []) ! (id⊢ 𝓤 _) (λ len2.
+        Walk.move ! (1 ∷ 1 ∷ 0 ∷ 7 ∷ []) (Again.backs W (UInt w64) κ₂ q₂ notes (named 2) (named 0) (notes .now) ! tt (ws4 .0) (is-notes .0 .1) len2 (
+        Walk.lands-in ! (Walk.init-as ! 19 refl (nothing-lawful 𝓤 H A W .typed r4 _ is4′ .0) (ap only (nothing-tells r4 _ is4′))) (
+        let is4 : Is Nothing r4 (vunit ∷ []) = subst (λ (vs : List Val). Is Nothing r4 vs) (nothing-tells r4 _ is4′) is4′ in
+        Walk.written-out ! (‵ (T-search-notes .own (at-last notes (ws4 .0)) (sliceVal (notes .ptr) (length (ws4 .0)) ∷ [])) ∷ ‵ (flft κ₂ q₂) ∷
+        ‵ (fat fullShare Y-search-notes l₅ 0 (sliceVal (notes .ptr) (length (ws4 .0)))) ∷ ‵ (T-search-dead .own dead (sliceVal (dead .ptr)
+        (length (dead .now)) ∷ [])) ∷ ‵ (flft κ₁ q₁) ∷ ‵ (froom Outcome-L.mir l₀ 0) ∷ ‵ (fat fullShare (tyInt w8) l₁ 0 (vint w8 left)) ∷
+        ‵ (fat fullShare (tyInt w8) l₂ 0 (vint w8 right)) ∷ ‵ (fat fullShare Y-search-nodes l₃ 0 (sliceVal (nodes .ptr) (length (nodes .now)))) ∷
+        ‵ (fat fullShare Y-search-dead l₄ 0 (sliceVal (dead .ptr) (length (dead .now)))) ∷ ‵ (fat fullShare Y-search-line l₆ 0 (sliceVal (line .ptr)
+        (length (line .now)))) ∷ ‵ (fat fullShare (tyInt w64) l₇ 0 (vint w64 end)) ∷ ‵ (fat fullShare (tyInt w64) l₈ 0 (vint w64 node)) ∷
+        ‵ (fat fullShare (tyInt w64) l₉ 0 (vint w64 at)) ∷ ‵ (fat fullShare (tyInt w64) l₁₀ 0 (vint w64 r1)) ∷ ‵ (froom Outcome-L.mir l₁₁ 0) ∷
+        ‵ (fat fullShare tyBool l₁₂ 0 (vbool r2)) ∷ ‵ (fat fullShare (tyRef erased imm (pointee ((UInt w8) .written))) l₁₃ 0 (vptr (dead .ptr .0)
+        (dead .ptr .1))) ∷ ‵ (fat fullShare (sliceTy (tyRef erased imm (pointee ((UInt w8) .written)))) l₁₄ 0 (sliceVal (dead .ptr)
+        (length (dead .now)))) ∷ ‵ (fat fullShare tyUnit l₁₅ 0 vunit) ∷
+        ‵ (fat fullShare (tyRef erased mut (pointee ((UInt w64) .written))) l₁₆ 0 (vptr (notes .ptr .0) (notes .ptr .1))) ∷
+        ‵ (fat fullShare (sliceTy (tyRef erased mut (pointee ((UInt w64) .written)))) l₁₇ 0 (sliceVal (notes .ptr) (length (notes .now)))) ∷
+        ‵ (froom (tyRef erased mut (pointee ((UInt w8) .written))) l₁₈ 0) ∷
+        ‵ (froom (sliceTy (tyRef erased mut (pointee ((UInt w8) .written)))) l₁₉ 0) ∷
+        ‵ (froom (tyRef erased mut (pointee ((UInt w64) .written))) l₂₀ 0) ∷
+        ‵ (froom (sliceTy (tyRef erased mut (pointee ((UInt w64) .written)))) l₂₁ 0) ∷ ‵ (froom tyBool l₂₂ 0) ∷ ‵ (froom tyUnit l₂₃ 0) ∷
+        ‵ (froom (tyRef erased mut (pointee ((UInt w8) .written))) l₂₄ 0) ∷
+        ‵ (froom (sliceTy (tyRef erased mut (pointee ((UInt w8) .written)))) l₂₅ 0) ∷ ‵ Fd ∷ ‵ (flft κ₀ q₀) ∷ ‵ (flft κ₃ q₃) ∷
+        ‵ (T-search-line .own line (sliceVal (line .ptr) (length (line .now)) ∷ [])) ∷ ‵ (T-search-nodes .own nodes (sliceVal (nodes .ptr)
+        (length (nodes .now)) ∷ [])) ∷ []) refl (
+        Walk.sets ! (Run.addr ! (Run.from ! (Run.fld ! refl (Run.hop ! (Part.look-in ! 9 (Part.sub ! 0 refl (Part.whole !))) (Run.stop !)))))
+        (Run.init ! 22 refl ((tt, tt))) (
+        Walk.sets ! (Part.agg ! (Run.and-then ! (Walk.local ! 22 refl) (Run.and-then ! (Walk.part ! 9 refl refl refl) (Run.no-more !))))
+        (Run.init ! 23 refl ((tt, (tt, (record { fits = is-dead .0 .1 .0 }, tt))))) (
+        Walk.sets ! (Run.addr ! (Run.from ! (Run.fld ! refl (Run.hop ! (Part.look-in ! 2 (Part.sub ! 0 refl (Part.whole !))) (Run.stop !)))))
+        (Run.init ! 24 refl ((tt, tt))) (
+        Walk.sets ! (Part.agg ! (Run.and-then ! (Walk.local ! 24 refl) (Run.and-then ! (Walk.part ! 2 refl refl refl) (Run.no-more !))))
+        (Run.init ! 25 refl ((tt, (tt, (record { fits = (subst (Slice.Room (UInt w64)) (sym len2) (is-notes .0 .1)) .0 }, tt))))) (
+        -- [notes; κ₂; the locals; dead; κ₁; their ends; κ₀; κ₃; line; nodes]
+        -- call 5: take_up (left, right, nodes, dead, notes, line, end, node, at)
+        Walk.move ! (3 ∷ 3 ∷ []) (Again.lends W (UInt w8) κ₁ q₁ dead (named 1) (named 1) (dead .now) ! tt (λ ν3 δ3.
+        Walk.move ! (3 ∷ 3 ∷ []) (Again.lends W (UInt w64) κ₂ q₂ notes (named 2) (named 2) (ws4 .0) ! tt (λ ν4 δ4.
+        Walk.move ! (36 ∷ 3 ∷ 0 ∷ 33 ∷ []) (
         Walk.gives W (Walk.made ((UInt w8) .own left ((vint w8 left) ∷ [])) (uint-makes 𝓤 H A W w8 left _ (refl, fits-left)) ∷
         Walk.made ((UInt w8) .own right ((vint w8 right) ∷ [])) (uint-makes 𝓤 H A W w8 right _ (refl, fits-right)) ∷
         Walk.copied (T-search-nodes .own nodes (v-search-nodes ∷ [])) (shr-slice-copy 𝓤 H A W (named 0) κ₀ Node-T.the-row .twice nodes _) ∷
-        Walk.kept (MutSlice (named 1) (ν2 ∷ []) (UInt w8) .own (record { ptr = (dead .ptr); name = δ2; now = (dead .now) }) ((sliceVal (dead .ptr)
-        (length (dead .now))) ∷ [])) ∷ Walk.kept (MutSlice (named 2) (ν3 ∷ [])
-        (UInt w8) .own (record { ptr = (pieces .ptr); name = δ3; now = (pieces .now) }) ((sliceVal (pieces .ptr) (length (pieces .now))) ∷ [])) ∷
+        Walk.kept (MutSlice (named 1) (ν3 ∷ []) (UInt w8) .own (record { ptr = (dead .ptr); name = δ3; now = (dead .now) }) ((sliceVal (dead .ptr)
+        (length (dead .now))) ∷ [])) ∷ Walk.kept (MutSlice (named 2) (ν4 ∷ [])
+        (UInt w64) .own (record { ptr = (notes .ptr); name = δ4; now = (ws4 .0) }) ((sliceVal (notes .ptr) (length (ws4 .0))) ∷ [])) ∷
         Walk.copied (T-search-line .own line (v-search-line ∷ [])) (shr-slice-copy 𝓤 H A W (named 3) κ₃ (UInt w8) .twice line _) ∷
         Walk.made ((UInt w64) .own end ((vint w64 end) ∷ [])) (uint-makes 𝓤 H A W w64 end _ (refl, fits-end)) ∷
         Walk.made ((UInt w64) .own node ((vint w64 node) ∷ [])) (uint-makes 𝓤 H A W w64 node _ (refl, fits-node)) ∷
         Walk.made ((UInt w64) .own at ((vint w64 at) ∷ [])) (uint-makes 𝓤 H A W w64 at _ (refl, fits-at)) ∷ []) _ ! (
-        Walk.move ! (31 ∷ 6 ∷ 4 ∷ 29 ∷ []) (
-        Walk.tokens-in W ((κ₀, q₀) ∷ ((ν2 ∷ []), fullShare) ∷ ((ν3 ∷ []), fullShare) ∷ (κ₃, q₃) ∷
-        []) _ ! (alive 𝓤 H A f-take-up.signature (κ₀, ((ν2 ∷ []), ((ν3 ∷ []), (κ₃, tt)))) (q₀, (fullShare, (fullShare, (q₃, tt))))) (id⊢ 𝓤 _) (
+        Walk.move ! (34 ∷ 6 ∷ 4 ∷ 32 ∷ []) (
+        Walk.tokens-in W ((κ₀, q₀) ∷ ((ν3 ∷ []), fullShare) ∷ ((ν4 ∷ []), fullShare) ∷ (κ₃, q₃) ∷
+        []) _ ! (alive 𝓤 H A f-take-up.signature (κ₀, ((ν3 ∷ []), ((ν4 ∷ []), (κ₃, tt)))) (q₀, (fullShare, (fullShare, (q₃, tt))))) (id⊢ 𝓤 _) (
         Walk.asksˡ W ! fm f-take-up.ended (f-take-up.clauses 𝓤 H A mem run)
-        (((κ₀, ((ν2 ∷ []), ((ν3 ∷ []), (κ₃, tt)))), (q₀, (fullShare, (fullShare, (q₃, tt)))), tt, (left, (right, (nodes, ((record { ptr = (dead .ptr); name = δ2; now = (dead .now) }), ((record { ptr = (pieces .ptr); name = δ3; now = (pieces .now) }), (line, (end, (node, (at, tt))))))))), ((vint w8 left) ∷ [], ((vint w8 right) ∷ [], (v-search-nodes ∷ [], ((sliceVal (dead .ptr) (length (dead .now))) ∷ [], ((sliceVal (pieces .ptr) (length (pieces .now))) ∷ [], (v-search-line ∷ [], ((vint w64 end) ∷ [], ((vint w64 node) ∷ [], ((vint w64 at) ∷ [], tt)))))))))), tt) _ (known-take-up (((κ₀, ((ν2 ∷ []), ((ν3 ∷ []), (κ₃, tt)))), (q₀, (fullShare, (fullShare, (q₃, tt)))), tt, (left, (right, (nodes, ((record { ptr = (dead .ptr); name = δ2; now = (dead .now) }), ((record { ptr = (pieces .ptr); name = δ3; now = (pieces .now) }), (line, (end, (node, (at, tt))))))))), ((vint w8 left) ∷ [], ((vint w8 right) ∷ [], (v-search-nodes ∷ [], ((sliceVal (dead .ptr) (length (dead .now))) ∷ [], ((sliceVal (pieces .ptr) (length (pieces .now))) ∷ [], (v-search-line ∷ [], ((vint w64 end) ∷ [], ((vint w64 node) ∷ [], ((vint w64 at) ∷ [], tt)))))))))), tt) (omega arith)) (factI 𝓤 _ (emp 𝓤) (pre)) (λ r ws. id⊢ 𝓤 _)
-        (Run.and-then ! (Walk.local ! 6 refl) (Run.and-then ! (Walk.local ! 7 refl) (Run.and-then ! (Walk.local ! 8 refl)
-        (Run.and-then ! (Walk.local ! 21 refl) (Run.and-then ! (Walk.local ! 23 refl) (Run.and-then ! (Walk.local ! 11 refl)
+        (((κ₀, ((ν3 ∷ []), ((ν4 ∷ []), (κ₃, tt)))), (q₀, (fullShare, (fullShare, (q₃, tt)))), tt, (left, (right, (nodes, ((record { ptr = (dead .ptr); name = δ3; now = (dead .now) }), ((record { ptr = (notes .ptr); name = δ4; now = (ws4 .0) }), (line, (end, (node, (at, tt))))))))), ((vint w8 left) ∷ [], ((vint w8 right) ∷ [], (v-search-nodes ∷ [], ((sliceVal (dead .ptr) (length (dead .now))) ∷ [], ((sliceVal (notes .ptr) (length (ws4 .0))) ∷ [], (v-search-line ∷ [], ((vint w64 end) ∷ [], ((vint w64 node) ∷ [], ((vint w64 at) ∷ [], tt)))))))))), tt) _ (known-take-up (((κ₀, ((ν3 ∷ []), ((ν4 ∷ []), (κ₃, tt)))), (q₀, (fullShare, (fullShare, (q₃, tt)))), tt, (left, (right, (nodes, ((record { ptr = (dead .ptr); name = δ3; now = (dead .now) }), ((record { ptr = (notes .ptr); name = δ4; now = (ws4 .0) }), (line, (end, (node, (at, tt))))))))), ((vint w8 left) ∷ [], ((vint w8 right) ∷ [], (v-search-nodes ∷ [], ((sliceVal (dead .ptr) (length (dead .now))) ∷ [], ((sliceVal (notes .ptr) (length (ws4 .0))) ∷ [], (v-search-line ∷ [], ((vint w64 end) ∷ [], ((vint w64 node) ∷ [], ((vint w64 at) ∷ [], tt)))))))))), tt) (omega arith)) (factI 𝓤 _ (emp 𝓤) (asks-again pre refl len2)) (λ r ws. id⊢ 𝓤 _)
+        (Run.and-then ! (Walk.local ! 7 refl) (Run.and-then ! (Walk.local ! 8 refl) (Run.and-then ! (Walk.local ! 9 refl)
+        (Run.and-then ! (Walk.local ! 24 refl) (Run.and-then ! (Walk.local ! 26 refl) (Run.and-then ! (Walk.local ! 11 refl)
         (Run.and-then ! (Walk.local ! 12 refl) (Run.and-then ! (Walk.local ! 13 refl) (Run.and-then ! (Walk.local ! 14 refl)
-        (Run.no-more !)))))))))) (λ u4 r4 ws4 is4′ e4.
-        Walk.returned W ((κ₀, q₀) ∷ ((ν2 ∷ []), fullShare) ∷ ((ν3 ∷ []), fullShare) ∷ (κ₃, q₃) ∷ []) (Walk.gone _ ∷ Walk.gone _ ∷ Walk.gone _ ∷
-        Walk.final (finally (UInt w8) δ2 (ws4 .1 .1 .1 .0)) (length (ws4 .1 .1 .1 .0)) (length (dead .now)) ∷
-        Walk.final (finally (UInt w8) δ3 (ws4 .1 .1 .1 .1 .0)) (length (ws4 .1 .1 .1 .1 .0)) (length (pieces .now)) ∷ Walk.gone _ ∷ Walk.gone _ ∷
-        Walk.gone _ ∷ Walk.gone _ ∷ []) ! (id⊢ 𝓤 _) (λ len2 len3.
-        Walk.move ! (3 ∷ 8 ∷ 1 ∷ 11 ∷ []) (
-        Again.backs W (UInt w8) κ₁ q₁ dead (named 1) (named 1) (dead .now) ! tt (ws4 .1 .1 .1 .0) (is-dead .0 .1) len2 (
-        Walk.move ! (5 ∷ 8 ∷ 3 ∷ 11 ∷ []) (
-        Again.backs W (UInt w8) κ₂ q₂ pieces (named 2) (named 2) (pieces .now) ! tt (ws4 .1 .1 .1 .1 .0) (is-pieces .0 .1) len3 (
-        Walk.lands-in ! (Walk.init-as ! 19 refl (LL.lawful Outcome-T.the-type Outcome-L.the-laws 𝓤 H A W .typed r4 _ is4′ .0)
-        (ap only (LL.tells Outcome-T.the-type Outcome-L.the-laws r4 _ is4′))) (
-        let is4 : Is Outcome-T.the-row r4 ((Outcome-L.lowered r4) ∷ []) = subst (λ (vs : List Val). Is Outcome-T.the-row r4 vs)
-        (LL.tells Outcome-T.the-type Outcome-L.the-laws r4 _ is4′) is4′ in
-        Walk.written-out ! (‵ (T-search-pieces .own (at-last pieces (ws4 .1 .1 .1 .1 .0)) (sliceVal (pieces .ptr) (length (ws4 .1 .1 .1 .1 .0)) ∷
-        [])) ∷ ‵ (flft κ₂ q₂) ∷ ‵ (fat fullShare Y-search-pieces l₅ 0 (sliceVal (pieces .ptr) (length (ws4 .1 .1 .1 .1 .0)))) ∷
-        ‵ (T-search-dead .own (at-last dead (ws4 .1 .1 .1 .0)) (sliceVal (dead .ptr) (length (ws4 .1 .1 .1 .0)) ∷ [])) ∷ ‵ (flft κ₁ q₁) ∷
-        ‵ (fat fullShare Y-search-dead l₄ 0 (sliceVal (dead .ptr) (length (ws4 .1 .1 .1 .0)))) ∷ ‵ (flft κ₀ q₀) ∷ ‵ (flft κ₃ q₃) ∷
+        (Run.no-more !)))))))))) (λ u5 r5 ws5 is5′ e5.
+        Walk.returned W ((κ₀, q₀) ∷ ((ν3 ∷ []), fullShare) ∷ ((ν4 ∷ []), fullShare) ∷ (κ₃, q₃) ∷ []) (Walk.gone _ ∷ Walk.gone _ ∷ Walk.gone _ ∷
+        Walk.final (finally (UInt w8) δ3 (ws5 .1 .1 .1 .0)) (length (ws5 .1 .1 .1 .0)) (length (dead .now)) ∷
+        Walk.final (finally (UInt w64) δ4 (ws5 .1 .1 .1 .1 .0)) (length (ws5 .1 .1 .1 .1 .0)) (length (ws4 .0)) ∷ Walk.gone _ ∷ Walk.gone _ ∷
+        Walk.gone _ ∷ Walk.gone _ ∷ []) ! (id⊢ 𝓤 _) (λ len3 len4.
+        Walk.move ! (3 ∷ 8 ∷ 1 ∷ 12 ∷ []) (
+        Again.backs W (UInt w8) κ₁ q₁ dead (named 1) (named 1) (dead .now) ! tt (ws5 .1 .1 .1 .0) (is-dead .0 .1) len3 (
+        Walk.move ! (5 ∷ 8 ∷ 3 ∷ 7 ∷ []) (
+        Again.backs W (UInt w64) κ₂ q₂ notes (named 2) (named 2) (ws4 .0) ! tt (ws5 .1 .1 .1 .1 .0) ((subst (Slice.Room (UInt w64)) (sym len2)
+        (is-notes .0 .1))) len4 (
+        Walk.lands-in ! (Walk.init-as ! 19 refl (LL.lawful Outcome-T.the-type Outcome-L.the-laws 𝓤 H A W .typed r5 _ is5′ .0)
+        (ap only (LL.tells Outcome-T.the-type Outcome-L.the-laws r5 _ is5′))) (
+        let is5 : Is Outcome-T.the-row r5 ((Outcome-L.lowered r5) ∷ []) = subst (λ (vs : List Val). Is Outcome-T.the-row r5 vs)
+        (LL.tells Outcome-T.the-type Outcome-L.the-laws r5 _ is5′) is5′ in
+        Walk.written-out ! (‵ (T-search-notes .own (at-last notes (ws5 .1 .1 .1 .1 .0)) (sliceVal (notes .ptr) (length (ws5 .1 .1 .1 .1 .0)) ∷
+        [])) ∷ ‵ (flft κ₂ q₂) ∷ ‵ (fat fullShare Y-search-notes l₅ 0 (sliceVal (notes .ptr) (length (ws5 .1 .1 .1 .1 .0)))) ∷
+        ‵ (T-search-dead .own (at-last dead (ws5 .1 .1 .1 .0)) (sliceVal (dead .ptr) (length (ws5 .1 .1 .1 .0)) ∷ [])) ∷ ‵ (flft κ₁ q₁) ∷
+        ‵ (fat fullShare Y-search-dead l₄ 0 (sliceVal (dead .ptr) (length (ws5 .1 .1 .1 .0)))) ∷ ‵ (flft κ₀ q₀) ∷ ‵ (flft κ₃ q₃) ∷
         ‵ (T-search-nodes .own nodes (sliceVal (nodes .ptr) (length (nodes .now)) ∷ [])) ∷ ‵ (T-search-line .own line (sliceVal (line .ptr)
         (length (line .now)) ∷ [])) ∷ ‵ (froom Outcome-L.mir l₀ 0) ∷ ‵ (fat fullShare (tyInt w8) l₁ 0 (vint w8 left)) ∷
         ‵ (fat fullShare (tyInt w8) l₂ 0 (vint w8 right)) ∷ ‵ (fat fullShare Y-search-nodes l₃ 0 (sliceVal (nodes .ptr) (length (nodes .now)))) ∷
         ‵ (fat fullShare Y-search-line l₆ 0 (sliceVal (line .ptr) (length (line .now)))) ∷ ‵ (fat fullShare (tyInt w64) l₇ 0 (vint w64 end)) ∷
         ‵ (fat fullShare (tyInt w64) l₈ 0 (vint w64 node)) ∷ ‵ (fat fullShare (tyInt w64) l₉ 0 (vint w64 at)) ∷
-        ‵ (fat fullShare (tyInt w64) l₁₀ 0 (vint w64 r1)) ∷ ‵ (fat fullShare Outcome-L.mir l₁₁ 0 (Outcome-L.lowered r4)) ∷
+        ‵ (fat fullShare (tyInt w64) l₁₀ 0 (vint w64 r1)) ∷ ‵ (fat fullShare Outcome-L.mir l₁₁ 0 (Outcome-L.lowered r5)) ∷
         ‵ (fat fullShare tyBool l₁₂ 0 (vbool r2)) ∷ ‵ (fat fullShare (tyRef erased imm (pointee ((UInt w8) .written))) l₁₃ 0 (vptr (dead .ptr .0)
         (dead .ptr .1))) ∷ ‵ (fat fullShare (sliceTy (tyRef erased imm (pointee ((UInt w8) .written)))) l₁₄ 0 (sliceVal (dead .ptr)
-        (length (dead .now)))) ∷ ‵ (fat fullShare (tyRef erased mut (pointee ((UInt w8) .written))) l₁₅ 0 (vptr (dead .ptr .0) (dead .ptr .1))) ∷
-        ‵ (fat fullShare (sliceTy (tyRef erased mut (pointee ((UInt w8) .written)))) l₁₆ 0 (sliceVal (dead .ptr) (length (dead .now)))) ∷
-        ‵ (fat fullShare (tyRef erased mut (pointee ((UInt w8) .written))) l₁₇ 0 (vptr (pieces .ptr .0) (pieces .ptr .1))) ∷
-        ‵ (fat fullShare (sliceTy (tyRef erased mut (pointee ((UInt w8) .written)))) l₁₈ 0 (sliceVal (pieces .ptr) (length (pieces .now)))) ∷
-        ‵ (froom tyBool l₁₉ 0) ∷ ‵ (froom tyUnit l₂₀ 0) ∷ ‵ (froom (tyRef erased mut (pointee ((UInt w8) .written))) l₂₁ 0) ∷
-        ‵ (froom (sliceTy (tyRef erased mut (pointee ((UInt w8) .written)))) l₂₂ 0) ∷ ‵ Fd ∷ []) refl (
-        Walk.sets ! (Run.bin ! (Walk.part ! 19 refl refl refl) (Run.lit ! tt) tt) (Run.init ! 27 refl ((tt, tt))) (Walk.first-then ! (
-        Run.branches ! (Walk.local ! 27 refl)
-        (λ h2. let t2 : (eqb (r4 .node) 0) ≡ true = Walk.is-true _ h2 in
+        (length (dead .now)))) ∷ ‵ (fat fullShare tyUnit l₁₅ 0 vunit) ∷
+        ‵ (fat fullShare (tyRef erased mut (pointee ((UInt w64) .written))) l₁₆ 0 (vptr (notes .ptr .0) (notes .ptr .1))) ∷
+        ‵ (fat fullShare (sliceTy (tyRef erased mut (pointee ((UInt w64) .written)))) l₁₇ 0 (sliceVal (notes .ptr) (length (notes .now)))) ∷
+        ‵ (fat fullShare (tyRef erased mut (pointee ((UInt w8) .written))) l₁₈ 0 (vptr (dead .ptr .0) (dead .ptr .1))) ∷
+        ‵ (fat fullShare (sliceTy (tyRef erased mut (pointee ((UInt w8) .written)))) l₁₉ 0 (sliceVal (dead .ptr) (length (dead .now)))) ∷
+        ‵ (fat fullShare (tyRef erased mut (pointee ((UInt w64) .written))) l₂₀ 0 (vptr (notes .ptr .0) (notes .ptr .1))) ∷
+        ‵ (fat fullShare (sliceTy (tyRef erased mut (pointee ((UInt w64) .written)))) l₂₁ 0 (sliceVal (notes .ptr) (length (ws4 .0)))) ∷
+        ‵ (froom tyBool l₂₂ 0) ∷ ‵ (froom tyUnit l₂₃ 0) ∷ ‵ (froom (tyRef erased mut (pointee ((UInt w8) .written))) l₂₄ 0) ∷
+        ‵ (froom (sliceTy (tyRef erased mut (pointee ((UInt w8) .written)))) l₂₅ 0) ∷ ‵ Fd ∷ []) refl (
+        Walk.sets ! (Run.bin ! (Walk.part ! 19 refl refl refl) (Run.lit ! tt) tt) (Run.init ! 30 refl ((tt, tt))) (Walk.first-then ! (
+        Run.branches ! (Walk.local ! 30 refl)
+        (λ h2. let t2 : (eqb (r5 .node) 0) ≡ true = Walk.is-true _ h2 in
         Walk.sets ! (Run.addr ! (Run.from ! (Run.fld ! refl (Run.hop ! (Part.look-in ! 5 (Part.sub ! 0 refl (Part.whole !))) (Run.stop !)))))
-        (Run.init ! 29 refl ((tt, tt))) (
-        Walk.sets ! (Part.agg ! (Run.and-then ! (Walk.local ! 29 refl) (Run.and-then ! (Walk.part ! 5 refl refl refl) (Run.no-more !))))
-        (Run.init ! 30 refl ((tt, (tt, (record { fits = (subst (Slice.Room (UInt w8)) (sym len2) (is-dead .0 .1)) .0 }, tt))))) (
-        -- [pieces; κ₂; the locals; dead; κ₁; κ₀; κ₃; nodes; line; their ends]
-        -- call 5: set_dead (dead, r1)
-        Walk.move ! (3 ∷ 3 ∷ []) (Again.lends W (UInt w8) κ₁ q₁ dead (named 1) (named 0) (ws4 .1 .1 .1 .0) ! tt (λ ν4 δ4.
-        Walk.gives W (Walk.kept (MutSlice (named 0) (ν4 ∷ []) (UInt w8) .own (record { ptr = (dead .ptr); name = δ4; now = (ws4 .1 .1 .1 .0) })
-        ((sliceVal (dead .ptr) (length (ws4 .1 .1 .1 .0))) ∷ [])) ∷ Walk.made ((UInt w64) .own r1 ((vint w64 r1) ∷ []))
+        (Run.init ! 32 refl ((tt, tt))) (
+        Walk.sets ! (Part.agg ! (Run.and-then ! (Walk.local ! 32 refl) (Run.and-then ! (Walk.part ! 5 refl refl refl) (Run.no-more !))))
+        (Run.init ! 33 refl ((tt, (tt, (record { fits = (subst (Slice.Room (UInt w8)) (sym len3) (is-dead .0 .1)) .0 }, tt))))) (
+        -- [notes; κ₂; the locals; dead; κ₁; κ₀; κ₃; nodes; line; their ends]
+        -- call 6: set_dead (dead, r1)
+        Walk.move ! (3 ∷ 3 ∷ []) (Again.lends W (UInt w8) κ₁ q₁ dead (named 1) (named 0) (ws5 .1 .1 .1 .0) ! tt (λ ν5 δ5.
+        Walk.gives W (Walk.kept (MutSlice (named 0) (ν5 ∷ []) (UInt w8) .own (record { ptr = (dead .ptr); name = δ5; now = (ws5 .1 .1 .1 .0) })
+        ((sliceVal (dead .ptr) (length (ws5 .1 .1 .1 .0))) ∷ [])) ∷ Walk.made ((UInt w64) .own r1 ((vint w64 r1) ∷ []))
         (uint-makes 𝓤 H A W w64 r1 _ (refl, is1 .1)) ∷ []) _ ! (
         Walk.move ! (2 ∷ []) (
-        Walk.tokens-in W (((ν4 ∷ []), fullShare) ∷ []) _ ! (alive 𝓤 H A g-set-dead.signature ((ν4 ∷ []), tt) (fullShare, tt)) (id⊢ 𝓤 _) (
+        Walk.tokens-in W (((ν5 ∷ []), fullShare) ∷ []) _ ! (alive 𝓤 H A g-set-dead.signature ((ν5 ∷ []), tt) (fullShare, tt)) (id⊢ 𝓤 _) (
         Walk.asksˡ-last W ! fm g-set-dead.ended (g-set-dead.clauses 𝓤 H A mem run)
-        ((((ν4 ∷ []), tt), (fullShare, tt), tt, ((record { ptr = (dead .ptr); name = δ4; now = (ws4 .1 .1 .1 .0) }), (r1, tt)), ((sliceVal (dead .ptr) (length (ws4 .1 .1 .1 .0))) ∷ [], ((vint w64 r1) ∷ [], tt))), tt) _ (known-set-dead ((((ν4 ∷ []), tt), (fullShare, tt), tt, ((record { ptr = (dead .ptr); name = δ4; now = (ws4 .1 .1 .1 .0) }), (r1, tt)), ((sliceVal (dead .ptr) (length (ws4 .1 .1 .1 .0))) ∷ [], ((vint w64 r1) ∷ [], tt))), tt)) (factI 𝓤 _ (emp 𝓤) (asks-bit-again pre e4 e1 len2)) (λ r ws. id⊢ 𝓤 _)
-        (Run.and-then ! (Walk.local ! 30 refl) (Run.and-then ! (Walk.local ! 18 refl) (Run.no-more !))) (λ u5 r5 ws5 is5′ e5.
-        Walk.returned W (((ν4 ∷ []), fullShare) ∷ []) (Walk.final (finally (UInt w8) δ4 (ws5 .0)) (length (ws5 .0)) (length (ws4 .1 .1 .1 .0)) ∷
-        Walk.gone _ ∷ []) ! (id⊢ 𝓤 _) (λ len4.
+        ((((ν5 ∷ []), tt), (fullShare, tt), tt, ((record { ptr = (dead .ptr); name = δ5; now = (ws5 .1 .1 .1 .0) }), (r1, tt)), ((sliceVal (dead .ptr) (length (ws5 .1 .1 .1 .0))) ∷ [], ((vint w64 r1) ∷ [], tt))), tt) _ (known-set-dead ((((ν5 ∷ []), tt), (fullShare, tt), tt, ((record { ptr = (dead .ptr); name = δ5; now = (ws5 .1 .1 .1 .0) }), (r1, tt)), ((sliceVal (dead .ptr) (length (ws5 .1 .1 .1 .0))) ∷ [], ((vint w64 r1) ∷ [], tt))), tt)) (factI 𝓤 _ (emp 𝓤) (asks-bit-again pre e5 e1 len3)) (λ r ws. id⊢ 𝓤 _)
+        (Run.and-then ! (Walk.local ! 33 refl) (Run.and-then ! (Walk.local ! 18 refl) (Run.no-more !))) (λ u6 r6 ws6 is6′ e6.
+        Walk.returned W (((ν5 ∷ []), fullShare) ∷ []) (Walk.final (finally (UInt w8) δ5 (ws6 .0)) (length (ws6 .0)) (length (ws5 .1 .1 .1 .0)) ∷
+        Walk.gone _ ∷ []) ! (id⊢ 𝓤 _) (λ len5.
         Walk.move ! (1 ∷ 1 ∷ 0 ∷ 3 ∷ []) (
-        Again.backs W (UInt w8) κ₁ q₁ dead (named 1) (named 0) (ws4 .1 .1 .1 .0) ! tt (ws5 .0) ((subst (Slice.Room (UInt w8)) (sym len2)
-        (is-dead .0 .1))) len4 (
-        Walk.lands-then ! (Walk.init-as ! 28 refl (nothing-lawful 𝓤 H A W .typed r5 _ is5′ .0) (ap only (nothing-tells r5 _ is5′))) (
-        let is5 : Is Nothing r5 (vunit ∷ []) = subst (λ (vs : List Val). Is Nothing r5 vs) (nothing-tells r5 _ is5′) is5′ in
-        Walk.written-out ! (‵ (T-search-dead .own (at-last dead (ws5 .0)) (sliceVal (dead .ptr) (length (ws5 .0)) ∷ [])) ∷ ‵ (flft κ₁ q₁) ∷
-        ‵ (fat fullShare Y-search-dead l₄ 0 (sliceVal (dead .ptr) (length (ws5 .0)))) ∷
-        ‵ (T-search-pieces .own (at-last pieces (ws4 .1 .1 .1 .1 .0)) (sliceVal (pieces .ptr) (length (ws4 .1 .1 .1 .1 .0)) ∷ [])) ∷
-        ‵ (flft κ₂ q₂) ∷ ‵ (fat fullShare Y-search-pieces l₅ 0 (sliceVal (pieces .ptr) (length (ws4 .1 .1 .1 .1 .0)))) ∷ ‵ (flft κ₀ q₀) ∷
-        ‵ (flft κ₃ q₃) ∷ ‵ (T-search-nodes .own nodes (sliceVal (nodes .ptr) (length (nodes .now)) ∷ [])) ∷
-        ‵ (T-search-line .own line (sliceVal (line .ptr) (length (line .now)) ∷ [])) ∷ ‵ (froom Outcome-L.mir l₀ 0) ∷
+        Again.backs W (UInt w8) κ₁ q₁ dead (named 1) (named 0) (ws5 .1 .1 .1 .0) ! tt (ws6 .0) ((subst (Slice.Room (UInt w8)) (sym len3)
+        (is-dead .0 .1))) len5 (
+        Walk.lands-then ! (Walk.init-as ! 31 refl (nothing-lawful 𝓤 H A W .typed r6 _ is6′ .0) (ap only (nothing-tells r6 _ is6′))) (
+        let is6 : Is Nothing r6 (vunit ∷ []) = subst (λ (vs : List Val). Is Nothing r6 vs) (nothing-tells r6 _ is6′) is6′ in
+        Walk.written-out ! (‵ (T-search-dead .own (at-last dead (ws6 .0)) (sliceVal (dead .ptr) (length (ws6 .0)) ∷ [])) ∷ ‵ (flft κ₁ q₁) ∷
+        ‵ (fat fullShare Y-search-dead l₄ 0 (sliceVal (dead .ptr) (length (ws6 .0)))) ∷ ‵ (T-search-notes .own (at-last notes (ws5 .1 .1 .1 .1 .0))
+        (sliceVal (notes .ptr) (length (ws5 .1 .1 .1 .1 .0)) ∷ [])) ∷ ‵ (flft κ₂ q₂) ∷ ‵ (fat fullShare Y-search-notes l₅ 0 (sliceVal (notes .ptr)
+        (length (ws5 .1 .1 .1 .1 .0)))) ∷ ‵ (flft κ₀ q₀) ∷ ‵ (flft κ₃ q₃) ∷ ‵ (T-search-nodes .own nodes (sliceVal (nodes .ptr)
+        (length (nodes .now)) ∷ [])) ∷ ‵ (T-search-line .own line (sliceVal (line .ptr) (length (line .now)) ∷ [])) ∷ ‵ (froom Outcome-L.mir l₀ 0) ∷
         ‵ (fat fullShare (tyInt w8) l₁ 0 (vint w8 left)) ∷ ‵ (fat fullShare (tyInt w8) l₂ 0 (vint w8 right)) ∷
         ‵ (fat fullShare Y-search-nodes l₃ 0 (sliceVal (nodes .ptr) (length (nodes .now)))) ∷
         ‵ (fat fullShare Y-search-line l₆ 0 (sliceVal (line .ptr) (length (line .now)))) ∷ ‵ (fat fullShare (tyInt w64) l₇ 0 (vint w64 end)) ∷
         ‵ (fat fullShare (tyInt w64) l₈ 0 (vint w64 node)) ∷ ‵ (fat fullShare (tyInt w64) l₉ 0 (vint w64 at)) ∷
-        ‵ (fat fullShare (tyInt w64) l₁₀ 0 (vint w64 r1)) ∷ ‵ (fat fullShare Outcome-L.mir l₁₁ 0 (Outcome-L.lowered r4)) ∷
+        ‵ (fat fullShare (tyInt w64) l₁₀ 0 (vint w64 r1)) ∷ ‵ (fat fullShare Outcome-L.mir l₁₁ 0 (Outcome-L.lowered r5)) ∷
         ‵ (fat fullShare tyBool l₁₂ 0 (vbool r2)) ∷ ‵ (fat fullShare (tyRef erased imm (pointee ((UInt w8) .written))) l₁₃ 0 (vptr (dead .ptr .0)
         (dead .ptr .1))) ∷ ‵ (fat fullShare (sliceTy (tyRef erased imm (pointee ((UInt w8) .written)))) l₁₄ 0 (sliceVal (dead .ptr)
-        (length (dead .now)))) ∷ ‵ (fat fullShare (tyRef erased mut (pointee ((UInt w8) .written))) l₁₅ 0 (vptr (dead .ptr .0) (dead .ptr .1))) ∷
-        ‵ (fat fullShare (sliceTy (tyRef erased mut (pointee ((UInt w8) .written)))) l₁₆ 0 (sliceVal (dead .ptr) (length (dead .now)))) ∷
-        ‵ (fat fullShare (tyRef erased mut (pointee ((UInt w8) .written))) l₁₇ 0 (vptr (pieces .ptr .0) (pieces .ptr .1))) ∷
-        ‵ (fat fullShare (sliceTy (tyRef erased mut (pointee ((UInt w8) .written)))) l₁₈ 0 (sliceVal (pieces .ptr) (length (pieces .now)))) ∷
-        ‵ (fat fullShare tyBool l₁₉ 0 (vbool (eqb (r4 .node) 0))) ∷ ‵ (fat fullShare tyUnit l₂₀ 0 vunit) ∷
-        ‵ (fat fullShare (tyRef erased mut (pointee ((UInt w8) .written))) l₂₁ 0 (vptr (dead .ptr .0) (dead .ptr .1))) ∷
-        ‵ (fat fullShare (sliceTy (tyRef erased mut (pointee ((UInt w8) .written)))) l₂₂ 0 (sliceVal (dead .ptr) (length (ws4 .1 .1 .1 .0)))) ∷
+        (length (dead .now)))) ∷ ‵ (fat fullShare tyUnit l₁₅ 0 vunit) ∷
+        ‵ (fat fullShare (tyRef erased mut (pointee ((UInt w64) .written))) l₁₆ 0 (vptr (notes .ptr .0) (notes .ptr .1))) ∷
+        ‵ (fat fullShare (sliceTy (tyRef erased mut (pointee ((UInt w64) .written)))) l₁₇ 0 (sliceVal (notes .ptr) (length (notes .now)))) ∷
+        ‵ (fat fullShare (tyRef erased mut (pointee ((UInt w8) .written))) l₁₈ 0 (vptr (dead .ptr .0) (dead .ptr .1))) ∷
+        ‵ (fat fullShare (sliceTy (tyRef erased mut (pointee ((UInt w8) .written)))) l₁₉ 0 (sliceVal (dead .ptr) (length (dead .now)))) ∷
+        ‵ (fat fullShare (tyRef erased mut (pointee ((UInt w64) .written))) l₂₀ 0 (vptr (notes .ptr .0) (notes .ptr .1))) ∷
+        ‵ (fat fullShare (sliceTy (tyRef erased mut (pointee ((UInt w64) .written)))) l₂₁ 0 (sliceVal (notes .ptr) (length (ws4 .0)))) ∷
+        ‵ (fat fullShare tyBool l₂₂ 0 (vbool (eqb (r5 .node) 0))) ∷ ‵ (fat fullShare tyUnit l₂₃ 0 vunit) ∷
+        ‵ (fat fullShare (tyRef erased mut (pointee ((UInt w8) .written))) l₂₄ 0 (vptr (dead .ptr .0) (dead .ptr .1))) ∷
+        ‵ (fat fullShare (sliceTy (tyRef erased mut (pointee ((UInt w8) .written)))) l₂₅ 0 (sliceVal (dead .ptr) (length (ws5 .1 .1 .1 .0)))) ∷
         ‵ Fd ∷ []) refl (
-        -- [dead; κ₁; the locals; pieces; κ₂; κ₀; κ₃; nodes; line; their ends]
-        -- call 6: count_place (r4)
-        Walk.gives W (Walk.made (Outcome-T.the-row .own r4 ((Outcome-L.lowered r4) ∷ []))
-        (LL.makes Outcome-T.the-type Outcome-L.the-plain 𝓤 H A r4 _ is4) ∷ []) _ ! (
-        Walk.tokens-in W ([]) _ ! (alive 𝓤 H A g-count-place.signature tt tt) (id⊢ 𝓤 _) (
-        Walk.asks W ! fm g-count-place.ended (g-count-place.clauses 𝓤 H A mem run)
-        ((tt, tt, tt, (r4, tt), ((Outcome-L.lowered r4) ∷ [], tt)), tt) _ (known-count-place ((tt, tt, tt, (r4, tt), ((Outcome-L.lowered r4) ∷ [], tt)), tt)) (factI 𝓤 _ (emp 𝓤) (place-fits e4)) (λ r ws. id⊢ 𝓤 _)
-        (Run.and-then ! (Walk.local ! 20 refl) (Run.no-more !)) (λ u6 r6 is6′ e6.
-        Walk.tokens-out W ([]) ! (id⊢ 𝓤 _) (
-        Walk.lands-in ! (Walk.init-as ! 10 refl (LL.lawful Outcome-T.the-type Outcome-L.the-laws 𝓤 H A W .typed r6 _ is6′ .0)
-        (ap only (LL.tells Outcome-T.the-type Outcome-L.the-laws r6 _ is6′))) (
-        let is6 : Is Outcome-T.the-row r6 ((Outcome-L.lowered r6) ∷ []) = subst (λ (vs : List Val). Is Outcome-T.the-row r6 vs)
-        (LL.tells Outcome-T.the-type Outcome-L.the-laws r6 _ is6′) is6′ in
-        Walk.written-out ! (‵ (T-search-dead .own (at-last dead (ws5 .0)) (sliceVal (dead .ptr) (length (ws5 .0)) ∷ [])) ∷ ‵ (flft κ₁ q₁) ∷
-        ‵ (fat fullShare Y-search-dead l₄ 0 (sliceVal (dead .ptr) (length (ws5 .0)))) ∷
-        ‵ (T-search-pieces .own (at-last pieces (ws4 .1 .1 .1 .1 .0)) (sliceVal (pieces .ptr) (length (ws4 .1 .1 .1 .1 .0)) ∷ [])) ∷
-        ‵ (flft κ₂ q₂) ∷ ‵ (fat fullShare Y-search-pieces l₅ 0 (sliceVal (pieces .ptr) (length (ws4 .1 .1 .1 .1 .0)))) ∷ ‵ (flft κ₀ q₀) ∷
-        ‵ (flft κ₃ q₃) ∷ ‵ (T-search-nodes .own nodes (sliceVal (nodes .ptr) (length (nodes .now)) ∷ [])) ∷
-        ‵ (T-search-line .own line (sliceVal (line .ptr) (length (line .now)) ∷ [])) ∷ ‵ (fat fullShare Outcome-L.mir l₀ 0 (Outcome-L.lowered r6)) ∷
-        ‵ (fat fullShare (tyInt w8) l₁ 0 (vint w8 left)) ∷ ‵ (fat fullShare (tyInt w8) l₂ 0 (vint w8 right)) ∷
-        ‵ (fat fullShare Y-search-nodes l₃ 0 (sliceVal (nodes .ptr) (length (nodes .now)))) ∷
-        ‵ (fat fullShare Y-search-line l₆ 0 (sliceVal (line .ptr) (length (line .now)))) ∷ ‵ (fat fullShare (tyInt w64) l₇ 0 (vint w64 end)) ∷
-        ‵ (fat fullShare (tyInt w64) l₈ 0 (vint w64 node)) ∷ ‵ (fat fullShare (tyInt w64) l₉ 0 (vint w64 at)) ∷
-        ‵ (fat fullShare (tyInt w64) l₁₀ 0 (vint w64 r1)) ∷ ‵ (fat fullShare Outcome-L.mir l₁₁ 0 (Outcome-L.lowered r4)) ∷
-        ‵ (fat fullShare tyBool l₁₂ 0 (vbool r2)) ∷ ‵ (fat fullShare (tyRef erased imm (pointee ((UInt w8) .written))) l₁₃ 0 (vptr (dead .ptr .0)
-        (dead .ptr .1))) ∷ ‵ (fat fullShare (sliceTy (tyRef erased imm (pointee ((UInt w8) .written)))) l₁₄ 0 (sliceVal (dead .ptr)
-        (length (dead .now)))) ∷ ‵ (fat fullShare (tyRef erased mut (pointee ((UInt w8) .written))) l₁₅ 0 (vptr (dead .ptr .0) (dead .ptr .1))) ∷
-        ‵ (fat fullShare (sliceTy (tyRef erased mut (pointee ((UInt w8) .written)))) l₁₆ 0 (sliceVal (dead .ptr) (length (dead .now)))) ∷
-        ‵ (fat fullShare (tyRef erased mut (pointee ((UInt w8) .written))) l₁₇ 0 (vptr (pieces .ptr .0) (pieces .ptr .1))) ∷
-        ‵ (fat fullShare (sliceTy (tyRef erased mut (pointee ((UInt w8) .written)))) l₁₈ 0 (sliceVal (pieces .ptr) (length (pieces .now)))) ∷
-        ‵ (fat fullShare tyBool l₁₉ 0 (vbool (eqb (r4 .node) 0))) ∷ ‵ (fat fullShare tyUnit l₂₀ 0 vunit) ∷
-        ‵ (fat fullShare (tyRef erased mut (pointee ((UInt w8) .written))) l₂₁ 0 (vptr (dead .ptr .0) (dead .ptr .1))) ∷
-        ‵ (fat fullShare (sliceTy (tyRef erased mut (pointee ((UInt w8) .written)))) l₂₂ 0 (sliceVal (dead .ptr) (length (ws4 .1 .1 .1 .0)))) ∷
-        ‵ Fd ∷ []) refl (
+        Walk.sets ! (Run.of-opd ! (Walk.local ! 19 refl))
+        (Run.init ! 10 refl (LL.lawful Outcome-T.the-type Outcome-L.the-laws 𝓤 H A W .typed r5 _ is5 .0)) (
         Walk.returns-by ! Post-search refl (Run.look ! 10 refl) (
-        Walk.move ! (10 ∷ 10 ∷ 10 ∷ 10 ∷ 2 ∷ 4 ∷ 8 ∷ 8 ∷ 8 ∷ 8 ∷ 8 ∷ 8 ∷ 8 ∷ 8 ∷ 8 ∷ 8 ∷ 8 ∷ 8 ∷ 8 ∷ 8 ∷ 8 ∷ 8 ∷ 8 ∷ 8 ∷ []) (
-        Walk.frees-gathered ! (Walk.full Outcome-L.mir l₀ (Outcome-L.lowered r6) ∷ Walk.full (tyInt w8) l₁ (vint w8 left) ∷
+        Walk.move ! (10 ∷ 10 ∷ 10 ∷ 10 ∷ 2 ∷ 4 ∷ 8 ∷ 8 ∷ 8 ∷ 8 ∷ 8 ∷ 8 ∷ 8 ∷ 8 ∷ 8 ∷ 8 ∷ 8 ∷ 8 ∷ 8 ∷ 8 ∷ 8 ∷ 8 ∷ 8 ∷ 8 ∷ 8 ∷ 8 ∷ 8 ∷ []) (
+        Walk.frees-gathered ! (Walk.full Outcome-L.mir l₀ (Outcome-L.lowered r5) ∷ Walk.full (tyInt w8) l₁ (vint w8 left) ∷
         Walk.full (tyInt w8) l₂ (vint w8 right) ∷ Walk.full Y-search-nodes l₃ (sliceVal (nodes .ptr) (length (nodes .now))) ∷
-        Walk.full Y-search-dead l₄ (sliceVal (dead .ptr) (length (ws5 .0))) ∷ Walk.full Y-search-pieces l₅ (sliceVal (pieces .ptr)
-        (length (ws4 .1 .1 .1 .1 .0))) ∷ Walk.full Y-search-line l₆ (sliceVal (line .ptr) (length (line .now))) ∷
+        Walk.full Y-search-dead l₄ (sliceVal (dead .ptr) (length (ws6 .0))) ∷ Walk.full Y-search-notes l₅ (sliceVal (notes .ptr)
+        (length (ws5 .1 .1 .1 .1 .0))) ∷ Walk.full Y-search-line l₆ (sliceVal (line .ptr) (length (line .now))) ∷
         Walk.full (tyInt w64) l₇ (vint w64 end) ∷ Walk.full (tyInt w64) l₈ (vint w64 node) ∷ Walk.full (tyInt w64) l₉ (vint w64 at) ∷
-        Walk.full (tyInt w64) l₁₀ (vint w64 r1) ∷ Walk.full Outcome-L.mir l₁₁ (Outcome-L.lowered r4) ∷ Walk.full tyBool l₁₂ (vbool r2) ∷
+        Walk.full (tyInt w64) l₁₀ (vint w64 r1) ∷ Walk.full Outcome-L.mir l₁₁ (Outcome-L.lowered r5) ∷ Walk.full tyBool l₁₂ (vbool r2) ∷
         Walk.full (tyRef erased imm (pointee ((UInt w8) .written))) l₁₃ (vptr (dead .ptr .0) (dead .ptr .1)) ∷
         Walk.full (sliceTy (tyRef erased imm (pointee ((UInt w8) .written)))) l₁₄ (sliceVal (dead .ptr) (length (dead .now))) ∷
-        Walk.full (tyRef erased mut (pointee ((UInt w8) .written))) l₁₅ (vptr (dead .ptr .0) (dead .ptr .1)) ∷
-        Walk.full (sliceTy (tyRef erased mut (pointee ((UInt w8) .written)))) l₁₆ (sliceVal (dead .ptr) (length (dead .now))) ∷
-        Walk.full (tyRef erased mut (pointee ((UInt w8) .written))) l₁₇ (vptr (pieces .ptr .0) (pieces .ptr .1)) ∷
-        Walk.full (sliceTy (tyRef erased mut (pointee ((UInt w8) .written)))) l₁₈ (sliceVal (pieces .ptr) (length (pieces .now))) ∷
-        Walk.full tyBool l₁₉ (vbool (eqb (r4 .node) 0)) ∷ Walk.full tyUnit l₂₀ vunit ∷
-        Walk.full (tyRef erased mut (pointee ((UInt w8) .written))) l₂₁ (vptr (dead .ptr .0) (dead .ptr .1)) ∷
-        Walk.full (sliceTy (tyRef erased mut (pointee ((UInt w8) .written)))) l₂₂ (sliceVal (dead .ptr) (length (ws4 .1 .1 .1 .0))) ∷
-        []) Fd ed (‵ (T-search-dead .own (at-last dead (ws5 .0)) (sliceVal (dead .ptr) (length (ws5 .0)) ∷ [])) ∷ ‵ (flft κ₁ q₁) ∷
-        ‵ (T-search-pieces .own (at-last pieces (ws4 .1 .1 .1 .1 .0)) (sliceVal (pieces .ptr) (length (ws4 .1 .1 .1 .1 .0)) ∷ [])) ∷
-        ‵ (flft κ₂ q₂) ∷ ‵ (flft κ₀ q₀) ∷ ‵ (flft κ₃ q₃) ∷ ‵ (T-search-nodes .own nodes (sliceVal (nodes .ptr) (length (nodes .now)) ∷ [])) ∷
+        Walk.full tyUnit l₁₅ vunit ∷ Walk.full (tyRef erased mut (pointee ((UInt w64) .written))) l₁₆ (vptr (notes .ptr .0) (notes .ptr .1)) ∷
+        Walk.full (sliceTy (tyRef erased mut (pointee ((UInt w64) .written)))) l₁₇ (sliceVal (notes .ptr) (length (notes .now))) ∷
+        Walk.full (tyRef erased mut (pointee ((UInt w8) .written))) l₁₈ (vptr (dead .ptr .0) (dead .ptr .1)) ∷
+        Walk.full (sliceTy (tyRef erased mut (pointee ((UInt w8) .written)))) l₁₉ (sliceVal (dead .ptr) (length (dead .now))) ∷
+        Walk.full (tyRef erased mut (pointee ((UInt w64) .written))) l₂₀ (vptr (notes .ptr .0) (notes .ptr .1)) ∷
+        Walk.full (sliceTy (tyRef erased mut (pointee ((UInt w64) .written)))) l₂₁ (sliceVal (notes .ptr) (length (ws4 .0))) ∷
+        Walk.full tyBool l₂₂ (vbool (eqb (r5 .node) 0)) ∷ Walk.full tyUnit l₂₃ vunit ∷
+        Walk.full (tyRef erased mut (pointee ((UInt w8) .written))) l₂₄ (vptr (dead .ptr .0) (dead .ptr .1)) ∷
+        Walk.full (sliceTy (tyRef erased mut (pointee ((UInt w8) .written)))) l₂₅ (sliceVal (dead .ptr) (length (ws5 .1 .1 .1 .0))) ∷
+        []) Fd ed (‵ (T-search-dead .own (at-last dead (ws6 .0)) (sliceVal (dead .ptr) (length (ws6 .0)) ∷ [])) ∷ ‵ (flft κ₁ q₁) ∷
+        ‵ (T-search-notes .own (at-last notes (ws5 .1 .1 .1 .1 .0)) (sliceVal (notes .ptr) (length (ws5 .1 .1 .1 .1 .0)) ∷ [])) ∷ ‵ (flft κ₂ q₂) ∷
+        ‵ (flft κ₀ q₀) ∷ ‵ (flft κ₃ q₃) ∷ ‵ (T-search-nodes .own nodes (sliceVal (nodes .ptr) (length (nodes .now)) ∷ [])) ∷
         ‵ (T-search-line .own line (sliceVal (line .ptr) (length (line .now)) ∷ [])) ∷ []) (
         Walk.move ! (0 ∷ 1 ∷ []) (
-        Walk.gives W (Walk.nothing ∷ Walk.nothing ∷ Walk.nothing ∷ Walk.turned (T-search-dead .own (at-last dead (ws5 .0)) (sliceVal (dead .ptr)
-        (length (ws5 .0)) ∷ [])) (finally (UInt w8) (dead .name) (ws5 .0)) (Walk.ended-slice 𝓤 H A W (named 1) κ₁ (UInt w8) dead (ws5 .0) _) ∷
-        Walk.turned (T-search-pieces .own (at-last pieces (ws4 .1 .1 .1 .1 .0)) (sliceVal (pieces .ptr) (length (ws4 .1 .1 .1 .1 .0)) ∷ []))
-        (finally (UInt w8) (pieces .name) (ws4 .1 .1 .1 .1 .0)) (Walk.ended-slice 𝓤 H A W (named 2) κ₂ (UInt w8) pieces (ws4 .1 .1 .1 .1 .0) _) ∷
+        Walk.gives W (Walk.nothing ∷ Walk.nothing ∷ Walk.nothing ∷ Walk.turned (T-search-dead .own (at-last dead (ws6 .0)) (sliceVal (dead .ptr)
+        (length (ws6 .0)) ∷ [])) (finally (UInt w8) (dead .name) (ws6 .0)) (Walk.ended-slice 𝓤 H A W (named 1) κ₁ (UInt w8) dead (ws6 .0) _) ∷
+        Walk.turned (T-search-notes .own (at-last notes (ws5 .1 .1 .1 .1 .0)) (sliceVal (notes .ptr) (length (ws5 .1 .1 .1 .1 .0)) ∷ []))
+        (finally (UInt w64) (notes .name) (ws5 .1 .1 .1 .1 .0)) (Walk.ended-slice 𝓤 H A W (named 2) κ₂ (UInt w64) notes (ws5 .1 .1 .1 .1 .0) _) ∷
         Walk.nothing ∷ Walk.nothing ∷ Walk.nothing ∷ Walk.nothing ∷ []) _ ! (
         Walk.move ! (3 ∷ 1 ∷ 1 ∷ 1 ∷ []) (
         Walk.tokens-in W ((κ₀, q₀) ∷ (κ₁, q₁) ∷ (κ₂, q₂) ∷ (κ₃, q₃) ∷ []) _ ! (alive 𝓤 H A f-search.signature (κ₀, (κ₁, (κ₂, (κ₃, tt))))
         (q₀, (q₁, (q₂, (q₃, tt))))) (id⊢ 𝓤 _) (
-        Walk.use0 W ! (‵ (Outcome-T.the-row .own r6 ((Outcome-L.lowered r6) ∷ []))) (LL.makes Outcome-T.the-type Outcome-L.the-plain 𝓤 H A r6 _ is6) (
+        Walk.use0 W ! (‵ (Outcome-T.the-row .own r5 ((Outcome-L.lowered r5) ∷ []))) (LL.makes Outcome-T.the-type Outcome-L.the-plain 𝓤 H A r5 _ is5) (
         Walk.keep ! (1 ∷ 1 ∷ 0 ∷ []) (
-        Kit.by ! (Walk.leave-by 𝓤 H A W f-search.ended (f-search.clauses 𝓤 H A mem run) stayed-search bound-search (Outcome-L.lowered r6) r6 (tt, (tt, (tt, ((ws5 .0), ((ws4 .1 .1 .1 .1 .0), (tt, (tt, (tt, (tt, tt))))))))) (tt, (tt, (tt, ((len4 ∙ (len2 ∙ refl)), ((len3 ∙ refl), (tt, (tt, (tt, (tt, tt))))))))) (factI 𝓤 _ (emp 𝓤) (leads-nowhere pre e1 e2 t1 e4 e6 (eqb-true (r4 .node) 0 t2) e5))))))))))))))))))))))))))))))))
-        (λ h2. let t2 : (eqb (r4 .node) 0) ≡ false = Walk.is-false _ h2 in
+        Kit.by ! (Walk.leave-by 𝓤 H A W f-search.ended (f-search.clauses 𝓤 H A mem run) stayed-search bound-search (Outcome-L.lowered r5) r5 (tt, (tt, (tt, ((ws6 .0), ((ws5 .1 .1 .1 .1 .0), (tt, (tt, (tt, (tt, tt))))))))) (tt, (tt, (tt, ((len5 ∙ (len3 ∙ refl)), ((len4 ∙ (len2 ∙ refl)), (tt, (tt, (tt, (tt, tt))))))))) (factI 𝓤 _ (emp 𝓤) (leads-nowhere pre e1 e2 t1 e4 e5 (eqb-true (r5 .node) 0 t2) e6)))))))))))))))))))))))))))
+        (λ h2. let t2 : (eqb (r5 .node) 0) ≡ false = Walk.is-false _ h2 in
         Walk.skips-then ! (
-        -- [pieces; κ₂; the locals; dead; κ₁; κ₀; κ₃; nodes; line; their ends]
-        -- call 7: count_place (r4)
-        Walk.gives W (Walk.made (Outcome-T.the-row .own r4 ((Outcome-L.lowered r4) ∷ []))
-        (LL.makes Outcome-T.the-type Outcome-L.the-plain 𝓤 H A r4 _ is4) ∷ []) _ ! (
-        Walk.tokens-in W ([]) _ ! (alive 𝓤 H A g-count-place.signature tt tt) (id⊢ 𝓤 _) (
-        Walk.asks W ! fm g-count-place.ended (g-count-place.clauses 𝓤 H A mem run)
-        ((tt, tt, tt, (r4, tt), ((Outcome-L.lowered r4) ∷ [], tt)), tt) _ (known-count-place ((tt, tt, tt, (r4, tt), ((Outcome-L.lowered r4) ∷ [], tt)), tt)) (factI 𝓤 _ (emp 𝓤) (place-fits e4)) (λ r ws. id⊢ 𝓤 _)
-        (Run.and-then ! (Walk.local ! 20 refl) (Run.no-more !)) (λ u7 r7 is7′ e7.
-        Walk.tokens-out W ([]) ! (id⊢ 𝓤 _) (
-        Walk.lands-in ! (Walk.init-as ! 10 refl (LL.lawful Outcome-T.the-type Outcome-L.the-laws 𝓤 H A W .typed r7 _ is7′ .0)
-        (ap only (LL.tells Outcome-T.the-type Outcome-L.the-laws r7 _ is7′))) (
-        let is7 : Is Outcome-T.the-row r7 ((Outcome-L.lowered r7) ∷ []) = subst (λ (vs : List Val). Is Outcome-T.the-row r7 vs)
-        (LL.tells Outcome-T.the-type Outcome-L.the-laws r7 _ is7′) is7′ in
-        Walk.written-out ! (‵ (T-search-pieces .own (at-last pieces (ws4 .1 .1 .1 .1 .0)) (sliceVal (pieces .ptr) (length (ws4 .1 .1 .1 .1 .0)) ∷
-        [])) ∷ ‵ (flft κ₂ q₂) ∷ ‵ (fat fullShare Y-search-pieces l₅ 0 (sliceVal (pieces .ptr) (length (ws4 .1 .1 .1 .1 .0)))) ∷
-        ‵ (T-search-dead .own (at-last dead (ws4 .1 .1 .1 .0)) (sliceVal (dead .ptr) (length (ws4 .1 .1 .1 .0)) ∷ [])) ∷ ‵ (flft κ₁ q₁) ∷
-        ‵ (fat fullShare Y-search-dead l₄ 0 (sliceVal (dead .ptr) (length (ws4 .1 .1 .1 .0)))) ∷ ‵ (flft κ₀ q₀) ∷ ‵ (flft κ₃ q₃) ∷
-        ‵ (T-search-nodes .own nodes (sliceVal (nodes .ptr) (length (nodes .now)) ∷ [])) ∷ ‵ (T-search-line .own line (sliceVal (line .ptr)
-        (length (line .now)) ∷ [])) ∷ ‵ (fat fullShare Outcome-L.mir l₀ 0 (Outcome-L.lowered r7)) ∷
-        ‵ (fat fullShare (tyInt w8) l₁ 0 (vint w8 left)) ∷ ‵ (fat fullShare (tyInt w8) l₂ 0 (vint w8 right)) ∷
-        ‵ (fat fullShare Y-search-nodes l₃ 0 (sliceVal (nodes .ptr) (length (nodes .now)))) ∷
-        ‵ (fat fullShare Y-search-line l₆ 0 (sliceVal (line .ptr) (length (line .now)))) ∷ ‵ (fat fullShare (tyInt w64) l₇ 0 (vint w64 end)) ∷
-        ‵ (fat fullShare (tyInt w64) l₈ 0 (vint w64 node)) ∷ ‵ (fat fullShare (tyInt w64) l₉ 0 (vint w64 at)) ∷
-        ‵ (fat fullShare (tyInt w64) l₁₀ 0 (vint w64 r1)) ∷ ‵ (fat fullShare Outcome-L.mir l₁₁ 0 (Outcome-L.lowered r4)) ∷
-        ‵ (fat fullShare tyBool l₁₂ 0 (vbool r2)) ∷ ‵ (fat fullShare (tyRef erased imm (pointee ((UInt w8) .written))) l₁₃ 0 (vptr (dead .ptr .0)
-        (dead .ptr .1))) ∷ ‵ (fat fullShare (sliceTy (tyRef erased imm (pointee ((UInt w8) .written)))) l₁₄ 0 (sliceVal (dead .ptr)
-        (length (dead .now)))) ∷ ‵ (fat fullShare (tyRef erased mut (pointee ((UInt w8) .written))) l₁₅ 0 (vptr (dead .ptr .0) (dead .ptr .1))) ∷
-        ‵ (fat fullShare (sliceTy (tyRef erased mut (pointee ((UInt w8) .written)))) l₁₆ 0 (sliceVal (dead .ptr) (length (dead .now)))) ∷
-        ‵ (fat fullShare (tyRef erased mut (pointee ((UInt w8) .written))) l₁₇ 0 (vptr (pieces .ptr .0) (pieces .ptr .1))) ∷
-        ‵ (fat fullShare (sliceTy (tyRef erased mut (pointee ((UInt w8) .written)))) l₁₈ 0 (sliceVal (pieces .ptr) (length (pieces .now)))) ∷
-        ‵ (fat fullShare tyBool l₁₉ 0 (vbool (eqb (r4 .node) 0))) ∷ ‵ (froom tyUnit l₂₀ 0) ∷
-        ‵ (froom (tyRef erased mut (pointee ((UInt w8) .written))) l₂₁ 0) ∷
-        ‵ (froom (sliceTy (tyRef erased mut (pointee ((UInt w8) .written)))) l₂₂ 0) ∷ ‵ Fd ∷ []) refl (
+        Walk.sets ! (Run.of-opd ! (Walk.local ! 19 refl))
+        (Run.init ! 10 refl (LL.lawful Outcome-T.the-type Outcome-L.the-laws 𝓤 H A W .typed r5 _ is5 .0)) (
         Walk.returns-by ! Post-search refl (Run.look ! 10 refl) (
-        Walk.move ! (10 ∷ 10 ∷ 10 ∷ 10 ∷ 5 ∷ 2 ∷ 8 ∷ 8 ∷ 8 ∷ 8 ∷ 8 ∷ 8 ∷ 8 ∷ 8 ∷ 8 ∷ 8 ∷ 8 ∷ 8 ∷ 8 ∷ 8 ∷ 8 ∷ 8 ∷ 8 ∷ 8 ∷ []) (
-        Walk.frees-gathered ! (Walk.full Outcome-L.mir l₀ (Outcome-L.lowered r7) ∷ Walk.full (tyInt w8) l₁ (vint w8 left) ∷
+        Walk.move ! (10 ∷ 10 ∷ 10 ∷ 10 ∷ 5 ∷ 2 ∷ 8 ∷ 8 ∷ 8 ∷ 8 ∷ 8 ∷ 8 ∷ 8 ∷ 8 ∷ 8 ∷ 8 ∷ 8 ∷ 8 ∷ 8 ∷ 8 ∷ 8 ∷ 8 ∷ 8 ∷ 8 ∷ 8 ∷ 8 ∷ 8 ∷ []) (
+        Walk.frees-gathered ! (Walk.full Outcome-L.mir l₀ (Outcome-L.lowered r5) ∷ Walk.full (tyInt w8) l₁ (vint w8 left) ∷
         Walk.full (tyInt w8) l₂ (vint w8 right) ∷ Walk.full Y-search-nodes l₃ (sliceVal (nodes .ptr) (length (nodes .now))) ∷
-        Walk.full Y-search-dead l₄ (sliceVal (dead .ptr) (length (ws4 .1 .1 .1 .0))) ∷ Walk.full Y-search-pieces l₅ (sliceVal (pieces .ptr)
-        (length (ws4 .1 .1 .1 .1 .0))) ∷ Walk.full Y-search-line l₆ (sliceVal (line .ptr) (length (line .now))) ∷
+        Walk.full Y-search-dead l₄ (sliceVal (dead .ptr) (length (ws5 .1 .1 .1 .0))) ∷ Walk.full Y-search-notes l₅ (sliceVal (notes .ptr)
+        (length (ws5 .1 .1 .1 .1 .0))) ∷ Walk.full Y-search-line l₆ (sliceVal (line .ptr) (length (line .now))) ∷
         Walk.full (tyInt w64) l₇ (vint w64 end) ∷ Walk.full (tyInt w64) l₈ (vint w64 node) ∷ Walk.full (tyInt w64) l₉ (vint w64 at) ∷
-        Walk.full (tyInt w64) l₁₀ (vint w64 r1) ∷ Walk.full Outcome-L.mir l₁₁ (Outcome-L.lowered r4) ∷ Walk.full tyBool l₁₂ (vbool r2) ∷
+        Walk.full (tyInt w64) l₁₀ (vint w64 r1) ∷ Walk.full Outcome-L.mir l₁₁ (Outcome-L.lowered r5) ∷ Walk.full tyBool l₁₂ (vbool r2) ∷
         Walk.full (tyRef erased imm (pointee ((UInt w8) .written))) l₁₃ (vptr (dead .ptr .0) (dead .ptr .1)) ∷
         Walk.full (sliceTy (tyRef erased imm (pointee ((UInt w8) .written)))) l₁₄ (sliceVal (dead .ptr) (length (dead .now))) ∷
-        Walk.full (tyRef erased mut (pointee ((UInt w8) .written))) l₁₅ (vptr (dead .ptr .0) (dead .ptr .1)) ∷
-        Walk.full (sliceTy (tyRef erased mut (pointee ((UInt w8) .written)))) l₁₆ (sliceVal (dead .ptr) (length (dead .now))) ∷
-        Walk.full (tyRef erased mut (pointee ((UInt w8) .written))) l₁₇ (vptr (pieces .ptr .0) (pieces .ptr .1)) ∷
-        Walk.full (sliceTy (tyRef erased mut (pointee ((UInt w8) .written)))) l₁₈ (sliceVal (pieces .ptr) (length (pieces .now))) ∷
-        Walk.full tyBool l₁₉ (vbool (eqb (r4 .node) 0)) ∷ Walk.bare tyUnit l₂₀ ∷ Walk.bare (tyRef erased mut (pointee ((UInt w8) .written))) l₂₁ ∷
-        Walk.bare (sliceTy (tyRef erased mut (pointee ((UInt w8) .written)))) l₂₂ ∷
-        []) Fd ed (‵ (T-search-pieces .own (at-last pieces (ws4 .1 .1 .1 .1 .0)) (sliceVal (pieces .ptr) (length (ws4 .1 .1 .1 .1 .0)) ∷ [])) ∷
-        ‵ (flft κ₂ q₂) ∷ ‵ (T-search-dead .own (at-last dead (ws4 .1 .1 .1 .0)) (sliceVal (dead .ptr) (length (ws4 .1 .1 .1 .0)) ∷ [])) ∷
+        Walk.full tyUnit l₁₅ vunit ∷ Walk.full (tyRef erased mut (pointee ((UInt w64) .written))) l₁₆ (vptr (notes .ptr .0) (notes .ptr .1)) ∷
+        Walk.full (sliceTy (tyRef erased mut (pointee ((UInt w64) .written)))) l₁₇ (sliceVal (notes .ptr) (length (notes .now))) ∷
+        Walk.full (tyRef erased mut (pointee ((UInt w8) .written))) l₁₈ (vptr (dead .ptr .0) (dead .ptr .1)) ∷
+        Walk.full (sliceTy (tyRef erased mut (pointee ((UInt w8) .written)))) l₁₉ (sliceVal (dead .ptr) (length (dead .now))) ∷
+        Walk.full (tyRef erased mut (pointee ((UInt w64) .written))) l₂₀ (vptr (notes .ptr .0) (notes .ptr .1)) ∷
+        Walk.full (sliceTy (tyRef erased mut (pointee ((UInt w64) .written)))) l₂₁ (sliceVal (notes .ptr) (length (ws4 .0))) ∷
+        Walk.full tyBool l₂₂ (vbool (eqb (r5 .node) 0)) ∷ Walk.bare tyUnit l₂₃ ∷ Walk.bare (tyRef erased mut (pointee ((UInt w8) .written))) l₂₄ ∷
+        Walk.bare (sliceTy (tyRef erased mut (pointee ((UInt w8) .written)))) l₂₅ ∷
+        []) Fd ed (‵ (T-search-notes .own (at-last notes (ws5 .1 .1 .1 .1 .0)) (sliceVal (notes .ptr) (length (ws5 .1 .1 .1 .1 .0)) ∷ [])) ∷
+        ‵ (flft κ₂ q₂) ∷ ‵ (T-search-dead .own (at-last dead (ws5 .1 .1 .1 .0)) (sliceVal (dead .ptr) (length (ws5 .1 .1 .1 .0)) ∷ [])) ∷
         ‵ (flft κ₁ q₁) ∷ ‵ (flft κ₀ q₀) ∷ ‵ (flft κ₃ q₃) ∷ ‵ (T-search-nodes .own nodes (sliceVal (nodes .ptr) (length (nodes .now)) ∷ [])) ∷
         ‵ (T-search-line .own line (sliceVal (line .ptr) (length (line .now)) ∷ [])) ∷ []) (
         Walk.move ! (2 ∷ 0 ∷ []) (
-        Walk.gives W (Walk.nothing ∷ Walk.nothing ∷ Walk.nothing ∷ Walk.turned (T-search-dead .own (at-last dead (ws4 .1 .1 .1 .0))
-        (sliceVal (dead .ptr) (length (ws4 .1 .1 .1 .0)) ∷ [])) (finally (UInt w8) (dead .name) (ws4 .1 .1 .1 .0))
-        (Walk.ended-slice 𝓤 H A W (named 1) κ₁ (UInt w8) dead (ws4 .1 .1 .1 .0) _) ∷
-        Walk.turned (T-search-pieces .own (at-last pieces (ws4 .1 .1 .1 .1 .0)) (sliceVal (pieces .ptr) (length (ws4 .1 .1 .1 .1 .0)) ∷ []))
-        (finally (UInt w8) (pieces .name) (ws4 .1 .1 .1 .1 .0)) (Walk.ended-slice 𝓤 H A W (named 2) κ₂ (UInt w8) pieces (ws4 .1 .1 .1 .1 .0) _) ∷
+        Walk.gives W (Walk.nothing ∷ Walk.nothing ∷ Walk.nothing ∷ Walk.turned (T-search-dead .own (at-last dead (ws5 .1 .1 .1 .0))
+        (sliceVal (dead .ptr) (length (ws5 .1 .1 .1 .0)) ∷ [])) (finally (UInt w8) (dead .name) (ws5 .1 .1 .1 .0))
+        (Walk.ended-slice 𝓤 H A W (named 1) κ₁ (UInt w8) dead (ws5 .1 .1 .1 .0) _) ∷
+        Walk.turned (T-search-notes .own (at-last notes (ws5 .1 .1 .1 .1 .0)) (sliceVal (notes .ptr) (length (ws5 .1 .1 .1 .1 .0)) ∷ []))
+        (finally (UInt w64) (notes .name) (ws5 .1 .1 .1 .1 .0)) (Walk.ended-slice 𝓤 H A W (named 2) κ₂ (UInt w64) notes (ws5 .1 .1 .1 .1 .0) _) ∷
         Walk.nothing ∷ Walk.nothing ∷ Walk.nothing ∷ Walk.nothing ∷ []) _ ! (
         Walk.move ! (3 ∷ 2 ∷ 1 ∷ 1 ∷ []) (
         Walk.tokens-in W ((κ₀, q₀) ∷ (κ₁, q₁) ∷ (κ₂, q₂) ∷ (κ₃, q₃) ∷ []) _ ! (alive 𝓤 H A f-search.signature (κ₀, (κ₁, (κ₂, (κ₃, tt))))
         (q₀, (q₁, (q₂, (q₃, tt))))) (id⊢ 𝓤 _) (
-        Walk.use0 W ! (‵ (Outcome-T.the-row .own r7 ((Outcome-L.lowered r7) ∷ []))) (LL.makes Outcome-T.the-type Outcome-L.the-plain 𝓤 H A r7 _ is7) (
+        Walk.use0 W ! (‵ (Outcome-T.the-row .own r5 ((Outcome-L.lowered r5) ∷ []))) (LL.makes Outcome-T.the-type Outcome-L.the-plain 𝓤 H A r5 _ is5) (
         Walk.keep ! (1 ∷ 1 ∷ 0 ∷ []) (
-        Kit.by ! (Walk.leave-by 𝓤 H A W f-search.ended (f-search.clauses 𝓤 H A mem run) stayed-search bound-search (Outcome-L.lowered r7) r7 (tt, (tt, (tt, ((ws4 .1 .1 .1 .0), ((ws4 .1 .1 .1 .1 .0), (tt, (tt, (tt, (tt, tt))))))))) (tt, (tt, (tt, ((len2 ∙ refl), ((len3 ∙ refl), (tt, (tt, (tt, (tt, tt))))))))) (factI 𝓤 _ (emp 𝓤) (leads-on pre e1 e2 t1 e4 e7 (eqb-false (r4 .node) 0 t2)))))))))))))))))))))))))))))))))))))))))))))))))))))))))))))))))))))))))))))))))))))))))))))))))))))))))
+        Kit.by ! (Walk.leave-by 𝓤 H A W f-search.ended (f-search.clauses 𝓤 H A mem run) stayed-search bound-search (Outcome-L.lowered r5) r5 (tt, (tt, (tt, ((ws5 .1 .1 .1 .0), ((ws5 .1 .1 .1 .1 .0), (tt, (tt, (tt, (tt, tt))))))))) (tt, (tt, (tt, ((len3 ∙ refl), ((len4 ∙ (len2 ∙ refl)), (tt, (tt, (tt, (tt, tt))))))))) (factI 𝓤 _ (emp 𝓤) (leads-on pre e1 e2 t1 e4 e5 (eqb-false (r5 .node) 0 t2)))))))))))))))))))))))))))))))))))))))))))))))))))))))))))))))))))))))))))))))))))))))))))))))))))))))))))))))))))))
 
 module _ {M : Type 1} (𝓤 : URA M) (H : Heap 𝓤) (A : Atoms 𝓤) (W : Given 𝓤 H A) (mem : Memory → SProp 𝓤) (run : Routine → Fun 𝓤) (κ₀ : Lft)
     (q₀ : Share) (κ₁ : Lft) (q₁ : Share) (κ₂ : Lft) (q₂ : Share) (κ₃ : Lft) (q₃ : Share) (left : ℕ) (right : ℕ) (nodes : RefT (List Node))
-    (dead : RefT (List ℕ)) (pieces : RefT (List ℕ)) (line : RefT (List ℕ)) (end : ℕ) (node : ℕ) (at : ℕ) where
+    (dead : RefT (List ℕ)) (notes : RefT (List ℕ)) (line : RefT (List ℕ)) (end : ℕ) (node : ℕ) (at : ℕ) where
   abbrev T-search-atom-nodes : RattleType
   T-search-atom-nodes = ShrSlice (named 0) κ₀ Node-T.the-row
 
@@ -710,14 +702,14 @@ module _ {M : Type 1} (𝓤 : URA M) (H : Heap 𝓤) (A : Atoms 𝓤) (W : Given
   abbrev v-search-atom-dead : Val
   v-search-atom-dead = sliceVal (dead .ptr) (length (dead .now))
 
-  abbrev T-search-atom-pieces : RattleType
-  T-search-atom-pieces = MutSlice (named 2) κ₂ (UInt w8)
+  abbrev T-search-atom-notes : RattleType
+  T-search-atom-notes = MutSlice (named 2) κ₂ (UInt w64)
 
-  abbrev Y-search-atom-pieces : Ty
-  Y-search-atom-pieces = sliceTy (tyRef (named 2) mut (pointee ((UInt w8) .written)))
+  abbrev Y-search-atom-notes : Ty
+  Y-search-atom-notes = sliceTy (tyRef (named 2) mut (pointee ((UInt w64) .written)))
 
-  abbrev v-search-atom-pieces : Val
-  v-search-atom-pieces = sliceVal (pieces .ptr) (length (pieces .now))
+  abbrev v-search-atom-notes : Val
+  v-search-atom-notes = sliceVal (notes .ptr) (length (notes .now))
 
   abbrev T-search-atom-line : RattleType
   T-search-atom-line = ShrSlice (named 3) κ₃ (UInt w8)
@@ -729,7 +721,7 @@ module _ {M : Type 1} (𝓤 : URA M) (H : Heap 𝓤) (A : Atoms 𝓤) (W : Given
   v-search-atom-line = sliceVal (line .ptr) (length (line .now))
 
   abbrev bound-search-atom : Walk.Of 𝓤 H A f-search-atom.ended (f-search-atom.clauses 𝓤 H A mem run) .Ghost
-  bound-search-atom = (((κ₀, (κ₁, (κ₂, (κ₃, tt)))), (q₀, (q₁, (q₂, (q₃, tt)))), tt, (left, (right, (nodes, (dead, (pieces, (line, (end, (node, (at, tt))))))))), ((vint w8 left) ∷ [], ((vint w8 right) ∷ [], (v-search-atom-nodes ∷ [], (v-search-atom-dead ∷ [], (v-search-atom-pieces ∷ [], (v-search-atom-line ∷ [], ((vint w64 end) ∷ [], ((vint w64 node) ∷ [], ((vint w64 at) ∷ [], tt)))))))))), tt)
+  bound-search-atom = (((κ₀, (κ₁, (κ₂, (κ₃, tt)))), (q₀, (q₁, (q₂, (q₃, tt)))), tt, (left, (right, (nodes, (dead, (notes, (line, (end, (node, (at, tt))))))))), ((vint w8 left) ∷ [], ((vint w8 right) ∷ [], (v-search-atom-nodes ∷ [], (v-search-atom-dead ∷ [], (v-search-atom-notes ∷ [], (v-search-atom-line ∷ [], ((vint w64 end) ∷ [], ((vint w64 node) ∷ [], ((vint w64 at) ∷ [], tt)))))))))), tt)
 
   abbrev Post-search-atom : Val → SProp 𝓤
   Post-search-atom = walkOf 𝓤 H A f-search-atom.ended stayed-search-atom (f-search-atom.clauses 𝓤 H A mem run) .post bound-search-atom
@@ -738,87 +730,89 @@ module _ {M : Type 1} (𝓤 : URA M) (H : Heap 𝓤) (A : Atoms 𝓤) (W : Given
       (Walk.Of 𝓤 H A g-node-at.ended (g-node-at.clauses 𝓤 H A mem run))) (known-has-element : Triple 𝓤 (C #g-has-element)
       (Walk.Of 𝓤 H A g-has-element.ended (g-has-element.clauses 𝓤 H A mem run))) (known-no-piece : Triple 𝓤 (C #g-no-piece)
       (Walk.Of 𝓤 H A g-no-piece.ended (g-no-piece.clauses 𝓤 H A mem run))) (known-find-atom : Triple 𝓤 (C #g-find-atom)
-      (Walk.Of 𝓤 H A g-find-atom.ended (g-find-atom.clauses 𝓤 H A mem run))) (known-only-read : Triple 𝓤 (C #g-only-read)
-      (Walk.Of 𝓤 H A g-only-read.ended (g-only-read.clauses 𝓤 H A mem run))) (known-pass-atom : Triple 𝓤 (C #g-pass-atom)
+      (Walk.Of 𝓤 H A g-find-atom.ended (g-find-atom.clauses 𝓤 H A mem run))) (known-count-bytes : Triple 𝓤 (C #g-count-bytes)
+      (Walk.Of 𝓤 H A g-count-bytes.ended (g-count-bytes.clauses 𝓤 H A mem run))) (known-pass-atom : Triple 𝓤 (C #g-pass-atom)
       (Walk.Of 𝓤 H A g-pass-atom.ended (g-pass-atom.clauses 𝓤 H A mem run)))
       (known-search : (y : Walk.Of 𝓤 H A f-search.ended (f-search.clauses 𝓤 H A mem run) .Ghost)
-      → μ-search 𝓤 H A mem run y < measure-search-atom left right nodes dead pieces line end node at
+      → μ-search 𝓤 H A mem run y < measure-search-atom left right nodes dead notes line end node at
       → ent 𝓤 (Walk.Of 𝓤 H A f-search.ended (f-search.clauses 𝓤 H A mem run) .pre y)
       (C #search (Walk.Of 𝓤 H A f-search.ended (f-search.clauses 𝓤 H A mem run) .args y)
       (Walk.Of 𝓤 H A f-search.ended (f-search.clauses 𝓤 H A mem run) .post y)))
       (known-search-atom : (y : Walk.Of 𝓤 H A f-search-atom.ended (f-search-atom.clauses 𝓤 H A mem run) .Ghost)
-      → μ-search-atom 𝓤 H A mem run y < measure-search-atom left right nodes dead pieces line end node at
+      → μ-search-atom 𝓤 H A mem run y < measure-search-atom left right nodes dead notes line end node at
       → ent 𝓤 (Walk.Of 𝓤 H A f-search-atom.ended (f-search-atom.clauses 𝓤 H A mem run) .pre y)
       (C #search-atom (Walk.Of 𝓤 H A f-search-atom.ended (f-search-atom.clauses 𝓤 H A mem run) .args y)
       (Walk.Of 𝓤 H A f-search-atom.ended (f-search-atom.clauses 𝓤 H A mem run) .post y)))
       (known-search-byte : (y : Walk.Of 𝓤 H A f-search-byte.ended (f-search-byte.clauses 𝓤 H A mem run) .Ghost)
-      → μ-search-byte 𝓤 H A mem run y < measure-search-atom left right nodes dead pieces line end node at
+      → μ-search-byte 𝓤 H A mem run y < measure-search-atom left right nodes dead notes line end node at
       → ent 𝓤 (Walk.Of 𝓤 H A f-search-byte.ended (f-search-byte.clauses 𝓤 H A mem run) .pre y)
       (C #search-byte (Walk.Of 𝓤 H A f-search-byte.ended (f-search-byte.clauses 𝓤 H A mem run) .args y)
       (Walk.Of 𝓤 H A f-search-byte.ended (f-search-byte.clauses 𝓤 H A mem run) .post y)))
       (known-search-piece : (y : Walk.Of 𝓤 H A f-search-piece.ended (f-search-piece.clauses 𝓤 H A mem run) .Ghost)
-      → μ-search-piece 𝓤 H A mem run y < measure-search-atom left right nodes dead pieces line end node at
+      → μ-search-piece 𝓤 H A mem run y < measure-search-atom left right nodes dead notes line end node at
       → ent 𝓤 (Walk.Of 𝓤 H A f-search-piece.ended (f-search-piece.clauses 𝓤 H A mem run) .pre y)
       (C #search-piece (Walk.Of 𝓤 H A f-search-piece.ended (f-search-piece.clauses 𝓤 H A mem run) .args y)
       (Walk.Of 𝓤 H A f-search-piece.ended (f-search-piece.clauses 𝓤 H A mem run) .post y)))
       (known-take-up : (y : Walk.Of 𝓤 H A f-take-up.ended (f-take-up.clauses 𝓤 H A mem run) .Ghost)
-      → μ-take-up 𝓤 H A mem run y < measure-search-atom left right nodes dead pieces line end node at
+      → μ-take-up 𝓤 H A mem run y < measure-search-atom left right nodes dead notes line end node at
       → ent 𝓤 (Walk.Of 𝓤 H A f-take-up.ended (f-take-up.clauses 𝓤 H A mem run) .pre y)
       (C #take-up (Walk.Of 𝓤 H A f-take-up.ended (f-take-up.clauses 𝓤 H A mem run) .args y)
       (Walk.Of 𝓤 H A f-take-up.ended (f-take-up.clauses 𝓤 H A mem run) .post y))) where
     walk-search-atom : (fits-left : left < 2 ^ 8) → (fits-right : right < 2 ^ 8) → (is-nodes : Is T-search-atom-nodes nodes (v-search-atom-nodes ∷
-        [])) → (is-dead : Is T-search-atom-dead dead (v-search-atom-dead ∷ []))
-        → (is-pieces : Is T-search-atom-pieces pieces (v-search-atom-pieces ∷ [])) → (is-line : Is T-search-atom-line line (v-search-atom-line ∷
-        [])) → (fits-end : end < 2 ^ 64) → (fits-node : node < 2 ^ 64) → (fits-at : at < 2 ^ 64) → (pre : Asks (now nodes) (now dead) (now pieces)
-        (now line) end node at) → ent 𝓤 (onEntry 𝓤 H A f-search-atom.signature (κ₀, (κ₁, (κ₂, (κ₃, tt)))) (q₀, (q₁, (q₂, (q₃, tt))))
-        (left, (right, (nodes, (dead, (pieces, (line, (end, (node, (at, tt)))))))))
-        ((vint w8 left) ∷ [], ((vint w8 right) ∷ [], (v-search-atom-nodes ∷ [], (v-search-atom-dead ∷ [], (v-search-atom-pieces ∷ [], (v-search-atom-line ∷ [], ((vint w64 end) ∷ [], ((vint w64 node) ∷ [], ((vint w64 at) ∷ [], tt)))))))))) (WpFn 𝓤 H C Λ code.search-atom-function ((vint w8 left) ∷ (vint w8 right) ∷ v-search-atom-nodes ∷ v-search-atom-dead ∷ v-search-atom-pieces ∷ v-search-atom-line ∷ (vint w64 end) ∷ (vint w64 node) ∷ (vint w64 at) ∷ []) Post-search-atom)
-    walk-search-atom fits-left fits-right is-nodes is-dead is-pieces is-line fits-end fits-node fits-at pre =
+        [])) → (is-dead : Is T-search-atom-dead dead (v-search-atom-dead ∷ [])) → (is-notes : Is T-search-atom-notes notes (v-search-atom-notes ∷
+        [])) → (is-line : Is T-search-atom-line line (v-search-atom-line ∷ [])) → (fits-end : end < 2 ^ 64) → (fits-node : node < 2 ^ 64)
+        → (fits-at : at < 2 ^ 64) → (pre : Asks (now nodes) (now dead) (now notes) (now line) end node at)
+        → ent 𝓤 (onEntry 𝓤 H A f-search-atom.signature (κ₀, (κ₁, (κ₂, (κ₃, tt)))) (q₀, (q₁, (q₂, (q₃, tt))))
+        (left, (right, (nodes, (dead, (notes, (line, (end, (node, (at, tt)))))))))
+        ((vint w8 left) ∷ [], ((vint w8 right) ∷ [], (v-search-atom-nodes ∷ [], (v-search-atom-dead ∷ [], (v-search-atom-notes ∷ [], (v-search-atom-line ∷ [], ((vint w64 end) ∷ [], ((vint w64 node) ∷ [], ((vint w64 at) ∷ [], tt)))))))))) (WpFn 𝓤 H C Λ code.search-atom-function ((vint w8 left) ∷ (vint w8 right) ∷ v-search-atom-nodes ∷ v-search-atom-dead ∷ v-search-atom-notes ∷ v-search-atom-line ∷ (vint w64 end) ∷ (vint w64 node) ∷ (vint w64 at) ∷ []) Post-search-atom)
+    walk-search-atom fits-left fits-right is-nodes is-dead is-notes is-line fits-end fits-node fits-at pre =
         Kit.qed W (raw (alive 𝓤 H A f-search-atom.signature (κ₀, (κ₁, (κ₂, (κ₃, tt)))) (q₀, (q₁, (q₂, (q₃, tt))))) ∷ ‵ (owns ((UInt w8) ∷
-        (UInt w8) ∷ T-search-atom-nodes ∷ T-search-atom-dead ∷ T-search-atom-pieces ∷ T-search-atom-line ∷ (UInt w64) ∷ (UInt w64) ∷ (UInt w64) ∷
-        []) (left, (right, (nodes, (dead, (pieces, (line, (end, (node, (at, tt)))))))))
-        ((vint w8 left) ∷ [], ((vint w8 right) ∷ [], (v-search-atom-nodes ∷ [], (v-search-atom-dead ∷ [], (v-search-atom-pieces ∷ [], (v-search-atom-line ∷ [], ((vint w64 end) ∷ [], ((vint w64 node) ∷ [], ((vint w64 at) ∷ [], tt)))))))))) ∷ []) ∵
+        (UInt w8) ∷ T-search-atom-nodes ∷ T-search-atom-dead ∷ T-search-atom-notes ∷ T-search-atom-line ∷ (UInt w64) ∷ (UInt w64) ∷ (UInt w64) ∷ [])
+        (left, (right, (nodes, (dead, (notes, (line, (end, (node, (at, tt)))))))))
+        ((vint w8 left) ∷ [], ((vint w8 right) ∷ [], (v-search-atom-nodes ∷ [], (v-search-atom-dead ∷ [], (v-search-atom-notes ∷ [], (v-search-atom-line ∷ [], ((vint w64 end) ∷ [], ((vint w64 node) ∷ [], ((vint w64 at) ∷ [], tt)))))))))) ∷ []) ∵
         Walk.move ! (1 ∷ []) (
         Walk.hears W (Walk.gone ((UInt w8) .own left ((vint w8 left) ∷ [])) ∷ Walk.gone ((UInt w8) .own right ((vint w8 right) ∷ [])) ∷
         Walk.stays (T-search-atom-nodes .own nodes (v-search-atom-nodes ∷ [])) ∷ Walk.stays (T-search-atom-dead .own dead (v-search-atom-dead ∷
-        [])) ∷ Walk.stays (T-search-atom-pieces .own pieces (v-search-atom-pieces ∷ [])) ∷
+        [])) ∷ Walk.stays (T-search-atom-notes .own notes (v-search-atom-notes ∷ [])) ∷
         Walk.stays (T-search-atom-line .own line (v-search-atom-line ∷ [])) ∷ Walk.gone ((UInt w64) .own end ((vint w64 end) ∷ [])) ∷
         Walk.gone ((UInt w64) .own node ((vint w64 node) ∷ [])) ∷ Walk.gone ((UInt w64) .own at ((vint w64 at) ∷ [])) ∷ []) ! (
         Walk.move ! (4 ∷ []) (Walk.tokens-out W ((κ₀, q₀) ∷ (κ₁, q₁) ∷ (κ₂, q₂) ∷ (κ₃, q₃) ∷ []) ! (id⊢ 𝓤 _) (
         Walk.enter ! C Λ code.search-atom-function ((vint w8 left) ∷ (vint w8 right) ∷ v-search-atom-nodes ∷ v-search-atom-dead ∷
-        v-search-atom-pieces ∷ v-search-atom-line ∷ (vint w64 end) ∷ (vint w64 node) ∷ (vint w64 at) ∷ []) Post-search-atom (
-        Run.alloc1 ! (λ l₀. Run.alloc1 ! (λ l₁. Run.alloc1 ! (λ l₂. Run.alloc1 ! (λ l₃. Run.alloc1 ! (λ l₄. Run.alloc1 ! (λ l₅. Run.alloc1 ! (λ l₆. Run.alloc1 ! (λ l₇. Run.alloc1 ! (λ l₈. Run.alloc1 ! (λ l₉. Run.alloc1 ! (λ l₁₀. Run.alloc1 ! (λ l₁₁. Run.alloc1 ! (λ l₁₂. Run.alloc1 ! (λ l₁₃. Run.alloc1 ! (λ l₁₄. Run.alloc1 ! (λ l₁₅. Run.alloc1 ! (λ l₁₆. Run.alloc1 ! (λ l₁₇. Run.alloc1 ! (λ l₁₈. Run.alloc1 ! (λ l₁₉. Run.alloc1 ! (λ l₂₀.
+        v-search-atom-notes ∷ v-search-atom-line ∷ (vint w64 end) ∷ (vint w64 node) ∷ (vint w64 at) ∷ []) Post-search-atom (
+        Run.alloc1 ! (λ l₀. Run.alloc1 ! (λ l₁. Run.alloc1 ! (λ l₂. Run.alloc1 ! (λ l₃. Run.alloc1 ! (λ l₄. Run.alloc1 ! (λ l₅. Run.alloc1 ! (λ l₆. Run.alloc1 ! (λ l₇. Run.alloc1 ! (λ l₈. Run.alloc1 ! (λ l₉. Run.alloc1 ! (λ l₁₀. Run.alloc1 ! (λ l₁₁. Run.alloc1 ! (λ l₁₂. Run.alloc1 ! (λ l₁₃. Run.alloc1 ! (λ l₁₄. Run.alloc1 ! (λ l₁₅. Run.alloc1 ! (λ l₁₆. Run.alloc1 ! (λ l₁₇. Run.alloc1 ! (λ l₁₈. Run.alloc1 ! (λ l₁₉. Run.alloc1 ! (λ l₂₀. Run.alloc1 ! (λ l₂₁. Run.alloc1 ! (λ l₂₂. Run.alloc1 ! (λ l₂₃.
         let E : Env 𝓤 H = Walk.at-addresses (code.search-atom-function .locals) (l₀ ∷ l₁ ∷ l₂ ∷ l₃ ∷ l₄ ∷ l₅ ∷ l₆ ∷ l₇ ∷ l₈ ∷ l₉ ∷ l₁₀ ∷ l₁₁ ∷ l₁₂ ∷
-        l₁₃ ∷ l₁₄ ∷ l₁₅ ∷ l₁₆ ∷ l₁₇ ∷ l₁₈ ∷ l₁₉ ∷ l₂₀ ∷ []) in
-        Walk.move ! (40 ∷ 40 ∷ 38 ∷ 38 ∷ 36 ∷ 36 ∷ 34 ∷ 34 ∷ 32 ∷ 32 ∷ 30 ∷ 30 ∷ 28 ∷ 28 ∷ 26 ∷ 26 ∷ 24 ∷ 24 ∷ 22 ∷ 22 ∷ 20 ∷ 20 ∷ 18 ∷ 18 ∷ 16 ∷
-        16 ∷ 14 ∷ 14 ∷ 12 ∷ 12 ∷ 10 ∷ 10 ∷ 8 ∷ 8 ∷ 6 ∷ 6 ∷ 4 ∷ 4 ∷ 2 ∷ 2 ∷ 0 ∷ 0 ∷ []) (
+        l₁₃ ∷ l₁₄ ∷ l₁₅ ∷ l₁₆ ∷ l₁₇ ∷ l₁₈ ∷ l₁₉ ∷ l₂₀ ∷ l₂₁ ∷ l₂₂ ∷ l₂₃ ∷ []) in
+        Walk.move ! (46 ∷ 46 ∷ 44 ∷ 44 ∷ 42 ∷ 42 ∷ 40 ∷ 40 ∷ 38 ∷ 38 ∷ 36 ∷ 36 ∷ 34 ∷ 34 ∷ 32 ∷ 32 ∷ 30 ∷ 30 ∷ 28 ∷ 28 ∷ 26 ∷ 26 ∷ 24 ∷ 24 ∷ 22 ∷
+        22 ∷ 20 ∷ 20 ∷ 18 ∷ 18 ∷ 16 ∷ 16 ∷ 14 ∷ 14 ∷ 12 ∷ 12 ∷ 10 ∷ 10 ∷ 8 ∷ 8 ∷ 6 ∷ 6 ∷ 4 ∷ 4 ∷ 2 ∷ 2 ∷ 0 ∷ 0 ∷ []) (
         Walk.gathers ! (Walk.bare Outcome-L.mir l₀ ∷ Walk.bare (tyInt w8) l₁ ∷ Walk.bare (tyInt w8) l₂ ∷ Walk.bare Y-search-atom-nodes l₃ ∷
-        Walk.bare Y-search-atom-dead l₄ ∷ Walk.bare Y-search-atom-pieces l₅ ∷ Walk.bare Y-search-atom-line l₆ ∷ Walk.bare (tyInt w64) l₇ ∷
+        Walk.bare Y-search-atom-dead l₄ ∷ Walk.bare Y-search-atom-notes l₅ ∷ Walk.bare Y-search-atom-line l₆ ∷ Walk.bare (tyInt w64) l₇ ∷
         Walk.bare (tyInt w64) l₈ ∷ Walk.bare (tyInt w64) l₉ ∷ Walk.bare Scanned-L.mir l₁₀ ∷ Walk.bare (tyInt w64) l₁₁ ∷
-        Walk.bare Outcome-L.mir l₁₂ ∷ Walk.bare tyBool l₁₃ ∷ Walk.bare Node-L.mir l₁₄ ∷ Walk.bare tyBool l₁₅ ∷
-        Walk.bare (tyRef erased mut (pointee ((UInt w8) .written))) l₁₆ ∷
-        Walk.bare (sliceTy (tyRef erased mut (pointee ((UInt w8) .written)))) l₁₇ ∷
-        Walk.bare (tyRef erased mut (pointee ((UInt w8) .written))) l₁₈ ∷
-        Walk.bare (sliceTy (tyRef erased mut (pointee ((UInt w8) .written)))) l₁₉ ∷ Walk.bare (tyInt w64) l₂₀ ∷ []) (‵ (flft κ₀ q₀) ∷
+        Walk.bare Outcome-L.mir l₁₂ ∷ Walk.bare tyBool l₁₃ ∷ Walk.bare Node-L.mir l₁₄ ∷ Walk.bare tyBool l₁₅ ∷ Walk.bare tyUnit l₁₆ ∷
+        Walk.bare (tyRef erased mut (pointee ((UInt w64) .written))) l₁₇ ∷
+        Walk.bare (sliceTy (tyRef erased mut (pointee ((UInt w64) .written)))) l₁₈ ∷
+        Walk.bare (tyRef erased mut (pointee ((UInt w8) .written))) l₁₉ ∷
+        Walk.bare (sliceTy (tyRef erased mut (pointee ((UInt w8) .written)))) l₂₀ ∷
+        Walk.bare (tyRef erased mut (pointee ((UInt w64) .written))) l₂₁ ∷
+        Walk.bare (sliceTy (tyRef erased mut (pointee ((UInt w64) .written)))) l₂₂ ∷ Walk.bare (tyInt w64) l₂₃ ∷ []) (‵ (flft κ₀ q₀) ∷
         ‵ (flft κ₁ q₁) ∷ ‵ (flft κ₂ q₂) ∷ ‵ (flft κ₃ q₃) ∷ ‵ (T-search-atom-line .own line (sliceVal (line .ptr) (length (line .now)) ∷ [])) ∷
-        ‵ (T-search-atom-pieces .own pieces (sliceVal (pieces .ptr) (length (pieces .now)) ∷ [])) ∷
+        ‵ (T-search-atom-notes .own notes (sliceVal (notes .ptr) (length (notes .now)) ∷ [])) ∷
         ‵ (T-search-atom-dead .own dead (sliceVal (dead .ptr) (length (dead .now)) ∷ [])) ∷ ‵ (T-search-atom-nodes .own nodes (sliceVal (nodes .ptr)
         (length (nodes .now)) ∷ [])) ∷ []) (λ Fd ed.
         Walk.allocated ! (Walk.after-result ! (Walk.pass ! (Run.init ! 1 refl ((tt, record { fits = fits-left }))) (
         Walk.pass ! (Run.init ! 2 refl ((tt, record { fits = fits-right }))) (
         Walk.pass ! (Run.init ! 3 refl (shr-slice-lawful 𝓤 H A W (named 0) κ₀ Node-T.the-row .typed nodes _ is-nodes .0)) (
         Walk.pass ! (Run.init ! 4 refl (mut-slice-lawful 𝓤 H A W (named 1) κ₁ (UInt w8) .typed dead _ is-dead .0)) (
-        Walk.pass ! (Run.init ! 5 refl (mut-slice-lawful 𝓤 H A W (named 2) κ₂ (UInt w8) .typed pieces _ is-pieces .0)) (
+        Walk.pass ! (Run.init ! 5 refl (mut-slice-lawful 𝓤 H A W (named 2) κ₂ (UInt w64) .typed notes _ is-notes .0)) (
         Walk.pass ! (Run.init ! 6 refl (shr-slice-lawful 𝓤 H A W (named 3) κ₃ (UInt w8) .typed line _ is-line .0)) (
         Walk.pass ! (Run.init ! 7 refl ((tt, record { fits = fits-end }))) (Walk.pass ! (Run.init ! 8 refl ((tt, record { fits = fits-node }))) (
         Walk.pass ! (Run.init ! 9 refl ((tt, record { fits = fits-at }))) (Walk.passed ! (
-        -- [the locals; their ends; κ₀; κ₁; κ₂; κ₃; line; pieces; dead; nodes]
+        -- [the locals; their ends; κ₀; κ₁; κ₂; κ₃; line; notes; dead; nodes]
         -- call 1: node_at (nodes, node)
-        Walk.move ! (29 ∷ []) (
+        Walk.move ! (32 ∷ []) (
         Walk.gives W (Walk.copied (T-search-atom-nodes .own nodes (v-search-atom-nodes ∷ []))
         (shr-slice-copy 𝓤 H A W (named 0) κ₀ Node-T.the-row .twice nodes _) ∷ Walk.made ((UInt w64) .own node ((vint w64 node) ∷ []))
         (uint-makes 𝓤 H A W w64 node _ (refl, fits-node)) ∷ []) _ ! (
-        Walk.move ! (24 ∷ []) (Walk.tokens-in W ((κ₀, q₀) ∷ []) _ ! (alive 𝓤 H A g-node-at.signature (κ₀, tt) (q₀, tt)) (id⊢ 𝓤 _) (
+        Walk.move ! (27 ∷ []) (Walk.tokens-in W ((κ₀, q₀) ∷ []) _ ! (alive 𝓤 H A g-node-at.signature (κ₀, tt) (q₀, tt)) (id⊢ 𝓤 _) (
         Walk.asks W ! fm g-node-at.ended (g-node-at.clauses 𝓤 H A mem run)
         (((κ₀, tt), (q₀, tt), tt, (nodes, (node, tt)), (v-search-atom-nodes ∷ [], ((vint w64 node) ∷ [], tt))), tt) _ (known-node-at (((κ₀, tt), (q₀, tt), tt, (nodes, (node, tt)), (v-search-atom-nodes ∷ [], ((vint w64 node) ∷ [], tt))), tt)) (factI 𝓤 _ (emp 𝓤) (asks-node pre)) (λ r ws. id⊢ 𝓤 _)
         (Run.and-then ! (Walk.local ! 5 refl) (Run.and-then ! (Walk.local ! 10 refl) (Run.no-more !))) (λ u1 r1 is1′ e1.
@@ -831,19 +825,21 @@ module _ {M : Type 1} (𝓤 : URA M) (H : Heap 𝓤) (A : Atoms 𝓤) (W : Given
         ‵ (froom Outcome-L.mir l₀ 0) ∷ ‵ (fat fullShare (tyInt w8) l₁ 0 (vint w8 left)) ∷ ‵ (fat fullShare (tyInt w8) l₂ 0 (vint w8 right)) ∷
         ‵ (fat fullShare Y-search-atom-nodes l₃ 0 (sliceVal (nodes .ptr) (length (nodes .now)))) ∷
         ‵ (fat fullShare Y-search-atom-dead l₄ 0 (sliceVal (dead .ptr) (length (dead .now)))) ∷
-        ‵ (fat fullShare Y-search-atom-pieces l₅ 0 (sliceVal (pieces .ptr) (length (pieces .now)))) ∷
+        ‵ (fat fullShare Y-search-atom-notes l₅ 0 (sliceVal (notes .ptr) (length (notes .now)))) ∷
         ‵ (fat fullShare Y-search-atom-line l₆ 0 (sliceVal (line .ptr) (length (line .now)))) ∷ ‵ (fat fullShare (tyInt w64) l₇ 0 (vint w64 end)) ∷
         ‵ (fat fullShare (tyInt w64) l₈ 0 (vint w64 node)) ∷ ‵ (fat fullShare (tyInt w64) l₉ 0 (vint w64 at)) ∷ ‵ (froom Scanned-L.mir l₁₀ 0) ∷
         ‵ (froom (tyInt w64) l₁₁ 0) ∷ ‵ (froom Outcome-L.mir l₁₂ 0) ∷ ‵ (froom tyBool l₁₃ 0) ∷
-        ‵ (fat fullShare Node-L.mir l₁₄ 0 (Node-L.lowered r1)) ∷ ‵ (froom tyBool l₁₅ 0) ∷
-        ‵ (froom (tyRef erased mut (pointee ((UInt w8) .written))) l₁₆ 0) ∷
-        ‵ (froom (sliceTy (tyRef erased mut (pointee ((UInt w8) .written)))) l₁₇ 0) ∷
-        ‵ (froom (tyRef erased mut (pointee ((UInt w8) .written))) l₁₈ 0) ∷
-        ‵ (froom (sliceTy (tyRef erased mut (pointee ((UInt w8) .written)))) l₁₉ 0) ∷ ‵ (froom (tyInt w64) l₂₀ 0) ∷ ‵ Fd ∷ ‵ (flft κ₁ q₁) ∷
+        ‵ (fat fullShare Node-L.mir l₁₄ 0 (Node-L.lowered r1)) ∷ ‵ (froom tyBool l₁₅ 0) ∷ ‵ (froom tyUnit l₁₆ 0) ∷
+        ‵ (froom (tyRef erased mut (pointee ((UInt w64) .written))) l₁₇ 0) ∷
+        ‵ (froom (sliceTy (tyRef erased mut (pointee ((UInt w64) .written)))) l₁₈ 0) ∷
+        ‵ (froom (tyRef erased mut (pointee ((UInt w8) .written))) l₁₉ 0) ∷
+        ‵ (froom (sliceTy (tyRef erased mut (pointee ((UInt w8) .written)))) l₂₀ 0) ∷
+        ‵ (froom (tyRef erased mut (pointee ((UInt w64) .written))) l₂₁ 0) ∷
+        ‵ (froom (sliceTy (tyRef erased mut (pointee ((UInt w64) .written)))) l₂₂ 0) ∷ ‵ (froom (tyInt w64) l₂₃ 0) ∷ ‵ Fd ∷ ‵ (flft κ₁ q₁) ∷
         ‵ (flft κ₂ q₂) ∷ ‵ (flft κ₃ q₃) ∷ ‵ (T-search-atom-line .own line (sliceVal (line .ptr) (length (line .now)) ∷ [])) ∷
-        ‵ (T-search-atom-pieces .own pieces (sliceVal (pieces .ptr) (length (pieces .now)) ∷ [])) ∷
+        ‵ (T-search-atom-notes .own notes (sliceVal (notes .ptr) (length (notes .now)) ∷ [])) ∷
         ‵ (T-search-atom-dead .own dead (sliceVal (dead .ptr) (length (dead .now)) ∷ [])) ∷ []) refl (
-        -- [κ₀; nodes; the locals; their ends; κ₁; κ₂; κ₃; line; pieces; dead]
+        -- [κ₀; nodes; the locals; their ends; κ₁; κ₂; κ₃; line; notes; dead]
         -- call 2: has_element (r1, 1)
         Walk.gives W (Walk.made (Node-T.the-row .own r1 ((Node-L.lowered r1) ∷ [])) (LL.makes Node-T.the-type Node-L.the-plain 𝓤 H A r1 _ is1) ∷
         Walk.made ((UInt w16) .own 1 ((vint w16 1) ∷ [])) (uint-makes 𝓤 H A W w16 1 _ (refl, lit< tt)) ∷ []) _ ! (
@@ -858,28 +854,30 @@ module _ {M : Type 1} (𝓤 : URA M) (H : Heap 𝓤) (A : Atoms 𝓤) (W : Given
         ‵ (froom Outcome-L.mir l₀ 0) ∷ ‵ (fat fullShare (tyInt w8) l₁ 0 (vint w8 left)) ∷ ‵ (fat fullShare (tyInt w8) l₂ 0 (vint w8 right)) ∷
         ‵ (fat fullShare Y-search-atom-nodes l₃ 0 (sliceVal (nodes .ptr) (length (nodes .now)))) ∷
         ‵ (fat fullShare Y-search-atom-dead l₄ 0 (sliceVal (dead .ptr) (length (dead .now)))) ∷
-        ‵ (fat fullShare Y-search-atom-pieces l₅ 0 (sliceVal (pieces .ptr) (length (pieces .now)))) ∷
+        ‵ (fat fullShare Y-search-atom-notes l₅ 0 (sliceVal (notes .ptr) (length (notes .now)))) ∷
         ‵ (fat fullShare Y-search-atom-line l₆ 0 (sliceVal (line .ptr) (length (line .now)))) ∷ ‵ (fat fullShare (tyInt w64) l₇ 0 (vint w64 end)) ∷
         ‵ (fat fullShare (tyInt w64) l₈ 0 (vint w64 node)) ∷ ‵ (fat fullShare (tyInt w64) l₉ 0 (vint w64 at)) ∷ ‵ (froom Scanned-L.mir l₁₀ 0) ∷
         ‵ (froom (tyInt w64) l₁₁ 0) ∷ ‵ (froom Outcome-L.mir l₁₂ 0) ∷ ‵ (fat fullShare tyBool l₁₃ 0 (vbool r2)) ∷
-        ‵ (fat fullShare Node-L.mir l₁₄ 0 (Node-L.lowered r1)) ∷ ‵ (froom tyBool l₁₅ 0) ∷
-        ‵ (froom (tyRef erased mut (pointee ((UInt w8) .written))) l₁₆ 0) ∷
-        ‵ (froom (sliceTy (tyRef erased mut (pointee ((UInt w8) .written)))) l₁₇ 0) ∷
-        ‵ (froom (tyRef erased mut (pointee ((UInt w8) .written))) l₁₈ 0) ∷
-        ‵ (froom (sliceTy (tyRef erased mut (pointee ((UInt w8) .written)))) l₁₉ 0) ∷ ‵ (froom (tyInt w64) l₂₀ 0) ∷ ‵ Fd ∷ ‵ (flft κ₁ q₁) ∷
+        ‵ (fat fullShare Node-L.mir l₁₄ 0 (Node-L.lowered r1)) ∷ ‵ (froom tyBool l₁₅ 0) ∷ ‵ (froom tyUnit l₁₆ 0) ∷
+        ‵ (froom (tyRef erased mut (pointee ((UInt w64) .written))) l₁₇ 0) ∷
+        ‵ (froom (sliceTy (tyRef erased mut (pointee ((UInt w64) .written)))) l₁₈ 0) ∷
+        ‵ (froom (tyRef erased mut (pointee ((UInt w8) .written))) l₁₉ 0) ∷
+        ‵ (froom (sliceTy (tyRef erased mut (pointee ((UInt w8) .written)))) l₂₀ 0) ∷
+        ‵ (froom (tyRef erased mut (pointee ((UInt w64) .written))) l₂₁ 0) ∷
+        ‵ (froom (sliceTy (tyRef erased mut (pointee ((UInt w64) .written)))) l₂₂ 0) ∷ ‵ (froom (tyInt w64) l₂₃ 0) ∷ ‵ Fd ∷ ‵ (flft κ₁ q₁) ∷
         ‵ (flft κ₂ q₂) ∷ ‵ (flft κ₃ q₃) ∷ ‵ (T-search-atom-line .own line (sliceVal (line .ptr) (length (line .now)) ∷ [])) ∷
-        ‵ (T-search-atom-pieces .own pieces (sliceVal (pieces .ptr) (length (pieces .now)) ∷ [])) ∷
+        ‵ (T-search-atom-notes .own notes (sliceVal (notes .ptr) (length (notes .now)) ∷ [])) ∷
         ‵ (T-search-atom-dead .own dead (sliceVal (dead .ptr) (length (dead .now)) ∷ [])) ∷ []) refl (
         Walk.sets ! (Run.un ! (Walk.local ! 15 refl) tt) (Run.init ! 17 refl ((tt, tt))) (Walk.first-then ! (Run.branches ! (Walk.local ! 17 refl)
         (λ h1. let t1 : (not r2) ≡ true = Walk.is-true _ h1 in
-        -- [κ₀; nodes; the locals; their ends; κ₁; κ₂; κ₃; line; pieces; dead]
-        -- call 3: no_piece (0, 0)
-        Walk.gives W (Walk.made ((UInt w64) .own 0 ((vint w64 0) ∷ [])) (uint-makes 𝓤 H A W w64 0 _ (refl, lit< tt)) ∷
-        Walk.made ((UInt w64) .own 0 ((vint w64 0) ∷ [])) (uint-makes 𝓤 H A W w64 0 _ (refl, lit< tt)) ∷ []) _ ! (
+        -- [κ₀; nodes; the locals; their ends; κ₁; κ₂; κ₃; line; notes; dead]
+        -- call 3: no_piece (0)
+        Walk.gives W (Walk.made ((UInt w64) .own 0 ((vint w64 0) ∷ [])) (uint-makes 𝓤 H A W w64 0 _ (refl, lit< tt)) ∷ []) _ ! (
         Walk.tokens-in W ([]) _ ! (alive 𝓤 H A g-no-piece.signature tt tt) (id⊢ 𝓤 _) (
         Walk.asks W ! fm g-no-piece.ended (g-no-piece.clauses 𝓤 H A mem run)
-        ((tt, tt, tt, (0, (0, tt)), ((vint w64 0) ∷ [], ((vint w64 0) ∷ [], tt))), tt) _ (known-no-piece ((tt, tt, tt, (0, (0, tt)), ((vint w64 0) ∷ [], ((vint w64 0) ∷ [], tt))), tt)) (id⊢ 𝓤 (emp 𝓤)) (λ r ws. id⊢ 𝓤 _)
-        (Run.and-then ! (Run.lit ! tt) (Run.and-then ! (Run.lit ! tt) (Run.no-more !))) (λ u3 r3 is3′ e3.
+        ((tt, tt, tt, (0, tt), ((vint w64 0) ∷ [], tt)), tt) _ (known-no-piece ((tt, tt, tt, (0, tt), ((vint w64 0) ∷ [], tt)), tt)) (id⊢ 𝓤 (emp 𝓤))
+        (λ r ws. id⊢ 𝓤 _)
+        (Run.and-then ! (Run.lit ! tt) (Run.no-more !)) (λ u3 r3 is3′ e3.
         Walk.tokens-out W ([]) ! (id⊢ 𝓤 _) (
         Walk.lands-in ! (Walk.init-as ! 2 refl (LL.lawful Outcome-T.the-type Outcome-L.the-laws 𝓤 H A W .typed r3 _ is3′ .0)
         (ap only (LL.tells Outcome-T.the-type Outcome-L.the-laws r3 _ is3′))) (
@@ -889,59 +887,62 @@ module _ {M : Type 1} (𝓤 : URA M) (H : Heap 𝓤) (A : Atoms 𝓤) (W : Given
         ‵ (fat fullShare Outcome-L.mir l₀ 0 (Outcome-L.lowered r3)) ∷ ‵ (fat fullShare (tyInt w8) l₁ 0 (vint w8 left)) ∷
         ‵ (fat fullShare (tyInt w8) l₂ 0 (vint w8 right)) ∷ ‵ (fat fullShare Y-search-atom-nodes l₃ 0 (sliceVal (nodes .ptr)
         (length (nodes .now)))) ∷ ‵ (fat fullShare Y-search-atom-dead l₄ 0 (sliceVal (dead .ptr) (length (dead .now)))) ∷
-        ‵ (fat fullShare Y-search-atom-pieces l₅ 0 (sliceVal (pieces .ptr) (length (pieces .now)))) ∷
+        ‵ (fat fullShare Y-search-atom-notes l₅ 0 (sliceVal (notes .ptr) (length (notes .now)))) ∷
         ‵ (fat fullShare Y-search-atom-line l₆ 0 (sliceVal (line .ptr) (length (line .now)))) ∷ ‵ (fat fullShare (tyInt w64) l₇ 0 (vint w64 end)) ∷
         ‵ (fat fullShare (tyInt w64) l₈ 0 (vint w64 node)) ∷ ‵ (fat fullShare (tyInt w64) l₉ 0 (vint w64 at)) ∷ ‵ (froom Scanned-L.mir l₁₀ 0) ∷
         ‵ (froom (tyInt w64) l₁₁ 0) ∷ ‵ (froom Outcome-L.mir l₁₂ 0) ∷ ‵ (fat fullShare tyBool l₁₃ 0 (vbool r2)) ∷
-        ‵ (fat fullShare Node-L.mir l₁₄ 0 (Node-L.lowered r1)) ∷ ‵ (fat fullShare tyBool l₁₅ 0 (vbool (not r2))) ∷
-        ‵ (froom (tyRef erased mut (pointee ((UInt w8) .written))) l₁₆ 0) ∷
-        ‵ (froom (sliceTy (tyRef erased mut (pointee ((UInt w8) .written)))) l₁₇ 0) ∷
-        ‵ (froom (tyRef erased mut (pointee ((UInt w8) .written))) l₁₈ 0) ∷
-        ‵ (froom (sliceTy (tyRef erased mut (pointee ((UInt w8) .written)))) l₁₉ 0) ∷ ‵ (froom (tyInt w64) l₂₀ 0) ∷ ‵ Fd ∷ ‵ (flft κ₁ q₁) ∷
+        ‵ (fat fullShare Node-L.mir l₁₄ 0 (Node-L.lowered r1)) ∷ ‵ (fat fullShare tyBool l₁₅ 0 (vbool (not r2))) ∷ ‵ (froom tyUnit l₁₆ 0) ∷
+        ‵ (froom (tyRef erased mut (pointee ((UInt w64) .written))) l₁₇ 0) ∷
+        ‵ (froom (sliceTy (tyRef erased mut (pointee ((UInt w64) .written)))) l₁₈ 0) ∷
+        ‵ (froom (tyRef erased mut (pointee ((UInt w8) .written))) l₁₉ 0) ∷
+        ‵ (froom (sliceTy (tyRef erased mut (pointee ((UInt w8) .written)))) l₂₀ 0) ∷
+        ‵ (froom (tyRef erased mut (pointee ((UInt w64) .written))) l₂₁ 0) ∷
+        ‵ (froom (sliceTy (tyRef erased mut (pointee ((UInt w64) .written)))) l₂₂ 0) ∷ ‵ (froom (tyInt w64) l₂₃ 0) ∷ ‵ Fd ∷ ‵ (flft κ₁ q₁) ∷
         ‵ (flft κ₂ q₂) ∷ ‵ (flft κ₃ q₃) ∷ ‵ (T-search-atom-line .own line (sliceVal (line .ptr) (length (line .now)) ∷ [])) ∷
-        ‵ (T-search-atom-pieces .own pieces (sliceVal (pieces .ptr) (length (pieces .now)) ∷ [])) ∷
+        ‵ (T-search-atom-notes .own notes (sliceVal (notes .ptr) (length (notes .now)) ∷ [])) ∷
         ‵ (T-search-atom-dead .own dead (sliceVal (dead .ptr) (length (dead .now)) ∷ [])) ∷ []) refl (
         Walk.returns-by ! Post-search-atom (Walk.through 𝓤 H C Λ E _ _ Post-search-atom refl) (Run.look ! 2 refl) (
-        Walk.move ! (2 ∷ 2 ∷ 2 ∷ 2 ∷ 2 ∷ 2 ∷ 2 ∷ 2 ∷ 2 ∷ 2 ∷ 2 ∷ 2 ∷ 2 ∷ 2 ∷ 2 ∷ 2 ∷ 2 ∷ 2 ∷ 2 ∷ 2 ∷ 2 ∷ 2 ∷ []) (
+        Walk.move ! (2 ∷ 2 ∷ 2 ∷ 2 ∷ 2 ∷ 2 ∷ 2 ∷ 2 ∷ 2 ∷ 2 ∷ 2 ∷ 2 ∷ 2 ∷ 2 ∷ 2 ∷ 2 ∷ 2 ∷ 2 ∷ 2 ∷ 2 ∷ 2 ∷ 2 ∷ 2 ∷ 2 ∷ 2 ∷ []) (
         Walk.frees-gathered ! (Walk.full Outcome-L.mir l₀ (Outcome-L.lowered r3) ∷ Walk.full (tyInt w8) l₁ (vint w8 left) ∷
         Walk.full (tyInt w8) l₂ (vint w8 right) ∷ Walk.full Y-search-atom-nodes l₃ (sliceVal (nodes .ptr) (length (nodes .now))) ∷
-        Walk.full Y-search-atom-dead l₄ (sliceVal (dead .ptr) (length (dead .now))) ∷ Walk.full Y-search-atom-pieces l₅ (sliceVal (pieces .ptr)
-        (length (pieces .now))) ∷ Walk.full Y-search-atom-line l₆ (sliceVal (line .ptr) (length (line .now))) ∷
+        Walk.full Y-search-atom-dead l₄ (sliceVal (dead .ptr) (length (dead .now))) ∷ Walk.full Y-search-atom-notes l₅ (sliceVal (notes .ptr)
+        (length (notes .now))) ∷ Walk.full Y-search-atom-line l₆ (sliceVal (line .ptr) (length (line .now))) ∷
         Walk.full (tyInt w64) l₇ (vint w64 end) ∷ Walk.full (tyInt w64) l₈ (vint w64 node) ∷ Walk.full (tyInt w64) l₉ (vint w64 at) ∷
         Walk.bare Scanned-L.mir l₁₀ ∷ Walk.bare (tyInt w64) l₁₁ ∷ Walk.bare Outcome-L.mir l₁₂ ∷ Walk.full tyBool l₁₃ (vbool r2) ∷
-        Walk.full Node-L.mir l₁₄ (Node-L.lowered r1) ∷ Walk.full tyBool l₁₅ (vbool (not r2)) ∷
-        Walk.bare (tyRef erased mut (pointee ((UInt w8) .written))) l₁₆ ∷
-        Walk.bare (sliceTy (tyRef erased mut (pointee ((UInt w8) .written)))) l₁₇ ∷
-        Walk.bare (tyRef erased mut (pointee ((UInt w8) .written))) l₁₈ ∷
-        Walk.bare (sliceTy (tyRef erased mut (pointee ((UInt w8) .written)))) l₁₉ ∷ Walk.bare (tyInt w64) l₂₀ ∷ []) Fd ed (‵ (flft κ₀ q₀) ∷
+        Walk.full Node-L.mir l₁₄ (Node-L.lowered r1) ∷ Walk.full tyBool l₁₅ (vbool (not r2)) ∷ Walk.bare tyUnit l₁₆ ∷
+        Walk.bare (tyRef erased mut (pointee ((UInt w64) .written))) l₁₇ ∷
+        Walk.bare (sliceTy (tyRef erased mut (pointee ((UInt w64) .written)))) l₁₈ ∷
+        Walk.bare (tyRef erased mut (pointee ((UInt w8) .written))) l₁₉ ∷
+        Walk.bare (sliceTy (tyRef erased mut (pointee ((UInt w8) .written)))) l₂₀ ∷
+        Walk.bare (tyRef erased mut (pointee ((UInt w64) .written))) l₂₁ ∷
+        Walk.bare (sliceTy (tyRef erased mut (pointee ((UInt w64) .written)))) l₂₂ ∷ Walk.bare (tyInt w64) l₂₃ ∷ []) Fd ed (‵ (flft κ₀ q₀) ∷
         ‵ (T-search-atom-nodes .own nodes (sliceVal (nodes .ptr) (length (nodes .now)) ∷ [])) ∷ ‵ (flft κ₁ q₁) ∷ ‵ (flft κ₂ q₂) ∷ ‵ (flft κ₃ q₃) ∷
-        ‵ (T-search-atom-line .own line (sliceVal (line .ptr) (length (line .now)) ∷ [])) ∷
-        ‵ (T-search-atom-pieces .own pieces (sliceVal (pieces .ptr) (length (pieces .now)) ∷ [])) ∷
-        ‵ (T-search-atom-dead .own dead (sliceVal (dead .ptr) (length (dead .now)) ∷ [])) ∷ []) (
+        ‵ (T-search-atom-line .own line (sliceVal (line .ptr) (length (line .now)) ∷ [])) ∷ ‵ (T-search-atom-notes .own notes (sliceVal (notes .ptr)
+        (length (notes .now)) ∷ [])) ∷ ‵ (T-search-atom-dead .own dead (sliceVal (dead .ptr) (length (dead .now)) ∷ [])) ∷ []) (
         Walk.move ! (7 ∷ 6 ∷ []) (
         Walk.gives W (Walk.nothing ∷ Walk.nothing ∷ Walk.nothing ∷ Walk.turned (T-search-atom-dead .own dead (sliceVal (dead .ptr)
         (length (dead .now)) ∷ [])) (finally (UInt w8) (dead .name) (dead .now))
-        (Walk.ended-slice 𝓤 H A W (named 1) κ₁ (UInt w8) dead (dead .now) _) ∷ Walk.turned (T-search-atom-pieces .own pieces (sliceVal (pieces .ptr)
-        (length (pieces .now)) ∷ [])) (finally (UInt w8) (pieces .name) (pieces .now))
-        (Walk.ended-slice 𝓤 H A W (named 2) κ₂ (UInt w8) pieces (pieces .now) _) ∷ Walk.nothing ∷ Walk.nothing ∷ Walk.nothing ∷ Walk.nothing ∷
+        (Walk.ended-slice 𝓤 H A W (named 1) κ₁ (UInt w8) dead (dead .now) _) ∷ Walk.turned (T-search-atom-notes .own notes (sliceVal (notes .ptr)
+        (length (notes .now)) ∷ [])) (finally (UInt w64) (notes .name) (notes .now))
+        (Walk.ended-slice 𝓤 H A W (named 2) κ₂ (UInt w64) notes (notes .now) _) ∷ Walk.nothing ∷ Walk.nothing ∷ Walk.nothing ∷ Walk.nothing ∷
         []) _ ! (
         Walk.move ! (1 ∷ 2 ∷ 2 ∷ 2 ∷ []) (
         Walk.tokens-in W ((κ₀, q₀) ∷ (κ₁, q₁) ∷ (κ₂, q₂) ∷ (κ₃, q₃) ∷ []) _ ! (alive 𝓤 H A f-search-atom.signature (κ₀, (κ₁, (κ₂, (κ₃, tt))))
         (q₀, (q₁, (q₂, (q₃, tt))))) (id⊢ 𝓤 _) (
         Walk.use0 W ! (‵ (Outcome-T.the-row .own r3 ((Outcome-L.lowered r3) ∷ []))) (LL.makes Outcome-T.the-type Outcome-L.the-plain 𝓤 H A r3 _ is3) (
         Walk.keep ! (1 ∷ 1 ∷ 0 ∷ []) (
-        Kit.by ! (Walk.leave-by 𝓤 H A W f-search-atom.ended (f-search-atom.clauses 𝓤 H A mem run) stayed-search-atom bound-search-atom (Outcome-L.lowered r3) r3 (tt, (tt, (tt, ((dead .now), ((pieces .now), (tt, (tt, (tt, (tt, tt))))))))) (tt, (tt, (tt, (refl, (refl, (tt, (tt, (tt, (tt, tt))))))))) (factI 𝓤 _ (emp 𝓤) (atom-not pre e1 e2 (not-true _ t1) e3)))))))))))))))))))
+        Kit.by ! (Walk.leave-by 𝓤 H A W f-search-atom.ended (f-search-atom.clauses 𝓤 H A mem run) stayed-search-atom bound-search-atom (Outcome-L.lowered r3) r3 (tt, (tt, (tt, ((dead .now), ((notes .now), (tt, (tt, (tt, (tt, tt))))))))) (tt, (tt, (tt, (refl, (refl, (tt, (tt, (tt, (tt, tt))))))))) (factI 𝓤 _ (emp 𝓤) (atom-not e1 e2 (not-true _ t1) e3)))))))))))))))))))
         (λ h1. let t1 : (not r2) ≡ false = Walk.is-false _ h1 in
         Walk.skips-then ! (
-        -- [κ₀; nodes; the locals; their ends; κ₁; κ₂; κ₃; line; pieces; dead]
+        -- [κ₀; nodes; the locals; their ends; κ₁; κ₂; κ₃; line; notes; dead]
         -- call 4: find_atom (left, right, line, end, at)
-        Walk.move ! (27 ∷ []) (
+        Walk.move ! (30 ∷ []) (
         Walk.gives W (Walk.made ((UInt w8) .own left ((vint w8 left) ∷ [])) (uint-makes 𝓤 H A W w8 left _ (refl, fits-left)) ∷
         Walk.made ((UInt w8) .own right ((vint w8 right) ∷ [])) (uint-makes 𝓤 H A W w8 right _ (refl, fits-right)) ∷
         Walk.copied (T-search-atom-line .own line (v-search-atom-line ∷ [])) (shr-slice-copy 𝓤 H A W (named 3) κ₃ (UInt w8) .twice line _) ∷
         Walk.made ((UInt w64) .own end ((vint w64 end) ∷ [])) (uint-makes 𝓤 H A W w64 end _ (refl, fits-end)) ∷
         Walk.made ((UInt w64) .own at ((vint w64 at) ∷ [])) (uint-makes 𝓤 H A W w64 at _ (refl, fits-at)) ∷ []) _ ! (
-        Walk.move ! (28 ∷ []) (Walk.tokens-in W ((κ₃, q₃) ∷ []) _ ! (alive 𝓤 H A g-find-atom.signature (κ₃, tt) (q₃, tt)) (id⊢ 𝓤 _) (
+        Walk.move ! (31 ∷ []) (Walk.tokens-in W ((κ₃, q₃) ∷ []) _ ! (alive 𝓤 H A g-find-atom.signature (κ₃, tt) (q₃, tt)) (id⊢ 𝓤 _) (
         Walk.asks W ! fm g-find-atom.ended (g-find-atom.clauses 𝓤 H A mem run)
         (((κ₃, tt), (q₃, tt), tt, (left, (right, (line, (end, (at, tt))))), ((vint w8 left) ∷ [], ((vint w8 right) ∷ [], (v-search-atom-line ∷ [], ((vint w64 end) ∷ [], ((vint w64 at) ∷ [], tt)))))), tt) _ (known-find-atom (((κ₃, tt), (q₃, tt), tt, (left, (right, (line, (end, (at, tt))))), ((vint w8 left) ∷ [], ((vint w8 right) ∷ [], (v-search-atom-line ∷ [], ((vint w64 end) ∷ [], ((vint w64 at) ∷ [], tt)))))), tt)) (factI 𝓤 _ (emp 𝓤) ((pre .low, pre .high))) (λ r ws. id⊢ 𝓤 _)
         (Run.and-then ! (Walk.local ! 5 refl) (Run.and-then ! (Walk.local ! 6 refl) (Run.and-then ! (Walk.local ! 10 refl)
@@ -956,219 +957,271 @@ module _ {M : Type 1} (𝓤 : URA M) (H : Heap 𝓤) (A : Atoms 𝓤) (W : Given
         ‵ (fat fullShare (tyInt w8) l₁ 0 (vint w8 left)) ∷ ‵ (fat fullShare (tyInt w8) l₂ 0 (vint w8 right)) ∷
         ‵ (fat fullShare Y-search-atom-nodes l₃ 0 (sliceVal (nodes .ptr) (length (nodes .now)))) ∷
         ‵ (fat fullShare Y-search-atom-dead l₄ 0 (sliceVal (dead .ptr) (length (dead .now)))) ∷
-        ‵ (fat fullShare Y-search-atom-pieces l₅ 0 (sliceVal (pieces .ptr) (length (pieces .now)))) ∷
+        ‵ (fat fullShare Y-search-atom-notes l₅ 0 (sliceVal (notes .ptr) (length (notes .now)))) ∷
         ‵ (fat fullShare Y-search-atom-line l₆ 0 (sliceVal (line .ptr) (length (line .now)))) ∷ ‵ (fat fullShare (tyInt w64) l₇ 0 (vint w64 end)) ∷
         ‵ (fat fullShare (tyInt w64) l₈ 0 (vint w64 node)) ∷ ‵ (fat fullShare (tyInt w64) l₉ 0 (vint w64 at)) ∷
         ‵ (fat fullShare Scanned-L.mir l₁₀ 0 (Scanned-L.lowered r4)) ∷ ‵ (froom (tyInt w64) l₁₁ 0) ∷ ‵ (froom Outcome-L.mir l₁₂ 0) ∷
         ‵ (fat fullShare tyBool l₁₃ 0 (vbool r2)) ∷ ‵ (fat fullShare Node-L.mir l₁₄ 0 (Node-L.lowered r1)) ∷
-        ‵ (fat fullShare tyBool l₁₅ 0 (vbool (not r2))) ∷ ‵ (froom (tyRef erased mut (pointee ((UInt w8) .written))) l₁₆ 0) ∷
-        ‵ (froom (sliceTy (tyRef erased mut (pointee ((UInt w8) .written)))) l₁₇ 0) ∷
-        ‵ (froom (tyRef erased mut (pointee ((UInt w8) .written))) l₁₈ 0) ∷
-        ‵ (froom (sliceTy (tyRef erased mut (pointee ((UInt w8) .written)))) l₁₉ 0) ∷ ‵ (froom (tyInt w64) l₂₀ 0) ∷ ‵ Fd ∷ ‵ (flft κ₁ q₁) ∷
-        ‵ (flft κ₂ q₂) ∷ ‵ (T-search-atom-pieces .own pieces (sliceVal (pieces .ptr) (length (pieces .now)) ∷ [])) ∷
+        ‵ (fat fullShare tyBool l₁₅ 0 (vbool (not r2))) ∷ ‵ (froom tyUnit l₁₆ 0) ∷
+        ‵ (froom (tyRef erased mut (pointee ((UInt w64) .written))) l₁₇ 0) ∷
+        ‵ (froom (sliceTy (tyRef erased mut (pointee ((UInt w64) .written)))) l₁₈ 0) ∷
+        ‵ (froom (tyRef erased mut (pointee ((UInt w8) .written))) l₁₉ 0) ∷
+        ‵ (froom (sliceTy (tyRef erased mut (pointee ((UInt w8) .written)))) l₂₀ 0) ∷
+        ‵ (froom (tyRef erased mut (pointee ((UInt w64) .written))) l₂₁ 0) ∷
+        ‵ (froom (sliceTy (tyRef erased mut (pointee ((UInt w64) .written)))) l₂₂ 0) ∷ ‵ (froom (tyInt w64) l₂₃ 0) ∷ ‵ Fd ∷ ‵ (flft κ₁ q₁) ∷
+        ‵ (flft κ₂ q₂) ∷ ‵ (T-search-atom-notes .own notes (sliceVal (notes .ptr) (length (notes .now)) ∷ [])) ∷
         ‵ (T-search-atom-dead .own dead (sliceVal (dead .ptr) (length (dead .now)) ∷ [])) ∷ []) refl (
-        Walk.sets ! (Run.of-opd ! (Walk.part ! 14 refl refl refl))
-        (Run.init ! 15 refl ((tt, record { fits = LL.owed Scanned-T.the-type Scanned-L.the-laws r4 _ is4 .0 .1 }))) (
-        Walk.sets ! (Run.bin ! (Walk.local ! 15 refl) (Run.lit ! tt) tt) (Run.store ! 17 refl ((tt, tt))) (Walk.first-then ! (
-        Run.branches ! (Walk.local ! 17 refl)
-        (λ h2. let t2 : (eqb (r4 .end) 0) ≡ true = Walk.is-true _ h2 in
-        -- [κ₃; line; κ₀; nodes; the locals; their ends; κ₁; κ₂; pieces; dead]
-        -- call 5: only_read (r4 .read)
-        Walk.gives W (Walk.made ((UInt w64) .own (r4 .read) ((vint w64 (r4 .read)) ∷ []))
+        Walk.sets ! (Run.addr ! (Run.from ! (Run.fld ! refl (Run.hop ! (Part.look-in ! 9 (Part.sub ! 0 refl (Part.whole !))) (Run.stop !)))))
+        (Run.init ! 21 refl ((tt, tt))) (
+        Walk.sets ! (Part.agg ! (Run.and-then ! (Walk.local ! 21 refl) (Run.and-then ! (Walk.part ! 9 refl refl refl) (Run.no-more !))))
+        (Run.init ! 22 refl ((tt, (tt, (record { fits = is-notes .0 .1 .0 }, tt))))) (
+        -- [κ₃; line; κ₀; nodes; the locals; their ends; κ₁; κ₂; notes; dead]
+        -- call 5: count_bytes (notes, r4 .read)
+        Walk.move ! (31 ∷ 30 ∷ []) (Again.lends W (UInt w64) κ₂ q₂ notes (named 2) (named 0) (notes .now) ! tt (λ ν1 δ1.
+        Walk.gives W (Walk.kept (MutSlice (named 0) (ν1 ∷ []) (UInt w64) .own (record { ptr = (notes .ptr); name = δ1; now = (notes .now) })
+        ((sliceVal (notes .ptr) (length (notes .now))) ∷ [])) ∷ Walk.made ((UInt w64) .own (r4 .read) ((vint w64 (r4 .read)) ∷ []))
         (uint-makes 𝓤 H A W w64 (r4 .read) _ (refl, LL.owed Scanned-T.the-type Scanned-L.the-laws r4 _ is4 .1 .0 .1)) ∷ []) _ ! (
-        Walk.tokens-in W ([]) _ ! (alive 𝓤 H A g-only-read.signature tt tt) (id⊢ 𝓤 _) (
-        Walk.asks W ! fm g-only-read.ended (g-only-read.clauses 𝓤 H A mem run)
-        ((tt, tt, tt, ((r4 .read), tt), ((vint w64 (r4 .read)) ∷ [], tt)), tt) _ (known-only-read ((tt, tt, tt, ((r4 .read), tt), ((vint w64 (r4 .read)) ∷ [], tt)), tt)) (id⊢ 𝓤 (emp 𝓤)) (λ r ws. id⊢ 𝓤 _)
-        (Run.and-then ! (Walk.part ! 15 refl refl refl) (Run.no-more !)) (λ u5 r5 is5′ e5.
+        Walk.move ! (2 ∷ []) (
+        Walk.tokens-in W (((ν1 ∷ []), fullShare) ∷ []) _ ! (alive 𝓤 H A g-count-bytes.signature ((ν1 ∷ []), tt) (fullShare, tt)) (id⊢ 𝓤 _) (
+        Walk.asksˡ W ! fm g-count-bytes.ended (g-count-bytes.clauses 𝓤 H A mem run)
+        ((((ν1 ∷ []), tt), (fullShare, tt), tt, ((record { ptr = (notes .ptr); name = δ1; now = (notes .now) }), ((r4 .read), tt)), ((sliceVal (notes .ptr) (length (notes .now))) ∷ [], ((vint w64 (r4 .read)) ∷ [], tt))), tt) _ (known-count-bytes ((((ν1 ∷ []), tt), (fullShare, tt), tt, ((record { ptr = (notes .ptr); name = δ1; now = (notes .now) }), ((r4 .read), tt)), ((sliceVal (notes .ptr) (length (notes .now))) ∷ [], ((vint w64 (r4 .read)) ∷ [], tt))), tt)) (factI 𝓤 _ (emp 𝓤) (pre .twenty)) (λ r ws. id⊢ 𝓤 _)
+        (Run.and-then ! (Walk.local ! 24 refl) (Run.and-then ! (Walk.part ! 16 refl refl refl) (Run.no-more !))) (λ u5 r5 ws5 is5′ e5.
+        Walk.returned W (((ν1 ∷ []), fullShare) ∷ []) (Walk.final (finally (UInt w64) δ1 (ws5 .0)) (length (ws5 .0)) (length (notes .now)) ∷
+        Walk.gone _ ∷ []) ! (id⊢ 𝓤 _) (λ len1.
+        Walk.move ! (1 ∷ 1 ∷ 0 ∷ 9 ∷ []) (Again.backs W (UInt w64) κ₂ q₂ notes (named 2) (named 0) (notes .now) ! tt (ws5 .0) (is-notes .0 .1) len1 (
+        Walk.lands-in ! (Walk.init-as ! 22 refl (nothing-lawful 𝓤 H A W .typed r5 _ is5′ .0) (ap only (nothing-tells r5 _ is5′))) (
+        let is5 : Is Nothing r5 (vunit ∷ []) = subst (λ (vs : List Val). Is Nothing r5 vs) (nothing-tells r5 _ is5′) is5′ in
+        Walk.written-out ! (‵ (T-search-atom-notes .own (at-last notes (ws5 .0)) (sliceVal (notes .ptr) (length (ws5 .0)) ∷ [])) ∷ ‵ (flft κ₂ q₂) ∷
+        ‵ (fat fullShare Y-search-atom-notes l₅ 0 (sliceVal (notes .ptr) (length (ws5 .0)))) ∷ ‵ (flft κ₃ q₃) ∷
+        ‵ (T-search-atom-line .own line (sliceVal (line .ptr) (length (line .now)) ∷ [])) ∷ ‵ (flft κ₀ q₀) ∷
+        ‵ (T-search-atom-nodes .own nodes (sliceVal (nodes .ptr) (length (nodes .now)) ∷ [])) ∷ ‵ (froom Outcome-L.mir l₀ 0) ∷
+        ‵ (fat fullShare (tyInt w8) l₁ 0 (vint w8 left)) ∷ ‵ (fat fullShare (tyInt w8) l₂ 0 (vint w8 right)) ∷
+        ‵ (fat fullShare Y-search-atom-nodes l₃ 0 (sliceVal (nodes .ptr) (length (nodes .now)))) ∷
+        ‵ (fat fullShare Y-search-atom-dead l₄ 0 (sliceVal (dead .ptr) (length (dead .now)))) ∷
+        ‵ (fat fullShare Y-search-atom-line l₆ 0 (sliceVal (line .ptr) (length (line .now)))) ∷ ‵ (fat fullShare (tyInt w64) l₇ 0 (vint w64 end)) ∷
+        ‵ (fat fullShare (tyInt w64) l₈ 0 (vint w64 node)) ∷ ‵ (fat fullShare (tyInt w64) l₉ 0 (vint w64 at)) ∷
+        ‵ (fat fullShare Scanned-L.mir l₁₀ 0 (Scanned-L.lowered r4)) ∷ ‵ (froom (tyInt w64) l₁₁ 0) ∷ ‵ (froom Outcome-L.mir l₁₂ 0) ∷
+        ‵ (fat fullShare tyBool l₁₃ 0 (vbool r2)) ∷ ‵ (fat fullShare Node-L.mir l₁₄ 0 (Node-L.lowered r1)) ∷
+        ‵ (fat fullShare tyBool l₁₅ 0 (vbool (not r2))) ∷ ‵ (fat fullShare tyUnit l₁₆ 0 vunit) ∷
+        ‵ (fat fullShare (tyRef erased mut (pointee ((UInt w64) .written))) l₁₇ 0 (vptr (notes .ptr .0) (notes .ptr .1))) ∷
+        ‵ (fat fullShare (sliceTy (tyRef erased mut (pointee ((UInt w64) .written)))) l₁₈ 0 (sliceVal (notes .ptr) (length (notes .now)))) ∷
+        ‵ (froom (tyRef erased mut (pointee ((UInt w8) .written))) l₁₉ 0) ∷
+        ‵ (froom (sliceTy (tyRef erased mut (pointee ((UInt w8) .written)))) l₂₀ 0) ∷
+        ‵ (froom (tyRef erased mut (pointee ((UInt w64) .written))) l₂₁ 0) ∷
+        ‵ (froom (sliceTy (tyRef erased mut (pointee ((UInt w64) .written)))) l₂₂ 0) ∷ ‵ (froom (tyInt w64) l₂₃ 0) ∷ ‵ Fd ∷ ‵ (flft κ₁ q₁) ∷
+        ‵ (T-search-atom-dead .own dead (sliceVal (dead .ptr) (length (dead .now)) ∷ [])) ∷ []) refl (
+        Walk.sets ! (Run.of-opd ! (Walk.part ! 16 refl refl refl))
+        (Run.init ! 17 refl ((tt, record { fits = LL.owed Scanned-T.the-type Scanned-L.the-laws r4 _ is4 .0 .1 }))) (
+        Walk.sets ! (Run.bin ! (Walk.local ! 17 refl) (Run.lit ! tt) tt) (Run.store ! 19 refl ((tt, tt))) (Walk.first-then ! (
+        Run.branches ! (Walk.local ! 19 refl)
+        (λ h2. let t2 : (eqb (r4 .end) 0) ≡ true = Walk.is-true _ h2 in
+        -- [notes; κ₂; the locals; κ₃; line; κ₀; nodes; their ends; κ₁; dead]
+        -- call 6: no_piece (0)
+        Walk.gives W (Walk.made ((UInt w64) .own 0 ((vint w64 0) ∷ [])) (uint-makes 𝓤 H A W w64 0 _ (refl, lit< tt)) ∷ []) _ ! (
+        Walk.tokens-in W ([]) _ ! (alive 𝓤 H A g-no-piece.signature tt tt) (id⊢ 𝓤 _) (
+        Walk.asks W ! fm g-no-piece.ended (g-no-piece.clauses 𝓤 H A mem run)
+        ((tt, tt, tt, (0, tt), ((vint w64 0) ∷ [], tt)), tt) _ (known-no-piece ((tt, tt, tt, (0, tt), ((vint w64 0) ∷ [], tt)), tt)) (id⊢ 𝓤 (emp 𝓤))
+        (λ r ws. id⊢ 𝓤 _)
+        (Run.and-then ! (Run.lit ! tt) (Run.no-more !)) (λ u6 r6 is6′ e6.
         Walk.tokens-out W ([]) ! (id⊢ 𝓤 _) (
-        Walk.lands-in ! (Walk.init-as ! 4 refl (LL.lawful Outcome-T.the-type Outcome-L.the-laws 𝓤 H A W .typed r5 _ is5′ .0)
-        (ap only (LL.tells Outcome-T.the-type Outcome-L.the-laws r5 _ is5′))) (
-        let is5 : Is Outcome-T.the-row r5 ((Outcome-L.lowered r5) ∷ []) = subst (λ (vs : List Val). Is Outcome-T.the-row r5 vs)
-        (LL.tells Outcome-T.the-type Outcome-L.the-laws r5 _ is5′) is5′ in
-        Walk.written-out ! (‵ (flft κ₃ q₃) ∷ ‵ (T-search-atom-line .own line (sliceVal (line .ptr) (length (line .now)) ∷ [])) ∷ ‵ (flft κ₀ q₀) ∷
+        Walk.lands-in ! (Walk.init-as ! 7 refl (LL.lawful Outcome-T.the-type Outcome-L.the-laws 𝓤 H A W .typed r6 _ is6′ .0)
+        (ap only (LL.tells Outcome-T.the-type Outcome-L.the-laws r6 _ is6′))) (
+        let is6 : Is Outcome-T.the-row r6 ((Outcome-L.lowered r6) ∷ []) = subst (λ (vs : List Val). Is Outcome-T.the-row r6 vs)
+        (LL.tells Outcome-T.the-type Outcome-L.the-laws r6 _ is6′) is6′ in
+        Walk.written-out ! (‵ (T-search-atom-notes .own (at-last notes (ws5 .0)) (sliceVal (notes .ptr) (length (ws5 .0)) ∷ [])) ∷ ‵ (flft κ₂ q₂) ∷
+        ‵ (fat fullShare Y-search-atom-notes l₅ 0 (sliceVal (notes .ptr) (length (ws5 .0)))) ∷ ‵ (flft κ₃ q₃) ∷
+        ‵ (T-search-atom-line .own line (sliceVal (line .ptr) (length (line .now)) ∷ [])) ∷ ‵ (flft κ₀ q₀) ∷
         ‵ (T-search-atom-nodes .own nodes (sliceVal (nodes .ptr) (length (nodes .now)) ∷ [])) ∷
-        ‵ (fat fullShare Outcome-L.mir l₀ 0 (Outcome-L.lowered r5)) ∷ ‵ (fat fullShare (tyInt w8) l₁ 0 (vint w8 left)) ∷
+        ‵ (fat fullShare Outcome-L.mir l₀ 0 (Outcome-L.lowered r6)) ∷ ‵ (fat fullShare (tyInt w8) l₁ 0 (vint w8 left)) ∷
         ‵ (fat fullShare (tyInt w8) l₂ 0 (vint w8 right)) ∷ ‵ (fat fullShare Y-search-atom-nodes l₃ 0 (sliceVal (nodes .ptr)
         (length (nodes .now)))) ∷ ‵ (fat fullShare Y-search-atom-dead l₄ 0 (sliceVal (dead .ptr) (length (dead .now)))) ∷
-        ‵ (fat fullShare Y-search-atom-pieces l₅ 0 (sliceVal (pieces .ptr) (length (pieces .now)))) ∷
         ‵ (fat fullShare Y-search-atom-line l₆ 0 (sliceVal (line .ptr) (length (line .now)))) ∷ ‵ (fat fullShare (tyInt w64) l₇ 0 (vint w64 end)) ∷
         ‵ (fat fullShare (tyInt w64) l₈ 0 (vint w64 node)) ∷ ‵ (fat fullShare (tyInt w64) l₉ 0 (vint w64 at)) ∷
         ‵ (fat fullShare Scanned-L.mir l₁₀ 0 (Scanned-L.lowered r4)) ∷ ‵ (fat fullShare (tyInt w64) l₁₁ 0 (vint w64 (r4 .end))) ∷
         ‵ (froom Outcome-L.mir l₁₂ 0) ∷ ‵ (fat fullShare tyBool l₁₃ 0 (vbool (eqb (r4 .end) 0))) ∷
         ‵ (fat fullShare Node-L.mir l₁₄ 0 (Node-L.lowered r1)) ∷ ‵ (fat fullShare tyBool l₁₅ 0 (vbool (not r2))) ∷
-        ‵ (froom (tyRef erased mut (pointee ((UInt w8) .written))) l₁₆ 0) ∷
-        ‵ (froom (sliceTy (tyRef erased mut (pointee ((UInt w8) .written)))) l₁₇ 0) ∷
-        ‵ (froom (tyRef erased mut (pointee ((UInt w8) .written))) l₁₈ 0) ∷
-        ‵ (froom (sliceTy (tyRef erased mut (pointee ((UInt w8) .written)))) l₁₉ 0) ∷ ‵ (froom (tyInt w64) l₂₀ 0) ∷ ‵ Fd ∷ ‵ (flft κ₁ q₁) ∷
-        ‵ (flft κ₂ q₂) ∷ ‵ (T-search-atom-pieces .own pieces (sliceVal (pieces .ptr) (length (pieces .now)) ∷ [])) ∷
+        ‵ (fat fullShare tyUnit l₁₆ 0 vunit) ∷ ‵ (fat fullShare (tyRef erased mut (pointee ((UInt w64) .written))) l₁₇ 0 (vptr (notes .ptr .0)
+        (notes .ptr .1))) ∷ ‵ (fat fullShare (sliceTy (tyRef erased mut (pointee ((UInt w64) .written)))) l₁₈ 0 (sliceVal (notes .ptr)
+        (length (notes .now)))) ∷ ‵ (froom (tyRef erased mut (pointee ((UInt w8) .written))) l₁₉ 0) ∷
+        ‵ (froom (sliceTy (tyRef erased mut (pointee ((UInt w8) .written)))) l₂₀ 0) ∷
+        ‵ (froom (tyRef erased mut (pointee ((UInt w64) .written))) l₂₁ 0) ∷
+        ‵ (froom (sliceTy (tyRef erased mut (pointee ((UInt w64) .written)))) l₂₂ 0) ∷ ‵ (froom (tyInt w64) l₂₃ 0) ∷ ‵ Fd ∷ ‵ (flft κ₁ q₁) ∷
         ‵ (T-search-atom-dead .own dead (sliceVal (dead .ptr) (length (dead .now)) ∷ [])) ∷ []) refl (
-        Walk.returns-by ! Post-search-atom (Walk.through 𝓤 H C Λ E _ _ Post-search-atom refl) (Run.look ! 4 refl) (
-        Walk.move ! (4 ∷ 4 ∷ 4 ∷ 4 ∷ 4 ∷ 4 ∷ 4 ∷ 4 ∷ 4 ∷ 4 ∷ 4 ∷ 4 ∷ 4 ∷ 4 ∷ 4 ∷ 4 ∷ 4 ∷ 4 ∷ 4 ∷ 4 ∷ 4 ∷ 4 ∷ []) (
-        Walk.frees-gathered ! (Walk.full Outcome-L.mir l₀ (Outcome-L.lowered r5) ∷ Walk.full (tyInt w8) l₁ (vint w8 left) ∷
+        Walk.returns-by ! Post-search-atom (Walk.through 𝓤 H C Λ E _ _ Post-search-atom refl) (Run.look ! 7 refl) (
+        Walk.move ! (7 ∷ 7 ∷ 7 ∷ 7 ∷ 7 ∷ 2 ∷ 6 ∷ 6 ∷ 6 ∷ 6 ∷ 6 ∷ 6 ∷ 6 ∷ 6 ∷ 6 ∷ 6 ∷ 6 ∷ 6 ∷ 6 ∷ 6 ∷ 6 ∷ 6 ∷ 6 ∷ 6 ∷ 6 ∷ []) (
+        Walk.frees-gathered ! (Walk.full Outcome-L.mir l₀ (Outcome-L.lowered r6) ∷ Walk.full (tyInt w8) l₁ (vint w8 left) ∷
         Walk.full (tyInt w8) l₂ (vint w8 right) ∷ Walk.full Y-search-atom-nodes l₃ (sliceVal (nodes .ptr) (length (nodes .now))) ∷
-        Walk.full Y-search-atom-dead l₄ (sliceVal (dead .ptr) (length (dead .now))) ∷ Walk.full Y-search-atom-pieces l₅ (sliceVal (pieces .ptr)
-        (length (pieces .now))) ∷ Walk.full Y-search-atom-line l₆ (sliceVal (line .ptr) (length (line .now))) ∷
-        Walk.full (tyInt w64) l₇ (vint w64 end) ∷ Walk.full (tyInt w64) l₈ (vint w64 node) ∷ Walk.full (tyInt w64) l₉ (vint w64 at) ∷
-        Walk.full Scanned-L.mir l₁₀ (Scanned-L.lowered r4) ∷ Walk.full (tyInt w64) l₁₁ (vint w64 (r4 .end)) ∷ Walk.bare Outcome-L.mir l₁₂ ∷
-        Walk.full tyBool l₁₃ (vbool (eqb (r4 .end) 0)) ∷ Walk.full Node-L.mir l₁₄ (Node-L.lowered r1) ∷ Walk.full tyBool l₁₅ (vbool (not r2)) ∷
-        Walk.bare (tyRef erased mut (pointee ((UInt w8) .written))) l₁₆ ∷
-        Walk.bare (sliceTy (tyRef erased mut (pointee ((UInt w8) .written)))) l₁₇ ∷
-        Walk.bare (tyRef erased mut (pointee ((UInt w8) .written))) l₁₈ ∷
-        Walk.bare (sliceTy (tyRef erased mut (pointee ((UInt w8) .written)))) l₁₉ ∷ Walk.bare (tyInt w64) l₂₀ ∷ []) Fd ed (‵ (flft κ₃ q₃) ∷
-        ‵ (T-search-atom-line .own line (sliceVal (line .ptr) (length (line .now)) ∷ [])) ∷ ‵ (flft κ₀ q₀) ∷
-        ‵ (T-search-atom-nodes .own nodes (sliceVal (nodes .ptr) (length (nodes .now)) ∷ [])) ∷ ‵ (flft κ₁ q₁) ∷ ‵ (flft κ₂ q₂) ∷
-        ‵ (T-search-atom-pieces .own pieces (sliceVal (pieces .ptr) (length (pieces .now)) ∷ [])) ∷
+        Walk.full Y-search-atom-dead l₄ (sliceVal (dead .ptr) (length (dead .now))) ∷ Walk.full Y-search-atom-notes l₅ (sliceVal (notes .ptr)
+        (length (ws5 .0))) ∷ Walk.full Y-search-atom-line l₆ (sliceVal (line .ptr) (length (line .now))) ∷ Walk.full (tyInt w64) l₇ (vint w64 end) ∷
+        Walk.full (tyInt w64) l₈ (vint w64 node) ∷ Walk.full (tyInt w64) l₉ (vint w64 at) ∷ Walk.full Scanned-L.mir l₁₀ (Scanned-L.lowered r4) ∷
+        Walk.full (tyInt w64) l₁₁ (vint w64 (r4 .end)) ∷ Walk.bare Outcome-L.mir l₁₂ ∷ Walk.full tyBool l₁₃ (vbool (eqb (r4 .end) 0)) ∷
+        Walk.full Node-L.mir l₁₄ (Node-L.lowered r1) ∷ Walk.full tyBool l₁₅ (vbool (not r2)) ∷ Walk.full tyUnit l₁₆ vunit ∷
+        Walk.full (tyRef erased mut (pointee ((UInt w64) .written))) l₁₇ (vptr (notes .ptr .0) (notes .ptr .1)) ∷
+        Walk.full (sliceTy (tyRef erased mut (pointee ((UInt w64) .written)))) l₁₈ (sliceVal (notes .ptr) (length (notes .now))) ∷
+        Walk.bare (tyRef erased mut (pointee ((UInt w8) .written))) l₁₉ ∷
+        Walk.bare (sliceTy (tyRef erased mut (pointee ((UInt w8) .written)))) l₂₀ ∷
+        Walk.bare (tyRef erased mut (pointee ((UInt w64) .written))) l₂₁ ∷
+        Walk.bare (sliceTy (tyRef erased mut (pointee ((UInt w64) .written)))) l₂₂ ∷ Walk.bare (tyInt w64) l₂₃ ∷
+        []) Fd ed (‵ (T-search-atom-notes .own (at-last notes (ws5 .0)) (sliceVal (notes .ptr) (length (ws5 .0)) ∷ [])) ∷ ‵ (flft κ₂ q₂) ∷
+        ‵ (flft κ₃ q₃) ∷ ‵ (T-search-atom-line .own line (sliceVal (line .ptr) (length (line .now)) ∷ [])) ∷ ‵ (flft κ₀ q₀) ∷
+        ‵ (T-search-atom-nodes .own nodes (sliceVal (nodes .ptr) (length (nodes .now)) ∷ [])) ∷ ‵ (flft κ₁ q₁) ∷
         ‵ (T-search-atom-dead .own dead (sliceVal (dead .ptr) (length (dead .now)) ∷ [])) ∷ []) (
-        Walk.move ! (7 ∷ 6 ∷ []) (
+        Walk.move ! (7 ∷ 0 ∷ []) (
         Walk.gives W (Walk.nothing ∷ Walk.nothing ∷ Walk.nothing ∷ Walk.turned (T-search-atom-dead .own dead (sliceVal (dead .ptr)
         (length (dead .now)) ∷ [])) (finally (UInt w8) (dead .name) (dead .now))
-        (Walk.ended-slice 𝓤 H A W (named 1) κ₁ (UInt w8) dead (dead .now) _) ∷ Walk.turned (T-search-atom-pieces .own pieces (sliceVal (pieces .ptr)
-        (length (pieces .now)) ∷ [])) (finally (UInt w8) (pieces .name) (pieces .now))
-        (Walk.ended-slice 𝓤 H A W (named 2) κ₂ (UInt w8) pieces (pieces .now) _) ∷ Walk.nothing ∷ Walk.nothing ∷ Walk.nothing ∷ Walk.nothing ∷
-        []) _ ! (
-        Walk.move ! (3 ∷ 4 ∷ 4 ∷ 1 ∷ []) (
+        (Walk.ended-slice 𝓤 H A W (named 1) κ₁ (UInt w8) dead (dead .now) _) ∷ Walk.turned (T-search-atom-notes .own (at-last notes (ws5 .0))
+        (sliceVal (notes .ptr) (length (ws5 .0)) ∷ [])) (finally (UInt w64) (notes .name) (ws5 .0))
+        (Walk.ended-slice 𝓤 H A W (named 2) κ₂ (UInt w64) notes (ws5 .0) _) ∷ Walk.nothing ∷ Walk.nothing ∷ Walk.nothing ∷ Walk.nothing ∷ []) _ ! (
+        Walk.move ! (4 ∷ 5 ∷ 1 ∷ 1 ∷ []) (
         Walk.tokens-in W ((κ₀, q₀) ∷ (κ₁, q₁) ∷ (κ₂, q₂) ∷ (κ₃, q₃) ∷ []) _ ! (alive 𝓤 H A f-search-atom.signature (κ₀, (κ₁, (κ₂, (κ₃, tt))))
         (q₀, (q₁, (q₂, (q₃, tt))))) (id⊢ 𝓤 _) (
-        Walk.use0 W ! (‵ (Outcome-T.the-row .own r5 ((Outcome-L.lowered r5) ∷ []))) (LL.makes Outcome-T.the-type Outcome-L.the-plain 𝓤 H A r5 _ is5) (
+        Walk.use0 W ! (‵ (Outcome-T.the-row .own r6 ((Outcome-L.lowered r6) ∷ []))) (LL.makes Outcome-T.the-type Outcome-L.the-plain 𝓤 H A r6 _ is6) (
         Walk.keep ! (1 ∷ 1 ∷ 0 ∷ []) (
-        Kit.by ! (Walk.leave-by 𝓤 H A W f-search-atom.ended (f-search-atom.clauses 𝓤 H A mem run) stayed-search-atom bound-search-atom (Outcome-L.lowered r5) r5 (tt, (tt, (tt, ((dead .now), ((pieces .now), (tt, (tt, (tt, (tt, tt))))))))) (tt, (tt, (tt, (refl, (refl, (tt, (tt, (tt, (tt, tt))))))))) (factI 𝓤 _ (emp 𝓤) (atom-none pre e1 e2 (not-false _ t1) e4 (eqb-true (r4 .end) 0 t2) e5)))))))))))))))))))
+        Kit.by ! (Walk.leave-by 𝓤 H A W f-search-atom.ended (f-search-atom.clauses 𝓤 H A mem run) stayed-search-atom bound-search-atom (Outcome-L.lowered r6) r6 (tt, (tt, (tt, ((dead .now), ((ws5 .0), (tt, (tt, (tt, (tt, tt))))))))) (tt, (tt, (tt, (refl, ((len1 ∙ refl), (tt, (tt, (tt, (tt, tt))))))))) (factI 𝓤 _ (emp 𝓤) (atom-none e1 e2 (not-false _ t1) e4 e5 (eqb-true (r4 .end) 0 t2) e6)))))))))))))))))))
         (λ h2. let t2 : (eqb (r4 .end) 0) ≡ false = Walk.is-false _ h2 in
         Walk.skips-then ! (
-        Walk.sets ! (Run.addr ! (Run.from ! (Run.fld ! refl (Run.hop ! (Part.look-in ! 8 (Part.sub ! 0 refl (Part.whole !))) (Run.stop !)))))
-        (Run.init ! 20 refl ((tt, tt))) (
-        Walk.sets ! (Part.agg ! (Run.and-then ! (Walk.local ! 20 refl) (Run.and-then ! (Walk.part ! 8 refl refl refl) (Run.no-more !))))
-        (Run.init ! 21 refl ((tt, (tt, (record { fits = is-dead .0 .1 .0 }, tt))))) (
-        Walk.sets ! (Run.addr ! (Run.from ! (Run.fld ! refl (Run.hop ! (Part.look-in ! 9 (Part.sub ! 0 refl (Part.whole !))) (Run.stop !)))))
-        (Run.init ! 22 refl ((tt, tt))) (
-        Walk.sets ! (Part.agg ! (Run.and-then ! (Walk.local ! 22 refl) (Run.and-then ! (Walk.part ! 9 refl refl refl) (Run.no-more !))))
-        (Run.init ! 23 refl ((tt, (tt, (record { fits = is-pieces .0 .1 .0 }, tt))))) (
-        -- [κ₃; line; κ₀; nodes; the locals; their ends; κ₁; κ₂; pieces; dead]
-        -- call 6: search (left, right, nodes, dead, pieces, line, end, node, r4 .end)
-        Walk.move ! (29 ∷ 26 ∷ []) (Again.lends W (UInt w8) κ₁ q₁ dead (named 1) (named 1) (dead .now) ! tt (λ ν1 δ1.
-        Walk.move ! (30 ∷ 29 ∷ []) (Again.lends W (UInt w8) κ₂ q₂ pieces (named 2) (named 2) (pieces .now) ! tt (λ ν2 δ2.
-        Walk.move ! (9 ∷ 3 ∷ 0 ∷ 5 ∷ []) (
+        Walk.sets ! (Run.addr ! (Run.from ! (Run.fld ! refl (Run.hop ! (Part.look-in ! 11 (Part.sub ! 0 refl (Part.whole !))) (Run.stop !)))))
+        (Run.init ! 25 refl ((tt, tt))) (
+        Walk.sets ! (Part.agg ! (Run.and-then ! (Walk.local ! 25 refl) (Run.and-then ! (Walk.part ! 11 refl refl refl) (Run.no-more !))))
+        (Run.init ! 26 refl ((tt, (tt, (record { fits = is-dead .0 .1 .0 }, tt))))) (
+        Walk.sets ! (Run.addr ! (Run.from ! (Run.fld ! refl (Run.hop ! (Part.look-in ! 2 (Part.sub ! 0 refl (Part.whole !))) (Run.stop !)))))
+        (Run.init ! 27 refl ((tt, tt))) (
+        Walk.sets ! (Part.agg ! (Run.and-then ! (Walk.local ! 27 refl) (Run.and-then ! (Walk.part ! 2 refl refl refl) (Run.no-more !))))
+        (Run.init ! 28 refl ((tt, (tt, (record { fits = (subst (Slice.Room (UInt w64)) (sym len1) (is-notes .0 .1)) .0 }, tt))))) (
+        -- [notes; κ₂; the locals; κ₃; line; κ₀; nodes; their ends; κ₁; dead]
+        -- call 7: search (left, right, nodes, dead, notes, line, end, node, r4 .end)
+        Walk.move ! (32 ∷ 31 ∷ []) (Again.lends W (UInt w8) κ₁ q₁ dead (named 1) (named 1) (dead .now) ! tt (λ ν2 δ2.
+        Walk.move ! (3 ∷ 3 ∷ []) (Again.lends W (UInt w64) κ₂ q₂ notes (named 2) (named 2) (ws5 .0) ! tt (λ ν3 δ3.
+        Walk.move ! (10 ∷ 3 ∷ 0 ∷ 6 ∷ []) (
         Walk.gives W (Walk.made ((UInt w8) .own left ((vint w8 left) ∷ [])) (uint-makes 𝓤 H A W w8 left _ (refl, fits-left)) ∷
         Walk.made ((UInt w8) .own right ((vint w8 right) ∷ [])) (uint-makes 𝓤 H A W w8 right _ (refl, fits-right)) ∷
         Walk.copied (T-search-atom-nodes .own nodes (v-search-atom-nodes ∷ []))
-        (shr-slice-copy 𝓤 H A W (named 0) κ₀ Node-T.the-row .twice nodes _) ∷ Walk.kept (MutSlice (named 1) (ν1 ∷ [])
-        (UInt w8) .own (record { ptr = (dead .ptr); name = δ1; now = (dead .now) }) ((sliceVal (dead .ptr) (length (dead .now))) ∷ [])) ∷
-        Walk.kept (MutSlice (named 2) (ν2 ∷ []) (UInt w8) .own (record { ptr = (pieces .ptr); name = δ2; now = (pieces .now) })
-        ((sliceVal (pieces .ptr) (length (pieces .now))) ∷ [])) ∷ Walk.copied (T-search-atom-line .own line (v-search-atom-line ∷ []))
+        (shr-slice-copy 𝓤 H A W (named 0) κ₀ Node-T.the-row .twice nodes _) ∷ Walk.kept (MutSlice (named 1) (ν2 ∷ [])
+        (UInt w8) .own (record { ptr = (dead .ptr); name = δ2; now = (dead .now) }) ((sliceVal (dead .ptr) (length (dead .now))) ∷ [])) ∷
+        Walk.kept (MutSlice (named 2) (ν3 ∷ []) (UInt w64) .own (record { ptr = (notes .ptr); name = δ3; now = (ws5 .0) }) ((sliceVal (notes .ptr)
+        (length (ws5 .0))) ∷ [])) ∷ Walk.copied (T-search-atom-line .own line (v-search-atom-line ∷ []))
         (shr-slice-copy 𝓤 H A W (named 3) κ₃ (UInt w8) .twice line _) ∷ Walk.made ((UInt w64) .own end ((vint w64 end) ∷ []))
         (uint-makes 𝓤 H A W w64 end _ (refl, fits-end)) ∷ Walk.made ((UInt w64) .own node ((vint w64 node) ∷ []))
         (uint-makes 𝓤 H A W w64 node _ (refl, fits-node)) ∷ Walk.made ((UInt w64) .own (r4 .end) ((vint w64 (r4 .end)) ∷ []))
         (uint-makes 𝓤 H A W w64 (r4 .end) _ (refl, LL.owed Scanned-T.the-type Scanned-L.the-laws r4 _ is4 .0 .1)) ∷ []) _ ! (
-        Walk.move ! (8 ∷ 6 ∷ 4 ∷ 5 ∷ []) (
-        Walk.tokens-in W ((κ₀, q₀) ∷ ((ν1 ∷ []), fullShare) ∷ ((ν2 ∷ []), fullShare) ∷ (κ₃, q₃) ∷
-        []) _ ! (alive 𝓤 H A f-search.signature (κ₀, ((ν1 ∷ []), ((ν2 ∷ []), (κ₃, tt)))) (q₀, (fullShare, (fullShare, (q₃, tt))))) (id⊢ 𝓤 _) (
+        Walk.move ! (9 ∷ 6 ∷ 4 ∷ 6 ∷ []) (
+        Walk.tokens-in W ((κ₀, q₀) ∷ ((ν2 ∷ []), fullShare) ∷ ((ν3 ∷ []), fullShare) ∷ (κ₃, q₃) ∷
+        []) _ ! (alive 𝓤 H A f-search.signature (κ₀, ((ν2 ∷ []), ((ν3 ∷ []), (κ₃, tt)))) (q₀, (fullShare, (fullShare, (q₃, tt))))) (id⊢ 𝓤 _) (
         Walk.asksˡ W ! fm f-search.ended (f-search.clauses 𝓤 H A mem run)
-        (((κ₀, ((ν1 ∷ []), ((ν2 ∷ []), (κ₃, tt)))), (q₀, (fullShare, (fullShare, (q₃, tt)))), tt, (left, (right, (nodes, ((record { ptr = (dead .ptr); name = δ1; now = (dead .now) }), ((record { ptr = (pieces .ptr); name = δ2; now = (pieces .now) }), (line, (end, (node, ((r4 .end), tt))))))))), ((vint w8 left) ∷ [], ((vint w8 right) ∷ [], (v-search-atom-nodes ∷ [], ((sliceVal (dead .ptr) (length (dead .now))) ∷ [], ((sliceVal (pieces .ptr) (length (pieces .now))) ∷ [], (v-search-atom-line ∷ [], ((vint w64 end) ∷ [], ((vint w64 node) ∷ [], ((vint w64 (r4 .end)) ∷ [], tt)))))))))), tt) _ (known-search (((κ₀, ((ν1 ∷ []), ((ν2 ∷ []), (κ₃, tt)))), (q₀, (fullShare, (fullShare, (q₃, tt)))), tt, (left, (right, (nodes, ((record { ptr = (dead .ptr); name = δ1; now = (dead .now) }), ((record { ptr = (pieces .ptr); name = δ2; now = (pieces .now) }), (line, (end, (node, ((r4 .end), tt))))))))), ((vint w8 left) ∷ [], ((vint w8 right) ∷ [], (v-search-atom-nodes ∷ [], ((sliceVal (dead .ptr) (length (dead .now))) ∷ [], ((sliceVal (pieces .ptr) (length (pieces .now))) ∷ [], (v-search-atom-line ∷ [], ((vint w64 end) ∷ [], ((vint w64 node) ∷ [], ((vint w64 (r4 .end)) ∷ [], tt)))))))))), tt) (atom-less pre e4 (eqb-false (r4 .end) 0 t2))) (factI 𝓤 _ (emp 𝓤) (asks-atom pre e4 (eqb-false (r4 .end) 0 t2))) (λ r ws. id⊢ 𝓤 _)
-        (Run.and-then ! (Walk.local ! 6 refl) (Run.and-then ! (Walk.local ! 7 refl) (Run.and-then ! (Walk.local ! 8 refl)
-        (Run.and-then ! (Walk.local ! 22 refl) (Run.and-then ! (Walk.local ! 24 refl) (Run.and-then ! (Walk.local ! 11 refl)
+        (((κ₀, ((ν2 ∷ []), ((ν3 ∷ []), (κ₃, tt)))), (q₀, (fullShare, (fullShare, (q₃, tt)))), tt, (left, (right, (nodes, ((record { ptr = (dead .ptr); name = δ2; now = (dead .now) }), ((record { ptr = (notes .ptr); name = δ3; now = (ws5 .0) }), (line, (end, (node, ((r4 .end), tt))))))))), ((vint w8 left) ∷ [], ((vint w8 right) ∷ [], (v-search-atom-nodes ∷ [], ((sliceVal (dead .ptr) (length (dead .now))) ∷ [], ((sliceVal (notes .ptr) (length (ws5 .0))) ∷ [], (v-search-atom-line ∷ [], ((vint w64 end) ∷ [], ((vint w64 node) ∷ [], ((vint w64 (r4 .end)) ∷ [], tt)))))))))), tt) _ (known-search (((κ₀, ((ν2 ∷ []), ((ν3 ∷ []), (κ₃, tt)))), (q₀, (fullShare, (fullShare, (q₃, tt)))), tt, (left, (right, (nodes, ((record { ptr = (dead .ptr); name = δ2; now = (dead .now) }), ((record { ptr = (notes .ptr); name = δ3; now = (ws5 .0) }), (line, (end, (node, ((r4 .end), tt))))))))), ((vint w8 left) ∷ [], ((vint w8 right) ∷ [], (v-search-atom-nodes ∷ [], ((sliceVal (dead .ptr) (length (dead .now))) ∷ [], ((sliceVal (notes .ptr) (length (ws5 .0))) ∷ [], (v-search-atom-line ∷ [], ((vint w64 end) ∷ [], ((vint w64 node) ∷ [], ((vint w64 (r4 .end)) ∷ [], tt)))))))))), tt) (atom-less pre e4 (eqb-false (r4 .end) 0 t2))) (factI 𝓤 _ (emp 𝓤) (asks-atom pre e4 (eqb-false (r4 .end) 0 t2) len1)) (λ r ws. id⊢ 𝓤 _)
+        (Run.and-then ! (Walk.local ! 7 refl) (Run.and-then ! (Walk.local ! 8 refl) (Run.and-then ! (Walk.local ! 9 refl)
+        (Run.and-then ! (Walk.local ! 25 refl) (Run.and-then ! (Walk.local ! 27 refl) (Run.and-then ! (Walk.local ! 11 refl)
         (Run.and-then ! (Walk.local ! 12 refl) (Run.and-then ! (Walk.local ! 13 refl) (Run.and-then ! (Walk.local ! 16 refl)
-        (Run.no-more !)))))))))) (λ u6 r6 ws6 is6′ e6.
-        Walk.returned W ((κ₀, q₀) ∷ ((ν1 ∷ []), fullShare) ∷ ((ν2 ∷ []), fullShare) ∷ (κ₃, q₃) ∷ []) (Walk.gone _ ∷ Walk.gone _ ∷ Walk.gone _ ∷
-        Walk.final (finally (UInt w8) δ1 (ws6 .1 .1 .1 .0)) (length (ws6 .1 .1 .1 .0)) (length (dead .now)) ∷
-        Walk.final (finally (UInt w8) δ2 (ws6 .1 .1 .1 .1 .0)) (length (ws6 .1 .1 .1 .1 .0)) (length (pieces .now)) ∷ Walk.gone _ ∷ Walk.gone _ ∷
-        Walk.gone _ ∷ Walk.gone _ ∷ []) ! (id⊢ 𝓤 _) (λ len1 len2.
-        Walk.move ! (3 ∷ 8 ∷ 1 ∷ 11 ∷ []) (
-        Again.backs W (UInt w8) κ₁ q₁ dead (named 1) (named 1) (dead .now) ! tt (ws6 .1 .1 .1 .0) (is-dead .0 .1) len1 (
-        Walk.move ! (5 ∷ 8 ∷ 3 ∷ 11 ∷ []) (
-        Again.backs W (UInt w8) κ₂ q₂ pieces (named 2) (named 2) (pieces .now) ! tt (ws6 .1 .1 .1 .1 .0) (is-pieces .0 .1) len2 (
-        Walk.lands-in ! (Walk.init-as ! 20 refl (LL.lawful Outcome-T.the-type Outcome-L.the-laws 𝓤 H A W .typed r6 _ is6′ .0)
-        (ap only (LL.tells Outcome-T.the-type Outcome-L.the-laws r6 _ is6′))) (
-        let is6 : Is Outcome-T.the-row r6 ((Outcome-L.lowered r6) ∷ []) = subst (λ (vs : List Val). Is Outcome-T.the-row r6 vs)
-        (LL.tells Outcome-T.the-type Outcome-L.the-laws r6 _ is6′) is6′ in
-        Walk.written-out ! (‵ (T-search-atom-pieces .own (at-last pieces (ws6 .1 .1 .1 .1 .0)) (sliceVal (pieces .ptr)
-        (length (ws6 .1 .1 .1 .1 .0)) ∷ [])) ∷ ‵ (flft κ₂ q₂) ∷ ‵ (fat fullShare Y-search-atom-pieces l₅ 0 (sliceVal (pieces .ptr)
-        (length (ws6 .1 .1 .1 .1 .0)))) ∷ ‵ (T-search-atom-dead .own (at-last dead (ws6 .1 .1 .1 .0)) (sliceVal (dead .ptr)
-        (length (ws6 .1 .1 .1 .0)) ∷ [])) ∷ ‵ (flft κ₁ q₁) ∷ ‵ (fat fullShare Y-search-atom-dead l₄ 0 (sliceVal (dead .ptr)
-        (length (ws6 .1 .1 .1 .0)))) ∷ ‵ (flft κ₀ q₀) ∷ ‵ (flft κ₃ q₃) ∷ ‵ (T-search-atom-nodes .own nodes (sliceVal (nodes .ptr)
-        (length (nodes .now)) ∷ [])) ∷ ‵ (T-search-atom-line .own line (sliceVal (line .ptr) (length (line .now)) ∷ [])) ∷
-        ‵ (froom Outcome-L.mir l₀ 0) ∷ ‵ (fat fullShare (tyInt w8) l₁ 0 (vint w8 left)) ∷ ‵ (fat fullShare (tyInt w8) l₂ 0 (vint w8 right)) ∷
+        (Run.no-more !)))))))))) (λ u7 r7 ws7 is7′ e7.
+        Walk.returned W ((κ₀, q₀) ∷ ((ν2 ∷ []), fullShare) ∷ ((ν3 ∷ []), fullShare) ∷ (κ₃, q₃) ∷ []) (Walk.gone _ ∷ Walk.gone _ ∷ Walk.gone _ ∷
+        Walk.final (finally (UInt w8) δ2 (ws7 .1 .1 .1 .0)) (length (ws7 .1 .1 .1 .0)) (length (dead .now)) ∷
+        Walk.final (finally (UInt w64) δ3 (ws7 .1 .1 .1 .1 .0)) (length (ws7 .1 .1 .1 .1 .0)) (length (ws5 .0)) ∷ Walk.gone _ ∷ Walk.gone _ ∷
+        Walk.gone _ ∷ Walk.gone _ ∷ []) ! (id⊢ 𝓤 _) (λ len2 len3.
+        Walk.move ! (3 ∷ 8 ∷ 1 ∷ 12 ∷ []) (
+        Again.backs W (UInt w8) κ₁ q₁ dead (named 1) (named 1) (dead .now) ! tt (ws7 .1 .1 .1 .0) (is-dead .0 .1) len2 (
+        Walk.move ! (5 ∷ 8 ∷ 3 ∷ 7 ∷ []) (
+        Again.backs W (UInt w64) κ₂ q₂ notes (named 2) (named 2) (ws5 .0) ! tt (ws7 .1 .1 .1 .1 .0) ((subst (Slice.Room (UInt w64)) (sym len1)
+        (is-notes .0 .1))) len3 (
+        Walk.lands-in ! (Walk.init-as ! 20 refl (LL.lawful Outcome-T.the-type Outcome-L.the-laws 𝓤 H A W .typed r7 _ is7′ .0)
+        (ap only (LL.tells Outcome-T.the-type Outcome-L.the-laws r7 _ is7′))) (
+        let is7 : Is Outcome-T.the-row r7 ((Outcome-L.lowered r7) ∷ []) = subst (λ (vs : List Val). Is Outcome-T.the-row r7 vs)
+        (LL.tells Outcome-T.the-type Outcome-L.the-laws r7 _ is7′) is7′ in
+        Walk.written-out ! (‵ (T-search-atom-notes .own (at-last notes (ws7 .1 .1 .1 .1 .0)) (sliceVal (notes .ptr) (length (ws7 .1 .1 .1 .1 .0)) ∷
+        [])) ∷ ‵ (flft κ₂ q₂) ∷ ‵ (fat fullShare Y-search-atom-notes l₅ 0 (sliceVal (notes .ptr) (length (ws7 .1 .1 .1 .1 .0)))) ∷
+        ‵ (T-search-atom-dead .own (at-last dead (ws7 .1 .1 .1 .0)) (sliceVal (dead .ptr) (length (ws7 .1 .1 .1 .0)) ∷ [])) ∷ ‵ (flft κ₁ q₁) ∷
+        ‵ (fat fullShare Y-search-atom-dead l₄ 0 (sliceVal (dead .ptr) (length (ws7 .1 .1 .1 .0)))) ∷ ‵ (flft κ₀ q₀) ∷ ‵ (flft κ₃ q₃) ∷
+        ‵ (T-search-atom-nodes .own nodes (sliceVal (nodes .ptr) (length (nodes .now)) ∷ [])) ∷
+        ‵ (T-search-atom-line .own line (sliceVal (line .ptr) (length (line .now)) ∷ [])) ∷ ‵ (froom Outcome-L.mir l₀ 0) ∷
+        ‵ (fat fullShare (tyInt w8) l₁ 0 (vint w8 left)) ∷ ‵ (fat fullShare (tyInt w8) l₂ 0 (vint w8 right)) ∷
         ‵ (fat fullShare Y-search-atom-nodes l₃ 0 (sliceVal (nodes .ptr) (length (nodes .now)))) ∷
         ‵ (fat fullShare Y-search-atom-line l₆ 0 (sliceVal (line .ptr) (length (line .now)))) ∷ ‵ (fat fullShare (tyInt w64) l₇ 0 (vint w64 end)) ∷
         ‵ (fat fullShare (tyInt w64) l₈ 0 (vint w64 node)) ∷ ‵ (fat fullShare (tyInt w64) l₉ 0 (vint w64 at)) ∷
         ‵ (fat fullShare Scanned-L.mir l₁₀ 0 (Scanned-L.lowered r4)) ∷ ‵ (fat fullShare (tyInt w64) l₁₁ 0 (vint w64 (r4 .end))) ∷
-        ‵ (fat fullShare Outcome-L.mir l₁₂ 0 (Outcome-L.lowered r6)) ∷ ‵ (fat fullShare tyBool l₁₃ 0 (vbool (eqb (r4 .end) 0))) ∷
+        ‵ (fat fullShare Outcome-L.mir l₁₂ 0 (Outcome-L.lowered r7)) ∷ ‵ (fat fullShare tyBool l₁₃ 0 (vbool (eqb (r4 .end) 0))) ∷
         ‵ (fat fullShare Node-L.mir l₁₄ 0 (Node-L.lowered r1)) ∷ ‵ (fat fullShare tyBool l₁₅ 0 (vbool (not r2))) ∷
-        ‵ (fat fullShare (tyRef erased mut (pointee ((UInt w8) .written))) l₁₆ 0 (vptr (dead .ptr .0) (dead .ptr .1))) ∷
-        ‵ (fat fullShare (sliceTy (tyRef erased mut (pointee ((UInt w8) .written)))) l₁₇ 0 (sliceVal (dead .ptr) (length (dead .now)))) ∷
-        ‵ (fat fullShare (tyRef erased mut (pointee ((UInt w8) .written))) l₁₈ 0 (vptr (pieces .ptr .0) (pieces .ptr .1))) ∷
-        ‵ (fat fullShare (sliceTy (tyRef erased mut (pointee ((UInt w8) .written)))) l₁₉ 0 (sliceVal (pieces .ptr) (length (pieces .now)))) ∷
-        ‵ (froom (tyInt w64) l₂₀ 0) ∷ ‵ Fd ∷ []) refl (
+        ‵ (fat fullShare tyUnit l₁₆ 0 vunit) ∷ ‵ (fat fullShare (tyRef erased mut (pointee ((UInt w64) .written))) l₁₇ 0 (vptr (notes .ptr .0)
+        (notes .ptr .1))) ∷ ‵ (fat fullShare (sliceTy (tyRef erased mut (pointee ((UInt w64) .written)))) l₁₈ 0 (sliceVal (notes .ptr)
+        (length (notes .now)))) ∷ ‵ (fat fullShare (tyRef erased mut (pointee ((UInt w8) .written))) l₁₉ 0 (vptr (dead .ptr .0) (dead .ptr .1))) ∷
+        ‵ (fat fullShare (sliceTy (tyRef erased mut (pointee ((UInt w8) .written)))) l₂₀ 0 (sliceVal (dead .ptr) (length (dead .now)))) ∷
+        ‵ (fat fullShare (tyRef erased mut (pointee ((UInt w64) .written))) l₂₁ 0 (vptr (notes .ptr .0) (notes .ptr .1))) ∷
+        ‵ (fat fullShare (sliceTy (tyRef erased mut (pointee ((UInt w64) .written)))) l₂₂ 0 (sliceVal (notes .ptr) (length (ws5 .0)))) ∷
+        ‵ (froom (tyInt w64) l₂₃ 0) ∷ ‵ Fd ∷ []) refl (
         let sub1 : at ≤ (r4 .end) = atom-before pre e4 (eqb-false (r4 .end) 0 t2) in
         let sub1-fits : ((r4 .end) - at) < 2 ^ 64 = omega (arith, LL.owed Scanned-T.the-type Scanned-L.the-laws r4 _ is4 .0 .1) in
-        Walk.sets ! (Run.bin ! (Walk.local ! 19 refl) (Walk.local ! 17 refl) sub1) (Run.init ! 28 refl ((tt, record { fits = sub1-fits }))) (
-        -- [pieces; κ₂; the locals; dead; κ₁; κ₀; κ₃; nodes; line; their ends]
-        -- call 7: pass_atom (r6, (r4 .end) - at)
-        Walk.gives W (Walk.made (Outcome-T.the-row .own r6 ((Outcome-L.lowered r6) ∷ []))
-        (LL.makes Outcome-T.the-type Outcome-L.the-plain 𝓤 H A r6 _ is6) ∷ Walk.made ((UInt w64) .own ((r4 .end) - at)
+        Walk.sets ! (Run.bin ! (Walk.local ! 19 refl) (Walk.local ! 17 refl) sub1) (Run.init ! 31 refl ((tt, record { fits = sub1-fits }))) (
+        -- [notes; κ₂; the locals; dead; κ₁; κ₀; κ₃; nodes; line; their ends]
+        -- call 8: pass_atom (r7, (r4 .end) - at)
+        Walk.gives W (Walk.made (Outcome-T.the-row .own r7 ((Outcome-L.lowered r7) ∷ []))
+        (LL.makes Outcome-T.the-type Outcome-L.the-plain 𝓤 H A r7 _ is7) ∷ Walk.made ((UInt w64) .own ((r4 .end) - at)
         ((vint w64 ((r4 .end) - at)) ∷ [])) (uint-makes 𝓤 H A W w64 ((r4 .end) - at) _ (refl, sub1-fits)) ∷ []) _ ! (
         Walk.tokens-in W ([]) _ ! (alive 𝓤 H A g-pass-atom.signature tt tt) (id⊢ 𝓤 _) (
         Walk.asks W ! fm g-pass-atom.ended (g-pass-atom.clauses 𝓤 H A mem run)
-        ((tt, tt, tt, (r6, (((r4 .end) - at), tt)), ((Outcome-L.lowered r6) ∷ [], ((vint w64 ((r4 .end) - at)) ∷ [], tt))), tt) _ (known-pass-atom ((tt, tt, tt, (r6, (((r4 .end) - at), tt)), ((Outcome-L.lowered r6) ∷ [], ((vint w64 ((r4 .end) - at)) ∷ [], tt))), tt)) (factI 𝓤 _ (emp 𝓤) (atom-fits pre e4 (eqb-false (r4 .end) 0 t2) e6)) (λ r ws. id⊢ 𝓤 _)
-        (Run.and-then ! (Walk.local ! 21 refl) (Run.and-then ! (Walk.local ! 29 refl) (Run.no-more !))) (λ u7 r7 is7′ e7.
+        ((tt, tt, tt, (r7, (((r4 .end) - at), tt)), ((Outcome-L.lowered r7) ∷ [], ((vint w64 ((r4 .end) - at)) ∷ [], tt))), tt) _ (known-pass-atom ((tt, tt, tt, (r7, (((r4 .end) - at), tt)), ((Outcome-L.lowered r7) ∷ [], ((vint w64 ((r4 .end) - at)) ∷ [], tt))), tt)) (factI 𝓤 _ (emp 𝓤) (atom-fits pre e4 (eqb-false (r4 .end) 0 t2) e7)) (λ r ws. id⊢ 𝓤 _)
+        (Run.and-then ! (Walk.local ! 21 refl) (Run.and-then ! (Walk.local ! 32 refl) (Run.no-more !))) (λ u8 r8 is8′ e8.
         Walk.tokens-out W ([]) ! (id⊢ 𝓤 _) (
-        Walk.lands-in ! (Walk.init-as ! 10 refl (LL.lawful Outcome-T.the-type Outcome-L.the-laws 𝓤 H A W .typed r7 _ is7′ .0)
-        (ap only (LL.tells Outcome-T.the-type Outcome-L.the-laws r7 _ is7′))) (
-        let is7 : Is Outcome-T.the-row r7 ((Outcome-L.lowered r7) ∷ []) = subst (λ (vs : List Val). Is Outcome-T.the-row r7 vs)
-        (LL.tells Outcome-T.the-type Outcome-L.the-laws r7 _ is7′) is7′ in
-        Walk.written-out ! (‵ (T-search-atom-pieces .own (at-last pieces (ws6 .1 .1 .1 .1 .0)) (sliceVal (pieces .ptr)
-        (length (ws6 .1 .1 .1 .1 .0)) ∷ [])) ∷ ‵ (flft κ₂ q₂) ∷ ‵ (fat fullShare Y-search-atom-pieces l₅ 0 (sliceVal (pieces .ptr)
-        (length (ws6 .1 .1 .1 .1 .0)))) ∷ ‵ (T-search-atom-dead .own (at-last dead (ws6 .1 .1 .1 .0)) (sliceVal (dead .ptr)
-        (length (ws6 .1 .1 .1 .0)) ∷ [])) ∷ ‵ (flft κ₁ q₁) ∷ ‵ (fat fullShare Y-search-atom-dead l₄ 0 (sliceVal (dead .ptr)
-        (length (ws6 .1 .1 .1 .0)))) ∷ ‵ (flft κ₀ q₀) ∷ ‵ (flft κ₃ q₃) ∷ ‵ (T-search-atom-nodes .own nodes (sliceVal (nodes .ptr)
-        (length (nodes .now)) ∷ [])) ∷ ‵ (T-search-atom-line .own line (sliceVal (line .ptr) (length (line .now)) ∷ [])) ∷
-        ‵ (fat fullShare Outcome-L.mir l₀ 0 (Outcome-L.lowered r7)) ∷ ‵ (fat fullShare (tyInt w8) l₁ 0 (vint w8 left)) ∷
+        Walk.lands-in ! (Walk.init-as ! 10 refl (LL.lawful Outcome-T.the-type Outcome-L.the-laws 𝓤 H A W .typed r8 _ is8′ .0)
+        (ap only (LL.tells Outcome-T.the-type Outcome-L.the-laws r8 _ is8′))) (
+        let is8 : Is Outcome-T.the-row r8 ((Outcome-L.lowered r8) ∷ []) = subst (λ (vs : List Val). Is Outcome-T.the-row r8 vs)
+        (LL.tells Outcome-T.the-type Outcome-L.the-laws r8 _ is8′) is8′ in
+        Walk.written-out ! (‵ (T-search-atom-notes .own (at-last notes (ws7 .1 .1 .1 .1 .0)) (sliceVal (notes .ptr) (length (ws7 .1 .1 .1 .1 .0)) ∷
+        [])) ∷ ‵ (flft κ₂ q₂) ∷ ‵ (fat fullShare Y-search-atom-notes l₅ 0 (sliceVal (notes .ptr) (length (ws7 .1 .1 .1 .1 .0)))) ∷
+        ‵ (T-search-atom-dead .own (at-last dead (ws7 .1 .1 .1 .0)) (sliceVal (dead .ptr) (length (ws7 .1 .1 .1 .0)) ∷ [])) ∷ ‵ (flft κ₁ q₁) ∷
+        ‵ (fat fullShare Y-search-atom-dead l₄ 0 (sliceVal (dead .ptr) (length (ws7 .1 .1 .1 .0)))) ∷ ‵ (flft κ₀ q₀) ∷ ‵ (flft κ₃ q₃) ∷
+        ‵ (T-search-atom-nodes .own nodes (sliceVal (nodes .ptr) (length (nodes .now)) ∷ [])) ∷
+        ‵ (T-search-atom-line .own line (sliceVal (line .ptr) (length (line .now)) ∷ [])) ∷
+        ‵ (fat fullShare Outcome-L.mir l₀ 0 (Outcome-L.lowered r8)) ∷ ‵ (fat fullShare (tyInt w8) l₁ 0 (vint w8 left)) ∷
         ‵ (fat fullShare (tyInt w8) l₂ 0 (vint w8 right)) ∷ ‵ (fat fullShare Y-search-atom-nodes l₃ 0 (sliceVal (nodes .ptr)
         (length (nodes .now)))) ∷ ‵ (fat fullShare Y-search-atom-line l₆ 0 (sliceVal (line .ptr) (length (line .now)))) ∷
         ‵ (fat fullShare (tyInt w64) l₇ 0 (vint w64 end)) ∷ ‵ (fat fullShare (tyInt w64) l₈ 0 (vint w64 node)) ∷
         ‵ (fat fullShare (tyInt w64) l₉ 0 (vint w64 at)) ∷ ‵ (fat fullShare Scanned-L.mir l₁₀ 0 (Scanned-L.lowered r4)) ∷
-        ‵ (fat fullShare (tyInt w64) l₁₁ 0 (vint w64 (r4 .end))) ∷ ‵ (fat fullShare Outcome-L.mir l₁₂ 0 (Outcome-L.lowered r6)) ∷
+        ‵ (fat fullShare (tyInt w64) l₁₁ 0 (vint w64 (r4 .end))) ∷ ‵ (fat fullShare Outcome-L.mir l₁₂ 0 (Outcome-L.lowered r7)) ∷
         ‵ (fat fullShare tyBool l₁₃ 0 (vbool (eqb (r4 .end) 0))) ∷ ‵ (fat fullShare Node-L.mir l₁₄ 0 (Node-L.lowered r1)) ∷
-        ‵ (fat fullShare tyBool l₁₅ 0 (vbool (not r2))) ∷
-        ‵ (fat fullShare (tyRef erased mut (pointee ((UInt w8) .written))) l₁₆ 0 (vptr (dead .ptr .0) (dead .ptr .1))) ∷
-        ‵ (fat fullShare (sliceTy (tyRef erased mut (pointee ((UInt w8) .written)))) l₁₇ 0 (sliceVal (dead .ptr) (length (dead .now)))) ∷
-        ‵ (fat fullShare (tyRef erased mut (pointee ((UInt w8) .written))) l₁₈ 0 (vptr (pieces .ptr .0) (pieces .ptr .1))) ∷
-        ‵ (fat fullShare (sliceTy (tyRef erased mut (pointee ((UInt w8) .written)))) l₁₉ 0 (sliceVal (pieces .ptr) (length (pieces .now)))) ∷
-        ‵ (fat fullShare (tyInt w64) l₂₀ 0 (vint w64 ((r4 .end) - at))) ∷ ‵ Fd ∷ []) refl (
+        ‵ (fat fullShare tyBool l₁₅ 0 (vbool (not r2))) ∷ ‵ (fat fullShare tyUnit l₁₆ 0 vunit) ∷
+        ‵ (fat fullShare (tyRef erased mut (pointee ((UInt w64) .written))) l₁₇ 0 (vptr (notes .ptr .0) (notes .ptr .1))) ∷
+        ‵ (fat fullShare (sliceTy (tyRef erased mut (pointee ((UInt w64) .written)))) l₁₈ 0 (sliceVal (notes .ptr) (length (notes .now)))) ∷
+        ‵ (fat fullShare (tyRef erased mut (pointee ((UInt w8) .written))) l₁₉ 0 (vptr (dead .ptr .0) (dead .ptr .1))) ∷
+        ‵ (fat fullShare (sliceTy (tyRef erased mut (pointee ((UInt w8) .written)))) l₂₀ 0 (sliceVal (dead .ptr) (length (dead .now)))) ∷
+        ‵ (fat fullShare (tyRef erased mut (pointee ((UInt w64) .written))) l₂₁ 0 (vptr (notes .ptr .0) (notes .ptr .1))) ∷
+        ‵ (fat fullShare (sliceTy (tyRef erased mut (pointee ((UInt w64) .written)))) l₂₂ 0 (sliceVal (notes .ptr) (length (ws5 .0)))) ∷
+        ‵ (fat fullShare (tyInt w64) l₂₃ 0 (vint w64 ((r4 .end) - at))) ∷ ‵ Fd ∷ []) refl (
         Walk.returns-by ! Post-search-atom refl (Run.look ! 10 refl) (
-        Walk.move ! (10 ∷ 10 ∷ 10 ∷ 10 ∷ 5 ∷ 2 ∷ 8 ∷ 8 ∷ 8 ∷ 8 ∷ 8 ∷ 8 ∷ 8 ∷ 8 ∷ 8 ∷ 8 ∷ 8 ∷ 8 ∷ 8 ∷ 8 ∷ 8 ∷ 8 ∷ []) (
-        Walk.frees-gathered ! (Walk.full Outcome-L.mir l₀ (Outcome-L.lowered r7) ∷ Walk.full (tyInt w8) l₁ (vint w8 left) ∷
+        Walk.move ! (10 ∷ 10 ∷ 10 ∷ 10 ∷ 5 ∷ 2 ∷ 8 ∷ 8 ∷ 8 ∷ 8 ∷ 8 ∷ 8 ∷ 8 ∷ 8 ∷ 8 ∷ 8 ∷ 8 ∷ 8 ∷ 8 ∷ 8 ∷ 8 ∷ 8 ∷ 8 ∷ 8 ∷ 8 ∷ []) (
+        Walk.frees-gathered ! (Walk.full Outcome-L.mir l₀ (Outcome-L.lowered r8) ∷ Walk.full (tyInt w8) l₁ (vint w8 left) ∷
         Walk.full (tyInt w8) l₂ (vint w8 right) ∷ Walk.full Y-search-atom-nodes l₃ (sliceVal (nodes .ptr) (length (nodes .now))) ∷
-        Walk.full Y-search-atom-dead l₄ (sliceVal (dead .ptr) (length (ws6 .1 .1 .1 .0))) ∷
-        Walk.full Y-search-atom-pieces l₅ (sliceVal (pieces .ptr) (length (ws6 .1 .1 .1 .1 .0))) ∷
-        Walk.full Y-search-atom-line l₆ (sliceVal (line .ptr) (length (line .now))) ∷ Walk.full (tyInt w64) l₇ (vint w64 end) ∷
-        Walk.full (tyInt w64) l₈ (vint w64 node) ∷ Walk.full (tyInt w64) l₉ (vint w64 at) ∷ Walk.full Scanned-L.mir l₁₀ (Scanned-L.lowered r4) ∷
-        Walk.full (tyInt w64) l₁₁ (vint w64 (r4 .end)) ∷ Walk.full Outcome-L.mir l₁₂ (Outcome-L.lowered r6) ∷
-        Walk.full tyBool l₁₃ (vbool (eqb (r4 .end) 0)) ∷ Walk.full Node-L.mir l₁₄ (Node-L.lowered r1) ∷ Walk.full tyBool l₁₅ (vbool (not r2)) ∷
-        Walk.full (tyRef erased mut (pointee ((UInt w8) .written))) l₁₆ (vptr (dead .ptr .0) (dead .ptr .1)) ∷
-        Walk.full (sliceTy (tyRef erased mut (pointee ((UInt w8) .written)))) l₁₇ (sliceVal (dead .ptr) (length (dead .now))) ∷
-        Walk.full (tyRef erased mut (pointee ((UInt w8) .written))) l₁₈ (vptr (pieces .ptr .0) (pieces .ptr .1)) ∷
-        Walk.full (sliceTy (tyRef erased mut (pointee ((UInt w8) .written)))) l₁₉ (sliceVal (pieces .ptr) (length (pieces .now))) ∷
-        Walk.full (tyInt w64) l₂₀ (vint w64 ((r4 .end) - at)) ∷ []) Fd ed (‵ (T-search-atom-pieces .own (at-last pieces (ws6 .1 .1 .1 .1 .0))
-        (sliceVal (pieces .ptr) (length (ws6 .1 .1 .1 .1 .0)) ∷ [])) ∷ ‵ (flft κ₂ q₂) ∷ ‵ (T-search-atom-dead .own (at-last dead (ws6 .1 .1 .1 .0))
-        (sliceVal (dead .ptr) (length (ws6 .1 .1 .1 .0)) ∷ [])) ∷ ‵ (flft κ₁ q₁) ∷ ‵ (flft κ₀ q₀) ∷ ‵ (flft κ₃ q₃) ∷
+        Walk.full Y-search-atom-dead l₄ (sliceVal (dead .ptr) (length (ws7 .1 .1 .1 .0))) ∷ Walk.full Y-search-atom-notes l₅ (sliceVal (notes .ptr)
+        (length (ws7 .1 .1 .1 .1 .0))) ∷ Walk.full Y-search-atom-line l₆ (sliceVal (line .ptr) (length (line .now))) ∷
+        Walk.full (tyInt w64) l₇ (vint w64 end) ∷ Walk.full (tyInt w64) l₈ (vint w64 node) ∷ Walk.full (tyInt w64) l₉ (vint w64 at) ∷
+        Walk.full Scanned-L.mir l₁₀ (Scanned-L.lowered r4) ∷ Walk.full (tyInt w64) l₁₁ (vint w64 (r4 .end)) ∷
+        Walk.full Outcome-L.mir l₁₂ (Outcome-L.lowered r7) ∷ Walk.full tyBool l₁₃ (vbool (eqb (r4 .end) 0)) ∷
+        Walk.full Node-L.mir l₁₄ (Node-L.lowered r1) ∷ Walk.full tyBool l₁₅ (vbool (not r2)) ∷ Walk.full tyUnit l₁₆ vunit ∷
+        Walk.full (tyRef erased mut (pointee ((UInt w64) .written))) l₁₇ (vptr (notes .ptr .0) (notes .ptr .1)) ∷
+        Walk.full (sliceTy (tyRef erased mut (pointee ((UInt w64) .written)))) l₁₈ (sliceVal (notes .ptr) (length (notes .now))) ∷
+        Walk.full (tyRef erased mut (pointee ((UInt w8) .written))) l₁₉ (vptr (dead .ptr .0) (dead .ptr .1)) ∷
+        Walk.full (sliceTy (tyRef erased mut (pointee ((UInt w8) .written)))) l₂₀ (sliceVal (dead .ptr) (length (dead .now))) ∷
+        Walk.full (tyRef erased mut (pointee ((UInt w64) .written))) l₂₁ (vptr (notes .ptr .0) (notes .ptr .1)) ∷
+        Walk.full (sliceTy (tyRef erased mut (pointee ((UInt w64) .written)))) l₂₂ (sliceVal (notes .ptr) (length (ws5 .0))) ∷
+        Walk.full (tyInt w64) l₂₃ (vint w64 ((r4 .end) - at)) ∷ []) Fd ed (‵ (T-search-atom-notes .own (at-last notes (ws7 .1 .1 .1 .1 .0))
+        (sliceVal (notes .ptr) (length (ws7 .1 .1 .1 .1 .0)) ∷ [])) ∷ ‵ (flft κ₂ q₂) ∷ ‵ (T-search-atom-dead .own (at-last dead (ws7 .1 .1 .1 .0))
+        (sliceVal (dead .ptr) (length (ws7 .1 .1 .1 .0)) ∷ [])) ∷ ‵ (flft κ₁ q₁) ∷ ‵ (flft κ₀ q₀) ∷ ‵ (flft κ₃ q₃) ∷
         ‵ (T-search-atom-nodes .own nodes (sliceVal (nodes .ptr) (length (nodes .now)) ∷ [])) ∷
         ‵ (T-search-atom-line .own line (sliceVal (line .ptr) (length (line .now)) ∷ [])) ∷ []) (
         Walk.move ! (2 ∷ 0 ∷ []) (
-        Walk.gives W (Walk.nothing ∷ Walk.nothing ∷ Walk.nothing ∷ Walk.turned (T-search-atom-dead .own (at-last dead (ws6 .1 .1 .1 .0))
-        (sliceVal (dead .ptr) (length (ws6 .1 .1 .1 .0)) ∷ [])) (finally (UInt w8) (dead .name) (ws6 .1 .1 .1 .0))
-        (Walk.ended-slice 𝓤 H A W (named 1) κ₁ (UInt w8) dead (ws6 .1 .1 .1 .0) _) ∷
-        Walk.turned (T-search-atom-pieces .own (at-last pieces (ws6 .1 .1 .1 .1 .0)) (sliceVal (pieces .ptr) (length (ws6 .1 .1 .1 .1 .0)) ∷ []))
-        (finally (UInt w8) (pieces .name) (ws6 .1 .1 .1 .1 .0)) (Walk.ended-slice 𝓤 H A W (named 2) κ₂ (UInt w8) pieces (ws6 .1 .1 .1 .1 .0) _) ∷
+        Walk.gives W (Walk.nothing ∷ Walk.nothing ∷ Walk.nothing ∷ Walk.turned (T-search-atom-dead .own (at-last dead (ws7 .1 .1 .1 .0))
+        (sliceVal (dead .ptr) (length (ws7 .1 .1 .1 .0)) ∷ [])) (finally (UInt w8) (dead .name) (ws7 .1 .1 .1 .0))
+        (Walk.ended-slice 𝓤 H A W (named 1) κ₁ (UInt w8) dead (ws7 .1 .1 .1 .0) _) ∷
+        Walk.turned (T-search-atom-notes .own (at-last notes (ws7 .1 .1 .1 .1 .0)) (sliceVal (notes .ptr) (length (ws7 .1 .1 .1 .1 .0)) ∷ []))
+        (finally (UInt w64) (notes .name) (ws7 .1 .1 .1 .1 .0)) (Walk.ended-slice 𝓤 H A W (named 2) κ₂ (UInt w64) notes (ws7 .1 .1 .1 .1 .0) _) ∷
         Walk.nothing ∷ Walk.nothing ∷ Walk.nothing ∷ Walk.nothing ∷ []) _ ! (
         Walk.move ! (3 ∷ 2 ∷ 1 ∷ 1 ∷ []) (
         Walk.tokens-in W ((κ₀, q₀) ∷ (κ₁, q₁) ∷ (κ₂, q₂) ∷ (κ₃, q₃) ∷ []) _ ! (alive 𝓤 H A f-search-atom.signature (κ₀, (κ₁, (κ₂, (κ₃, tt))))
         (q₀, (q₁, (q₂, (q₃, tt))))) (id⊢ 𝓤 _) (
-        Walk.use0 W ! (‵ (Outcome-T.the-row .own r7 ((Outcome-L.lowered r7) ∷ []))) (LL.makes Outcome-T.the-type Outcome-L.the-plain 𝓤 H A r7 _ is7) (
+        Walk.use0 W ! (‵ (Outcome-T.the-row .own r8 ((Outcome-L.lowered r8) ∷ []))) (LL.makes Outcome-T.the-type Outcome-L.the-plain 𝓤 H A r8 _ is8) (
         Walk.keep ! (1 ∷ 1 ∷ 0 ∷ []) (
-        Kit.by ! (Walk.leave-by 𝓤 H A W f-search-atom.ended (f-search-atom.clauses 𝓤 H A mem run) stayed-search-atom bound-search-atom (Outcome-L.lowered r7) r7 (tt, (tt, (tt, ((ws6 .1 .1 .1 .0), ((ws6 .1 .1 .1 .1 .0), (tt, (tt, (tt, (tt, tt))))))))) (tt, (tt, (tt, ((len1 ∙ refl), ((len2 ∙ refl), (tt, (tt, (tt, (tt, tt))))))))) (factI 𝓤 _ (emp 𝓤) (atom-below pre e1 e2 (not-false _ t1) e4 (eqb-false (r4 .end) 0 t2) e6 e7))))))))))))))))))))))))))))))))))))))))))))))))))))))))))))))))))))))))))))))))))))))))))))))))))))))))))))))
+        Kit.by ! (Walk.leave-by 𝓤 H A W f-search-atom.ended (f-search-atom.clauses 𝓤 H A mem run) stayed-search-atom bound-search-atom (Outcome-L.lowered r8) r8 (tt, (tt, (tt, ((ws7 .1 .1 .1 .0), ((ws7 .1 .1 .1 .1 .0), (tt, (tt, (tt, (tt, tt))))))))) (tt, (tt, (tt, ((len2 ∙ refl), ((len3 ∙ (len1 ∙ refl)), (tt, (tt, (tt, (tt, tt))))))))) (factI 𝓤 _ (emp 𝓤) (atom-below e1 e2 (not-false _ t1) e4 e5 (eqb-false (r4 .end) 0 t2) e7 e8))))))))))))))))))))))))))))))))))))))))))))))))))))))))))))))))))))))))))))))))))))))))))))))))))))))))))))))))))))))))))))))
 
 module _ {M : Type 1} (𝓤 : URA M) (H : Heap 𝓤) (A : Atoms 𝓤) (W : Given 𝓤 H A) (mem : Memory → SProp 𝓤) (run : Routine → Fun 𝓤) (κ₀ : Lft)
     (q₀ : Share) (κ₁ : Lft) (q₁ : Share) (κ₂ : Lft) (q₂ : Share) (κ₃ : Lft) (q₃ : Share) (left : ℕ) (right : ℕ) (nodes : RefT (List Node))
-    (dead : RefT (List ℕ)) (pieces : RefT (List ℕ)) (line : RefT (List ℕ)) (end : ℕ) (node : ℕ) (at : ℕ) where
+    (dead : RefT (List ℕ)) (notes : RefT (List ℕ)) (line : RefT (List ℕ)) (end : ℕ) (node : ℕ) (at : ℕ) where
   abbrev T-search-byte-nodes : RattleType
   T-search-byte-nodes = ShrSlice (named 0) κ₀ Node-T.the-row
 
@@ -1187,14 +1240,14 @@ module _ {M : Type 1} (𝓤 : URA M) (H : Heap 𝓤) (A : Atoms 𝓤) (W : Given
   abbrev v-search-byte-dead : Val
   v-search-byte-dead = sliceVal (dead .ptr) (length (dead .now))
 
-  abbrev T-search-byte-pieces : RattleType
-  T-search-byte-pieces = MutSlice (named 2) κ₂ (UInt w8)
+  abbrev T-search-byte-notes : RattleType
+  T-search-byte-notes = MutSlice (named 2) κ₂ (UInt w64)
 
-  abbrev Y-search-byte-pieces : Ty
-  Y-search-byte-pieces = sliceTy (tyRef (named 2) mut (pointee ((UInt w8) .written)))
+  abbrev Y-search-byte-notes : Ty
+  Y-search-byte-notes = sliceTy (tyRef (named 2) mut (pointee ((UInt w64) .written)))
 
-  abbrev v-search-byte-pieces : Val
-  v-search-byte-pieces = sliceVal (pieces .ptr) (length (pieces .now))
+  abbrev v-search-byte-notes : Val
+  v-search-byte-notes = sliceVal (notes .ptr) (length (notes .now))
 
   abbrev T-search-byte-line : RattleType
   T-search-byte-line = ShrSlice (named 3) κ₃ (UInt w8)
@@ -1206,7 +1259,7 @@ module _ {M : Type 1} (𝓤 : URA M) (H : Heap 𝓤) (A : Atoms 𝓤) (W : Given
   v-search-byte-line = sliceVal (line .ptr) (length (line .now))
 
   abbrev bound-search-byte : Walk.Of 𝓤 H A f-search-byte.ended (f-search-byte.clauses 𝓤 H A mem run) .Ghost
-  bound-search-byte = (((κ₀, (κ₁, (κ₂, (κ₃, tt)))), (q₀, (q₁, (q₂, (q₃, tt)))), tt, (left, (right, (nodes, (dead, (pieces, (line, (end, (node, (at, tt))))))))), ((vint w8 left) ∷ [], ((vint w8 right) ∷ [], (v-search-byte-nodes ∷ [], (v-search-byte-dead ∷ [], (v-search-byte-pieces ∷ [], (v-search-byte-line ∷ [], ((vint w64 end) ∷ [], ((vint w64 node) ∷ [], ((vint w64 at) ∷ [], tt)))))))))), tt)
+  bound-search-byte = (((κ₀, (κ₁, (κ₂, (κ₃, tt)))), (q₀, (q₁, (q₂, (q₃, tt)))), tt, (left, (right, (nodes, (dead, (notes, (line, (end, (node, (at, tt))))))))), ((vint w8 left) ∷ [], ((vint w8 right) ∷ [], (v-search-byte-nodes ∷ [], (v-search-byte-dead ∷ [], (v-search-byte-notes ∷ [], (v-search-byte-line ∷ [], ((vint w64 end) ∷ [], ((vint w64 node) ∷ [], ((vint w64 at) ∷ [], tt)))))))))), tt)
 
   abbrev Post-search-byte : Val → SProp 𝓤
   Post-search-byte = walkOf 𝓤 H A f-search-byte.ended stayed-search-byte (f-search-byte.clauses 𝓤 H A mem run) .post bound-search-byte
@@ -1214,85 +1267,88 @@ module _ {M : Type 1} (𝓤 : URA M) (H : Heap 𝓤) (A : Atoms 𝓤) (W : Given
   module _ (C : Calls 𝓤 H) (Λ : Loops 𝓤 H) (fm : FmC 𝓤 H (W .laws) C) (known-element-at : Triple 𝓤 (C #g-element-at)
       (Walk.Of 𝓤 H A g-element-at.ended (g-element-at.clauses 𝓤 H A mem run))) (known-child : Triple 𝓤 (C #g-child)
       (Walk.Of 𝓤 H A g-child.ended (g-child.clauses 𝓤 H A mem run))) (known-no-piece : Triple 𝓤 (C #g-no-piece)
-      (Walk.Of 𝓤 H A g-no-piece.ended (g-no-piece.clauses 𝓤 H A mem run)))
+      (Walk.Of 𝓤 H A g-no-piece.ended (g-no-piece.clauses 𝓤 H A mem run))) (known-count-place : Triple 𝓤 (C #g-count-place)
+      (Walk.Of 𝓤 H A g-count-place.ended (g-count-place.clauses 𝓤 H A mem run)))
       (known-search : (y : Walk.Of 𝓤 H A f-search.ended (f-search.clauses 𝓤 H A mem run) .Ghost)
-      → μ-search 𝓤 H A mem run y < measure-search-byte left right nodes dead pieces line end node at
+      → μ-search 𝓤 H A mem run y < measure-search-byte left right nodes dead notes line end node at
       → ent 𝓤 (Walk.Of 𝓤 H A f-search.ended (f-search.clauses 𝓤 H A mem run) .pre y)
       (C #search (Walk.Of 𝓤 H A f-search.ended (f-search.clauses 𝓤 H A mem run) .args y)
       (Walk.Of 𝓤 H A f-search.ended (f-search.clauses 𝓤 H A mem run) .post y)))
       (known-search-atom : (y : Walk.Of 𝓤 H A f-search-atom.ended (f-search-atom.clauses 𝓤 H A mem run) .Ghost)
-      → μ-search-atom 𝓤 H A mem run y < measure-search-byte left right nodes dead pieces line end node at
+      → μ-search-atom 𝓤 H A mem run y < measure-search-byte left right nodes dead notes line end node at
       → ent 𝓤 (Walk.Of 𝓤 H A f-search-atom.ended (f-search-atom.clauses 𝓤 H A mem run) .pre y)
       (C #search-atom (Walk.Of 𝓤 H A f-search-atom.ended (f-search-atom.clauses 𝓤 H A mem run) .args y)
       (Walk.Of 𝓤 H A f-search-atom.ended (f-search-atom.clauses 𝓤 H A mem run) .post y)))
       (known-search-byte : (y : Walk.Of 𝓤 H A f-search-byte.ended (f-search-byte.clauses 𝓤 H A mem run) .Ghost)
-      → μ-search-byte 𝓤 H A mem run y < measure-search-byte left right nodes dead pieces line end node at
+      → μ-search-byte 𝓤 H A mem run y < measure-search-byte left right nodes dead notes line end node at
       → ent 𝓤 (Walk.Of 𝓤 H A f-search-byte.ended (f-search-byte.clauses 𝓤 H A mem run) .pre y)
       (C #search-byte (Walk.Of 𝓤 H A f-search-byte.ended (f-search-byte.clauses 𝓤 H A mem run) .args y)
       (Walk.Of 𝓤 H A f-search-byte.ended (f-search-byte.clauses 𝓤 H A mem run) .post y)))
       (known-search-piece : (y : Walk.Of 𝓤 H A f-search-piece.ended (f-search-piece.clauses 𝓤 H A mem run) .Ghost)
-      → μ-search-piece 𝓤 H A mem run y < measure-search-byte left right nodes dead pieces line end node at
+      → μ-search-piece 𝓤 H A mem run y < measure-search-byte left right nodes dead notes line end node at
       → ent 𝓤 (Walk.Of 𝓤 H A f-search-piece.ended (f-search-piece.clauses 𝓤 H A mem run) .pre y)
       (C #search-piece (Walk.Of 𝓤 H A f-search-piece.ended (f-search-piece.clauses 𝓤 H A mem run) .args y)
       (Walk.Of 𝓤 H A f-search-piece.ended (f-search-piece.clauses 𝓤 H A mem run) .post y)))
       (known-take-up : (y : Walk.Of 𝓤 H A f-take-up.ended (f-take-up.clauses 𝓤 H A mem run) .Ghost)
-      → μ-take-up 𝓤 H A mem run y < measure-search-byte left right nodes dead pieces line end node at
+      → μ-take-up 𝓤 H A mem run y < measure-search-byte left right nodes dead notes line end node at
       → ent 𝓤 (Walk.Of 𝓤 H A f-take-up.ended (f-take-up.clauses 𝓤 H A mem run) .pre y)
       (C #take-up (Walk.Of 𝓤 H A f-take-up.ended (f-take-up.clauses 𝓤 H A mem run) .args y)
       (Walk.Of 𝓤 H A f-take-up.ended (f-take-up.clauses 𝓤 H A mem run) .post y))) where
     walk-search-byte : (fits-left : left < 2 ^ 8) → (fits-right : right < 2 ^ 8) → (is-nodes : Is T-search-byte-nodes nodes (v-search-byte-nodes ∷
-        [])) → (is-dead : Is T-search-byte-dead dead (v-search-byte-dead ∷ []))
-        → (is-pieces : Is T-search-byte-pieces pieces (v-search-byte-pieces ∷ [])) → (is-line : Is T-search-byte-line line (v-search-byte-line ∷
-        [])) → (fits-end : end < 2 ^ 64) → (fits-node : node < 2 ^ 64) → (fits-at : at < 2 ^ 64) → (pre : Asks (now nodes) (now dead) (now pieces)
-        (now line) end node at) → ent 𝓤 (onEntry 𝓤 H A f-search-byte.signature (κ₀, (κ₁, (κ₂, (κ₃, tt)))) (q₀, (q₁, (q₂, (q₃, tt))))
-        (left, (right, (nodes, (dead, (pieces, (line, (end, (node, (at, tt)))))))))
-        ((vint w8 left) ∷ [], ((vint w8 right) ∷ [], (v-search-byte-nodes ∷ [], (v-search-byte-dead ∷ [], (v-search-byte-pieces ∷ [], (v-search-byte-line ∷ [], ((vint w64 end) ∷ [], ((vint w64 node) ∷ [], ((vint w64 at) ∷ [], tt)))))))))) (WpFn 𝓤 H C Λ code.search-byte-function ((vint w8 left) ∷ (vint w8 right) ∷ v-search-byte-nodes ∷ v-search-byte-dead ∷ v-search-byte-pieces ∷ v-search-byte-line ∷ (vint w64 end) ∷ (vint w64 node) ∷ (vint w64 at) ∷ []) Post-search-byte)
-    walk-search-byte fits-left fits-right is-nodes is-dead is-pieces is-line fits-end fits-node fits-at pre =
+        [])) → (is-dead : Is T-search-byte-dead dead (v-search-byte-dead ∷ [])) → (is-notes : Is T-search-byte-notes notes (v-search-byte-notes ∷
+        [])) → (is-line : Is T-search-byte-line line (v-search-byte-line ∷ [])) → (fits-end : end < 2 ^ 64) → (fits-node : node < 2 ^ 64)
+        → (fits-at : at < 2 ^ 64) → (pre : Asks (now nodes) (now dead) (now notes) (now line) end node at)
+        → ent 𝓤 (onEntry 𝓤 H A f-search-byte.signature (κ₀, (κ₁, (κ₂, (κ₃, tt)))) (q₀, (q₁, (q₂, (q₃, tt))))
+        (left, (right, (nodes, (dead, (notes, (line, (end, (node, (at, tt)))))))))
+        ((vint w8 left) ∷ [], ((vint w8 right) ∷ [], (v-search-byte-nodes ∷ [], (v-search-byte-dead ∷ [], (v-search-byte-notes ∷ [], (v-search-byte-line ∷ [], ((vint w64 end) ∷ [], ((vint w64 node) ∷ [], ((vint w64 at) ∷ [], tt)))))))))) (WpFn 𝓤 H C Λ code.search-byte-function ((vint w8 left) ∷ (vint w8 right) ∷ v-search-byte-nodes ∷ v-search-byte-dead ∷ v-search-byte-notes ∷ v-search-byte-line ∷ (vint w64 end) ∷ (vint w64 node) ∷ (vint w64 at) ∷ []) Post-search-byte)
+    walk-search-byte fits-left fits-right is-nodes is-dead is-notes is-line fits-end fits-node fits-at pre =
         Kit.qed W (raw (alive 𝓤 H A f-search-byte.signature (κ₀, (κ₁, (κ₂, (κ₃, tt)))) (q₀, (q₁, (q₂, (q₃, tt))))) ∷ ‵ (owns ((UInt w8) ∷
-        (UInt w8) ∷ T-search-byte-nodes ∷ T-search-byte-dead ∷ T-search-byte-pieces ∷ T-search-byte-line ∷ (UInt w64) ∷ (UInt w64) ∷ (UInt w64) ∷
-        []) (left, (right, (nodes, (dead, (pieces, (line, (end, (node, (at, tt)))))))))
-        ((vint w8 left) ∷ [], ((vint w8 right) ∷ [], (v-search-byte-nodes ∷ [], (v-search-byte-dead ∷ [], (v-search-byte-pieces ∷ [], (v-search-byte-line ∷ [], ((vint w64 end) ∷ [], ((vint w64 node) ∷ [], ((vint w64 at) ∷ [], tt)))))))))) ∷ []) ∵
+        (UInt w8) ∷ T-search-byte-nodes ∷ T-search-byte-dead ∷ T-search-byte-notes ∷ T-search-byte-line ∷ (UInt w64) ∷ (UInt w64) ∷ (UInt w64) ∷ [])
+        (left, (right, (nodes, (dead, (notes, (line, (end, (node, (at, tt)))))))))
+        ((vint w8 left) ∷ [], ((vint w8 right) ∷ [], (v-search-byte-nodes ∷ [], (v-search-byte-dead ∷ [], (v-search-byte-notes ∷ [], (v-search-byte-line ∷ [], ((vint w64 end) ∷ [], ((vint w64 node) ∷ [], ((vint w64 at) ∷ [], tt)))))))))) ∷ []) ∵
         Walk.move ! (1 ∷ []) (
         Walk.hears W (Walk.gone ((UInt w8) .own left ((vint w8 left) ∷ [])) ∷ Walk.gone ((UInt w8) .own right ((vint w8 right) ∷ [])) ∷
         Walk.stays (T-search-byte-nodes .own nodes (v-search-byte-nodes ∷ [])) ∷ Walk.stays (T-search-byte-dead .own dead (v-search-byte-dead ∷
-        [])) ∷ Walk.stays (T-search-byte-pieces .own pieces (v-search-byte-pieces ∷ [])) ∷
+        [])) ∷ Walk.stays (T-search-byte-notes .own notes (v-search-byte-notes ∷ [])) ∷
         Walk.stays (T-search-byte-line .own line (v-search-byte-line ∷ [])) ∷ Walk.gone ((UInt w64) .own end ((vint w64 end) ∷ [])) ∷
         Walk.gone ((UInt w64) .own node ((vint w64 node) ∷ [])) ∷ Walk.gone ((UInt w64) .own at ((vint w64 at) ∷ [])) ∷ []) ! (
         Walk.move ! (4 ∷ []) (Walk.tokens-out W ((κ₀, q₀) ∷ (κ₁, q₁) ∷ (κ₂, q₂) ∷ (κ₃, q₃) ∷ []) ! (id⊢ 𝓤 _) (
         Walk.enter ! C Λ code.search-byte-function ((vint w8 left) ∷ (vint w8 right) ∷ v-search-byte-nodes ∷ v-search-byte-dead ∷
-        v-search-byte-pieces ∷ v-search-byte-line ∷ (vint w64 end) ∷ (vint w64 node) ∷ (vint w64 at) ∷ []) Post-search-byte (
-        Run.alloc1 ! (λ l₀. Run.alloc1 ! (λ l₁. Run.alloc1 ! (λ l₂. Run.alloc1 ! (λ l₃. Run.alloc1 ! (λ l₄. Run.alloc1 ! (λ l₅. Run.alloc1 ! (λ l₆. Run.alloc1 ! (λ l₇. Run.alloc1 ! (λ l₈. Run.alloc1 ! (λ l₉. Run.alloc1 ! (λ l₁₀. Run.alloc1 ! (λ l₁₁. Run.alloc1 ! (λ l₁₂. Run.alloc1 ! (λ l₁₃. Run.alloc1 ! (λ l₁₄. Run.alloc1 ! (λ l₁₅. Run.alloc1 ! (λ l₁₆. Run.alloc1 ! (λ l₁₇.
+        v-search-byte-notes ∷ v-search-byte-line ∷ (vint w64 end) ∷ (vint w64 node) ∷ (vint w64 at) ∷ []) Post-search-byte (
+        Run.alloc1 ! (λ l₀. Run.alloc1 ! (λ l₁. Run.alloc1 ! (λ l₂. Run.alloc1 ! (λ l₃. Run.alloc1 ! (λ l₄. Run.alloc1 ! (λ l₅. Run.alloc1 ! (λ l₆. Run.alloc1 ! (λ l₇. Run.alloc1 ! (λ l₈. Run.alloc1 ! (λ l₉. Run.alloc1 ! (λ l₁₀. Run.alloc1 ! (λ l₁₁. Run.alloc1 ! (λ l₁₂. Run.alloc1 ! (λ l₁₃. Run.alloc1 ! (λ l₁₄. Run.alloc1 ! (λ l₁₅. Run.alloc1 ! (λ l₁₆. Run.alloc1 ! (λ l₁₇. Run.alloc1 ! (λ l₁₈. Run.alloc1 ! (λ l₁₉. Run.alloc1 ! (λ l₂₀.
         let E : Env 𝓤 H = Walk.at-addresses (code.search-byte-function .locals) (l₀ ∷ l₁ ∷ l₂ ∷ l₃ ∷ l₄ ∷ l₅ ∷ l₆ ∷ l₇ ∷ l₈ ∷ l₉ ∷ l₁₀ ∷ l₁₁ ∷ l₁₂ ∷
-        l₁₃ ∷ l₁₄ ∷ l₁₅ ∷ l₁₆ ∷ l₁₇ ∷ []) in
-        Walk.move ! (34 ∷ 34 ∷ 32 ∷ 32 ∷ 30 ∷ 30 ∷ 28 ∷ 28 ∷ 26 ∷ 26 ∷ 24 ∷ 24 ∷ 22 ∷ 22 ∷ 20 ∷ 20 ∷ 18 ∷ 18 ∷ 16 ∷ 16 ∷ 14 ∷ 14 ∷ 12 ∷ 12 ∷ 10 ∷
-        10 ∷ 8 ∷ 8 ∷ 6 ∷ 6 ∷ 4 ∷ 4 ∷ 2 ∷ 2 ∷ 0 ∷ 0 ∷ []) (
+        l₁₃ ∷ l₁₄ ∷ l₁₅ ∷ l₁₆ ∷ l₁₇ ∷ l₁₈ ∷ l₁₉ ∷ l₂₀ ∷ []) in
+        Walk.move ! (40 ∷ 40 ∷ 38 ∷ 38 ∷ 36 ∷ 36 ∷ 34 ∷ 34 ∷ 32 ∷ 32 ∷ 30 ∷ 30 ∷ 28 ∷ 28 ∷ 26 ∷ 26 ∷ 24 ∷ 24 ∷ 22 ∷ 22 ∷ 20 ∷ 20 ∷ 18 ∷ 18 ∷ 16 ∷
+        16 ∷ 14 ∷ 14 ∷ 12 ∷ 12 ∷ 10 ∷ 10 ∷ 8 ∷ 8 ∷ 6 ∷ 6 ∷ 4 ∷ 4 ∷ 2 ∷ 2 ∷ 0 ∷ 0 ∷ []) (
         Walk.gathers ! (Walk.bare Outcome-L.mir l₀ ∷ Walk.bare (tyInt w8) l₁ ∷ Walk.bare (tyInt w8) l₂ ∷ Walk.bare Y-search-byte-nodes l₃ ∷
-        Walk.bare Y-search-byte-dead l₄ ∷ Walk.bare Y-search-byte-pieces l₅ ∷ Walk.bare Y-search-byte-line l₆ ∷ Walk.bare (tyInt w64) l₇ ∷
+        Walk.bare Y-search-byte-dead l₄ ∷ Walk.bare Y-search-byte-notes l₅ ∷ Walk.bare Y-search-byte-line l₆ ∷ Walk.bare (tyInt w64) l₇ ∷
         Walk.bare (tyInt w64) l₈ ∷ Walk.bare (tyInt w64) l₉ ∷ Walk.bare (tyInt w64) l₁₀ ∷ Walk.bare (tyInt w16) l₁₁ ∷ Walk.bare tyBool l₁₂ ∷
-        Walk.bare (tyRef erased mut (pointee ((UInt w8) .written))) l₁₃ ∷
-        Walk.bare (sliceTy (tyRef erased mut (pointee ((UInt w8) .written)))) l₁₄ ∷
-        Walk.bare (tyRef erased mut (pointee ((UInt w8) .written))) l₁₅ ∷
-        Walk.bare (sliceTy (tyRef erased mut (pointee ((UInt w8) .written)))) l₁₆ ∷ Walk.bare (tyInt w64) l₁₇ ∷ []) (‵ (flft κ₀ q₀) ∷
+        Walk.bare tyUnit l₁₃ ∷ Walk.bare (tyRef erased mut (pointee ((UInt w64) .written))) l₁₄ ∷
+        Walk.bare (sliceTy (tyRef erased mut (pointee ((UInt w64) .written)))) l₁₅ ∷
+        Walk.bare (tyRef erased mut (pointee ((UInt w8) .written))) l₁₆ ∷
+        Walk.bare (sliceTy (tyRef erased mut (pointee ((UInt w8) .written)))) l₁₇ ∷
+        Walk.bare (tyRef erased mut (pointee ((UInt w64) .written))) l₁₈ ∷
+        Walk.bare (sliceTy (tyRef erased mut (pointee ((UInt w64) .written)))) l₁₉ ∷ Walk.bare (tyInt w64) l₂₀ ∷ []) (‵ (flft κ₀ q₀) ∷
         ‵ (flft κ₁ q₁) ∷ ‵ (flft κ₂ q₂) ∷ ‵ (flft κ₃ q₃) ∷ ‵ (T-search-byte-line .own line (sliceVal (line .ptr) (length (line .now)) ∷ [])) ∷
-        ‵ (T-search-byte-pieces .own pieces (sliceVal (pieces .ptr) (length (pieces .now)) ∷ [])) ∷
+        ‵ (T-search-byte-notes .own notes (sliceVal (notes .ptr) (length (notes .now)) ∷ [])) ∷
         ‵ (T-search-byte-dead .own dead (sliceVal (dead .ptr) (length (dead .now)) ∷ [])) ∷ ‵ (T-search-byte-nodes .own nodes (sliceVal (nodes .ptr)
         (length (nodes .now)) ∷ [])) ∷ []) (λ Fd ed.
         Walk.allocated ! (Walk.after-result ! (Walk.pass ! (Run.init ! 1 refl ((tt, record { fits = fits-left }))) (
         Walk.pass ! (Run.init ! 2 refl ((tt, record { fits = fits-right }))) (
         Walk.pass ! (Run.init ! 3 refl (shr-slice-lawful 𝓤 H A W (named 0) κ₀ Node-T.the-row .typed nodes _ is-nodes .0)) (
         Walk.pass ! (Run.init ! 4 refl (mut-slice-lawful 𝓤 H A W (named 1) κ₁ (UInt w8) .typed dead _ is-dead .0)) (
-        Walk.pass ! (Run.init ! 5 refl (mut-slice-lawful 𝓤 H A W (named 2) κ₂ (UInt w8) .typed pieces _ is-pieces .0)) (
+        Walk.pass ! (Run.init ! 5 refl (mut-slice-lawful 𝓤 H A W (named 2) κ₂ (UInt w64) .typed notes _ is-notes .0)) (
         Walk.pass ! (Run.init ! 6 refl (shr-slice-lawful 𝓤 H A W (named 3) κ₃ (UInt w8) .typed line _ is-line .0)) (
         Walk.pass ! (Run.init ! 7 refl ((tt, record { fits = fits-end }))) (Walk.pass ! (Run.init ! 8 refl ((tt, record { fits = fits-node }))) (
         Walk.pass ! (Run.init ! 9 refl ((tt, record { fits = fits-at }))) (Walk.passed ! (
-        -- [the locals; their ends; κ₀; κ₁; κ₂; κ₃; line; pieces; dead; nodes]
+        -- [the locals; their ends; κ₀; κ₁; κ₂; κ₃; line; notes; dead; nodes]
         -- call 1: element_at (line, end, at)
-        Walk.move ! (23 ∷ []) (
+        Walk.move ! (26 ∷ []) (
         Walk.gives W (Walk.copied (T-search-byte-line .own line (v-search-byte-line ∷ []))
         (shr-slice-copy 𝓤 H A W (named 3) κ₃ (UInt w8) .twice line _) ∷ Walk.made ((UInt w64) .own end ((vint w64 end) ∷ []))
         (uint-makes 𝓤 H A W w64 end _ (refl, fits-end)) ∷ Walk.made ((UInt w64) .own at ((vint w64 at) ∷ []))
         (uint-makes 𝓤 H A W w64 at _ (refl, fits-at)) ∷ []) _ ! (
-        Walk.move ! (24 ∷ []) (Walk.tokens-in W ((κ₃, q₃) ∷ []) _ ! (alive 𝓤 H A g-element-at.signature (κ₃, tt) (q₃, tt)) (id⊢ 𝓤 _) (
+        Walk.move ! (27 ∷ []) (Walk.tokens-in W ((κ₃, q₃) ∷ []) _ ! (alive 𝓤 H A g-element-at.signature (κ₃, tt) (q₃, tt)) (id⊢ 𝓤 _) (
         Walk.asks W ! fm g-element-at.ended (g-element-at.clauses 𝓤 H A mem run)
         (((κ₃, tt), (q₃, tt), tt, (line, (end, (at, tt))), (v-search-byte-line ∷ [], ((vint w64 end) ∷ [], ((vint w64 at) ∷ [], tt)))), tt) _ (known-element-at (((κ₃, tt), (q₃, tt), tt, (line, (end, (at, tt))), (v-search-byte-line ∷ [], ((vint w64 end) ∷ [], ((vint w64 at) ∷ [], tt)))), tt)) (factI 𝓤 _ (emp 𝓤) ((pre .low, pre .high))) (λ r ws. id⊢ 𝓤 _)
         (Run.and-then ! (Walk.local ! 8 refl) (Run.and-then ! (Walk.local ! 9 refl) (Run.and-then ! (Walk.local ! 11 refl) (Run.no-more !))))
@@ -1304,25 +1360,27 @@ module _ {M : Type 1} (𝓤 : URA M) (H : Heap 𝓤) (A : Atoms 𝓤) (W : Given
         ‵ (froom Outcome-L.mir l₀ 0) ∷ ‵ (fat fullShare (tyInt w8) l₁ 0 (vint w8 left)) ∷ ‵ (fat fullShare (tyInt w8) l₂ 0 (vint w8 right)) ∷
         ‵ (fat fullShare Y-search-byte-nodes l₃ 0 (sliceVal (nodes .ptr) (length (nodes .now)))) ∷
         ‵ (fat fullShare Y-search-byte-dead l₄ 0 (sliceVal (dead .ptr) (length (dead .now)))) ∷
-        ‵ (fat fullShare Y-search-byte-pieces l₅ 0 (sliceVal (pieces .ptr) (length (pieces .now)))) ∷
+        ‵ (fat fullShare Y-search-byte-notes l₅ 0 (sliceVal (notes .ptr) (length (notes .now)))) ∷
         ‵ (fat fullShare Y-search-byte-line l₆ 0 (sliceVal (line .ptr) (length (line .now)))) ∷ ‵ (fat fullShare (tyInt w64) l₇ 0 (vint w64 end)) ∷
         ‵ (fat fullShare (tyInt w64) l₈ 0 (vint w64 node)) ∷ ‵ (fat fullShare (tyInt w64) l₉ 0 (vint w64 at)) ∷ ‵ (froom (tyInt w64) l₁₀ 0) ∷
-        ‵ (fat fullShare (tyInt w16) l₁₁ 0 (vint w16 r1)) ∷ ‵ (froom tyBool l₁₂ 0) ∷
-        ‵ (froom (tyRef erased mut (pointee ((UInt w8) .written))) l₁₃ 0) ∷
-        ‵ (froom (sliceTy (tyRef erased mut (pointee ((UInt w8) .written)))) l₁₄ 0) ∷
-        ‵ (froom (tyRef erased mut (pointee ((UInt w8) .written))) l₁₅ 0) ∷
-        ‵ (froom (sliceTy (tyRef erased mut (pointee ((UInt w8) .written)))) l₁₆ 0) ∷ ‵ (froom (tyInt w64) l₁₇ 0) ∷ ‵ Fd ∷ ‵ (flft κ₀ q₀) ∷
-        ‵ (flft κ₁ q₁) ∷ ‵ (flft κ₂ q₂) ∷ ‵ (T-search-byte-pieces .own pieces (sliceVal (pieces .ptr) (length (pieces .now)) ∷ [])) ∷
+        ‵ (fat fullShare (tyInt w16) l₁₁ 0 (vint w16 r1)) ∷ ‵ (froom tyBool l₁₂ 0) ∷ ‵ (froom tyUnit l₁₃ 0) ∷
+        ‵ (froom (tyRef erased mut (pointee ((UInt w64) .written))) l₁₄ 0) ∷
+        ‵ (froom (sliceTy (tyRef erased mut (pointee ((UInt w64) .written)))) l₁₅ 0) ∷
+        ‵ (froom (tyRef erased mut (pointee ((UInt w8) .written))) l₁₆ 0) ∷
+        ‵ (froom (sliceTy (tyRef erased mut (pointee ((UInt w8) .written)))) l₁₇ 0) ∷
+        ‵ (froom (tyRef erased mut (pointee ((UInt w64) .written))) l₁₈ 0) ∷
+        ‵ (froom (sliceTy (tyRef erased mut (pointee ((UInt w64) .written)))) l₁₉ 0) ∷ ‵ (froom (tyInt w64) l₂₀ 0) ∷ ‵ Fd ∷ ‵ (flft κ₀ q₀) ∷
+        ‵ (flft κ₁ q₁) ∷ ‵ (flft κ₂ q₂) ∷ ‵ (T-search-byte-notes .own notes (sliceVal (notes .ptr) (length (notes .now)) ∷ [])) ∷
         ‵ (T-search-byte-dead .own dead (sliceVal (dead .ptr) (length (dead .now)) ∷ [])) ∷ ‵ (T-search-byte-nodes .own nodes (sliceVal (nodes .ptr)
         (length (nodes .now)) ∷ [])) ∷ []) refl (
-        -- [κ₃; line; the locals; their ends; κ₀; κ₁; κ₂; pieces; dead; nodes]
+        -- [κ₃; line; the locals; their ends; κ₀; κ₁; κ₂; notes; dead; nodes]
         -- call 2: child (nodes, node, r1)
-        Walk.move ! (26 ∷ []) (
+        Walk.move ! (29 ∷ []) (
         Walk.gives W (Walk.copied (T-search-byte-nodes .own nodes (v-search-byte-nodes ∷ []))
         (shr-slice-copy 𝓤 H A W (named 0) κ₀ Node-T.the-row .twice nodes _) ∷ Walk.made ((UInt w64) .own node ((vint w64 node) ∷ []))
         (uint-makes 𝓤 H A W w64 node _ (refl, fits-node)) ∷ Walk.made ((UInt w16) .own r1 ((vint w16 r1) ∷ []))
         (uint-makes 𝓤 H A W w16 r1 _ (refl, is1 .1)) ∷ []) _ ! (
-        Walk.move ! (23 ∷ []) (Walk.tokens-in W ((κ₀, q₀) ∷ []) _ ! (alive 𝓤 H A g-child.signature (κ₀, tt) (q₀, tt)) (id⊢ 𝓤 _) (
+        Walk.move ! (26 ∷ []) (Walk.tokens-in W ((κ₀, q₀) ∷ []) _ ! (alive 𝓤 H A g-child.signature (κ₀, tt) (q₀, tt)) (id⊢ 𝓤 _) (
         Walk.asks W ! fm g-child.ended (g-child.clauses 𝓤 H A mem run)
         (((κ₀, tt), (q₀, tt), tt, (nodes, (node, (r1, tt))), (v-search-byte-nodes ∷ [], ((vint w64 node) ∷ [], ((vint w16 r1) ∷ [], tt)))), tt) _ (known-child (((κ₀, tt), (q₀, tt), tt, (nodes, (node, (r1, tt))), (v-search-byte-nodes ∷ [], ((vint w64 node) ∷ [], ((vint w16 r1) ∷ [], tt)))), tt)) (factI 𝓤 _ (emp 𝓤) (asks-children pre)) (λ r ws. id⊢ 𝓤 _)
         (Run.and-then ! (Walk.local ! 7 refl) (Run.and-then ! (Walk.local ! 12 refl) (Run.and-then ! (Walk.local ! 15 refl) (Run.no-more !))))
@@ -1335,27 +1393,29 @@ module _ {M : Type 1} (𝓤 : URA M) (H : Heap 𝓤) (A : Atoms 𝓤) (W : Given
         ‵ (fat fullShare (tyInt w8) l₁ 0 (vint w8 left)) ∷ ‵ (fat fullShare (tyInt w8) l₂ 0 (vint w8 right)) ∷
         ‵ (fat fullShare Y-search-byte-nodes l₃ 0 (sliceVal (nodes .ptr) (length (nodes .now)))) ∷
         ‵ (fat fullShare Y-search-byte-dead l₄ 0 (sliceVal (dead .ptr) (length (dead .now)))) ∷
-        ‵ (fat fullShare Y-search-byte-pieces l₅ 0 (sliceVal (pieces .ptr) (length (pieces .now)))) ∷
+        ‵ (fat fullShare Y-search-byte-notes l₅ 0 (sliceVal (notes .ptr) (length (notes .now)))) ∷
         ‵ (fat fullShare Y-search-byte-line l₆ 0 (sliceVal (line .ptr) (length (line .now)))) ∷ ‵ (fat fullShare (tyInt w64) l₇ 0 (vint w64 end)) ∷
         ‵ (fat fullShare (tyInt w64) l₈ 0 (vint w64 node)) ∷ ‵ (fat fullShare (tyInt w64) l₉ 0 (vint w64 at)) ∷
         ‵ (fat fullShare (tyInt w64) l₁₀ 0 (vint w64 r2)) ∷ ‵ (fat fullShare (tyInt w16) l₁₁ 0 (vint w16 r1)) ∷ ‵ (froom tyBool l₁₂ 0) ∷
-        ‵ (froom (tyRef erased mut (pointee ((UInt w8) .written))) l₁₃ 0) ∷
-        ‵ (froom (sliceTy (tyRef erased mut (pointee ((UInt w8) .written)))) l₁₄ 0) ∷
-        ‵ (froom (tyRef erased mut (pointee ((UInt w8) .written))) l₁₅ 0) ∷
-        ‵ (froom (sliceTy (tyRef erased mut (pointee ((UInt w8) .written)))) l₁₆ 0) ∷ ‵ (froom (tyInt w64) l₁₇ 0) ∷ ‵ Fd ∷ ‵ (flft κ₁ q₁) ∷
-        ‵ (flft κ₂ q₂) ∷ ‵ (T-search-byte-pieces .own pieces (sliceVal (pieces .ptr) (length (pieces .now)) ∷ [])) ∷
+        ‵ (froom tyUnit l₁₃ 0) ∷ ‵ (froom (tyRef erased mut (pointee ((UInt w64) .written))) l₁₄ 0) ∷
+        ‵ (froom (sliceTy (tyRef erased mut (pointee ((UInt w64) .written)))) l₁₅ 0) ∷
+        ‵ (froom (tyRef erased mut (pointee ((UInt w8) .written))) l₁₆ 0) ∷
+        ‵ (froom (sliceTy (tyRef erased mut (pointee ((UInt w8) .written)))) l₁₇ 0) ∷
+        ‵ (froom (tyRef erased mut (pointee ((UInt w64) .written))) l₁₈ 0) ∷
+        ‵ (froom (sliceTy (tyRef erased mut (pointee ((UInt w64) .written)))) l₁₉ 0) ∷ ‵ (froom (tyInt w64) l₂₀ 0) ∷ ‵ Fd ∷ ‵ (flft κ₁ q₁) ∷
+        ‵ (flft κ₂ q₂) ∷ ‵ (T-search-byte-notes .own notes (sliceVal (notes .ptr) (length (notes .now)) ∷ [])) ∷
         ‵ (T-search-byte-dead .own dead (sliceVal (dead .ptr) (length (dead .now)) ∷ [])) ∷ []) refl (
         Walk.sets ! (Run.bin ! (Walk.local ! 14 refl) (Run.lit ! tt) tt) (Run.init ! 16 refl ((tt, tt))) (Walk.first-then ! (
         Run.branches ! (Walk.local ! 16 refl)
         (λ h1. let t1 : (eqb r2 0) ≡ true = Walk.is-true _ h1 in
-        -- [κ₀; nodes; κ₃; line; the locals; their ends; κ₁; κ₂; pieces; dead]
-        -- call 3: no_piece (0, 0)
-        Walk.gives W (Walk.made ((UInt w64) .own 0 ((vint w64 0) ∷ [])) (uint-makes 𝓤 H A W w64 0 _ (refl, lit< tt)) ∷
-        Walk.made ((UInt w64) .own 0 ((vint w64 0) ∷ [])) (uint-makes 𝓤 H A W w64 0 _ (refl, lit< tt)) ∷ []) _ ! (
+        -- [κ₀; nodes; κ₃; line; the locals; their ends; κ₁; κ₂; notes; dead]
+        -- call 3: no_piece (0)
+        Walk.gives W (Walk.made ((UInt w64) .own 0 ((vint w64 0) ∷ [])) (uint-makes 𝓤 H A W w64 0 _ (refl, lit< tt)) ∷ []) _ ! (
         Walk.tokens-in W ([]) _ ! (alive 𝓤 H A g-no-piece.signature tt tt) (id⊢ 𝓤 _) (
         Walk.asks W ! fm g-no-piece.ended (g-no-piece.clauses 𝓤 H A mem run)
-        ((tt, tt, tt, (0, (0, tt)), ((vint w64 0) ∷ [], ((vint w64 0) ∷ [], tt))), tt) _ (known-no-piece ((tt, tt, tt, (0, (0, tt)), ((vint w64 0) ∷ [], ((vint w64 0) ∷ [], tt))), tt)) (id⊢ 𝓤 (emp 𝓤)) (λ r ws. id⊢ 𝓤 _)
-        (Run.and-then ! (Run.lit ! tt) (Run.and-then ! (Run.lit ! tt) (Run.no-more !))) (λ u3 r3 is3′ e3.
+        ((tt, tt, tt, (0, tt), ((vint w64 0) ∷ [], tt)), tt) _ (known-no-piece ((tt, tt, tt, (0, tt), ((vint w64 0) ∷ [], tt)), tt)) (id⊢ 𝓤 (emp 𝓤))
+        (λ r ws. id⊢ 𝓤 _)
+        (Run.and-then ! (Run.lit ! tt) (Run.no-more !)) (λ u3 r3 is3′ e3.
         Walk.tokens-out W ([]) ! (id⊢ 𝓤 _) (
         Walk.lands-in ! (Walk.init-as ! 4 refl (LL.lawful Outcome-T.the-type Outcome-L.the-laws 𝓤 H A W .typed r3 _ is3′ .0)
         (ap only (LL.tells Outcome-T.the-type Outcome-L.the-laws r3 _ is3′))) (
@@ -1366,207 +1426,256 @@ module _ {M : Type 1} (𝓤 : URA M) (H : Heap 𝓤) (A : Atoms 𝓤) (W : Given
         ‵ (fat fullShare Outcome-L.mir l₀ 0 (Outcome-L.lowered r3)) ∷ ‵ (fat fullShare (tyInt w8) l₁ 0 (vint w8 left)) ∷
         ‵ (fat fullShare (tyInt w8) l₂ 0 (vint w8 right)) ∷ ‵ (fat fullShare Y-search-byte-nodes l₃ 0 (sliceVal (nodes .ptr)
         (length (nodes .now)))) ∷ ‵ (fat fullShare Y-search-byte-dead l₄ 0 (sliceVal (dead .ptr) (length (dead .now)))) ∷
-        ‵ (fat fullShare Y-search-byte-pieces l₅ 0 (sliceVal (pieces .ptr) (length (pieces .now)))) ∷
+        ‵ (fat fullShare Y-search-byte-notes l₅ 0 (sliceVal (notes .ptr) (length (notes .now)))) ∷
         ‵ (fat fullShare Y-search-byte-line l₆ 0 (sliceVal (line .ptr) (length (line .now)))) ∷ ‵ (fat fullShare (tyInt w64) l₇ 0 (vint w64 end)) ∷
         ‵ (fat fullShare (tyInt w64) l₈ 0 (vint w64 node)) ∷ ‵ (fat fullShare (tyInt w64) l₉ 0 (vint w64 at)) ∷
         ‵ (fat fullShare (tyInt w64) l₁₀ 0 (vint w64 r2)) ∷ ‵ (fat fullShare (tyInt w16) l₁₁ 0 (vint w16 r1)) ∷
-        ‵ (fat fullShare tyBool l₁₂ 0 (vbool (eqb r2 0))) ∷ ‵ (froom (tyRef erased mut (pointee ((UInt w8) .written))) l₁₃ 0) ∷
-        ‵ (froom (sliceTy (tyRef erased mut (pointee ((UInt w8) .written)))) l₁₄ 0) ∷
-        ‵ (froom (tyRef erased mut (pointee ((UInt w8) .written))) l₁₅ 0) ∷
-        ‵ (froom (sliceTy (tyRef erased mut (pointee ((UInt w8) .written)))) l₁₆ 0) ∷ ‵ (froom (tyInt w64) l₁₇ 0) ∷ ‵ Fd ∷ ‵ (flft κ₁ q₁) ∷
-        ‵ (flft κ₂ q₂) ∷ ‵ (T-search-byte-pieces .own pieces (sliceVal (pieces .ptr) (length (pieces .now)) ∷ [])) ∷
+        ‵ (fat fullShare tyBool l₁₂ 0 (vbool (eqb r2 0))) ∷ ‵ (froom tyUnit l₁₃ 0) ∷
+        ‵ (froom (tyRef erased mut (pointee ((UInt w64) .written))) l₁₄ 0) ∷
+        ‵ (froom (sliceTy (tyRef erased mut (pointee ((UInt w64) .written)))) l₁₅ 0) ∷
+        ‵ (froom (tyRef erased mut (pointee ((UInt w8) .written))) l₁₆ 0) ∷
+        ‵ (froom (sliceTy (tyRef erased mut (pointee ((UInt w8) .written)))) l₁₇ 0) ∷
+        ‵ (froom (tyRef erased mut (pointee ((UInt w64) .written))) l₁₈ 0) ∷
+        ‵ (froom (sliceTy (tyRef erased mut (pointee ((UInt w64) .written)))) l₁₉ 0) ∷ ‵ (froom (tyInt w64) l₂₀ 0) ∷ ‵ Fd ∷ ‵ (flft κ₁ q₁) ∷
+        ‵ (flft κ₂ q₂) ∷ ‵ (T-search-byte-notes .own notes (sliceVal (notes .ptr) (length (notes .now)) ∷ [])) ∷
         ‵ (T-search-byte-dead .own dead (sliceVal (dead .ptr) (length (dead .now)) ∷ [])) ∷ []) refl (
         Walk.returns-by ! Post-search-byte (Walk.through 𝓤 H C Λ E _ _ Post-search-byte refl) (Run.look ! 4 refl) (
-        Walk.move ! (4 ∷ 4 ∷ 4 ∷ 4 ∷ 4 ∷ 4 ∷ 4 ∷ 4 ∷ 4 ∷ 4 ∷ 4 ∷ 4 ∷ 4 ∷ 4 ∷ 4 ∷ 4 ∷ 4 ∷ 4 ∷ 4 ∷ []) (
+        Walk.move ! (4 ∷ 4 ∷ 4 ∷ 4 ∷ 4 ∷ 4 ∷ 4 ∷ 4 ∷ 4 ∷ 4 ∷ 4 ∷ 4 ∷ 4 ∷ 4 ∷ 4 ∷ 4 ∷ 4 ∷ 4 ∷ 4 ∷ 4 ∷ 4 ∷ 4 ∷ []) (
         Walk.frees-gathered ! (Walk.full Outcome-L.mir l₀ (Outcome-L.lowered r3) ∷ Walk.full (tyInt w8) l₁ (vint w8 left) ∷
         Walk.full (tyInt w8) l₂ (vint w8 right) ∷ Walk.full Y-search-byte-nodes l₃ (sliceVal (nodes .ptr) (length (nodes .now))) ∷
-        Walk.full Y-search-byte-dead l₄ (sliceVal (dead .ptr) (length (dead .now))) ∷ Walk.full Y-search-byte-pieces l₅ (sliceVal (pieces .ptr)
-        (length (pieces .now))) ∷ Walk.full Y-search-byte-line l₆ (sliceVal (line .ptr) (length (line .now))) ∷
+        Walk.full Y-search-byte-dead l₄ (sliceVal (dead .ptr) (length (dead .now))) ∷ Walk.full Y-search-byte-notes l₅ (sliceVal (notes .ptr)
+        (length (notes .now))) ∷ Walk.full Y-search-byte-line l₆ (sliceVal (line .ptr) (length (line .now))) ∷
         Walk.full (tyInt w64) l₇ (vint w64 end) ∷ Walk.full (tyInt w64) l₈ (vint w64 node) ∷ Walk.full (tyInt w64) l₉ (vint w64 at) ∷
         Walk.full (tyInt w64) l₁₀ (vint w64 r2) ∷ Walk.full (tyInt w16) l₁₁ (vint w16 r1) ∷ Walk.full tyBool l₁₂ (vbool (eqb r2 0)) ∷
-        Walk.bare (tyRef erased mut (pointee ((UInt w8) .written))) l₁₃ ∷
-        Walk.bare (sliceTy (tyRef erased mut (pointee ((UInt w8) .written)))) l₁₄ ∷
-        Walk.bare (tyRef erased mut (pointee ((UInt w8) .written))) l₁₅ ∷
-        Walk.bare (sliceTy (tyRef erased mut (pointee ((UInt w8) .written)))) l₁₆ ∷ Walk.bare (tyInt w64) l₁₇ ∷ []) Fd ed (‵ (flft κ₀ q₀) ∷
+        Walk.bare tyUnit l₁₃ ∷ Walk.bare (tyRef erased mut (pointee ((UInt w64) .written))) l₁₄ ∷
+        Walk.bare (sliceTy (tyRef erased mut (pointee ((UInt w64) .written)))) l₁₅ ∷
+        Walk.bare (tyRef erased mut (pointee ((UInt w8) .written))) l₁₆ ∷
+        Walk.bare (sliceTy (tyRef erased mut (pointee ((UInt w8) .written)))) l₁₇ ∷
+        Walk.bare (tyRef erased mut (pointee ((UInt w64) .written))) l₁₈ ∷
+        Walk.bare (sliceTy (tyRef erased mut (pointee ((UInt w64) .written)))) l₁₉ ∷ Walk.bare (tyInt w64) l₂₀ ∷ []) Fd ed (‵ (flft κ₀ q₀) ∷
         ‵ (T-search-byte-nodes .own nodes (sliceVal (nodes .ptr) (length (nodes .now)) ∷ [])) ∷ ‵ (flft κ₃ q₃) ∷
         ‵ (T-search-byte-line .own line (sliceVal (line .ptr) (length (line .now)) ∷ [])) ∷ ‵ (flft κ₁ q₁) ∷ ‵ (flft κ₂ q₂) ∷
-        ‵ (T-search-byte-pieces .own pieces (sliceVal (pieces .ptr) (length (pieces .now)) ∷ [])) ∷
+        ‵ (T-search-byte-notes .own notes (sliceVal (notes .ptr) (length (notes .now)) ∷ [])) ∷
         ‵ (T-search-byte-dead .own dead (sliceVal (dead .ptr) (length (dead .now)) ∷ [])) ∷ []) (
         Walk.move ! (7 ∷ 6 ∷ []) (
         Walk.gives W (Walk.nothing ∷ Walk.nothing ∷ Walk.nothing ∷ Walk.turned (T-search-byte-dead .own dead (sliceVal (dead .ptr)
         (length (dead .now)) ∷ [])) (finally (UInt w8) (dead .name) (dead .now))
-        (Walk.ended-slice 𝓤 H A W (named 1) κ₁ (UInt w8) dead (dead .now) _) ∷ Walk.turned (T-search-byte-pieces .own pieces (sliceVal (pieces .ptr)
-        (length (pieces .now)) ∷ [])) (finally (UInt w8) (pieces .name) (pieces .now))
-        (Walk.ended-slice 𝓤 H A W (named 2) κ₂ (UInt w8) pieces (pieces .now) _) ∷ Walk.nothing ∷ Walk.nothing ∷ Walk.nothing ∷ Walk.nothing ∷
+        (Walk.ended-slice 𝓤 H A W (named 1) κ₁ (UInt w8) dead (dead .now) _) ∷ Walk.turned (T-search-byte-notes .own notes (sliceVal (notes .ptr)
+        (length (notes .now)) ∷ [])) (finally (UInt w64) (notes .name) (notes .now))
+        (Walk.ended-slice 𝓤 H A W (named 2) κ₂ (UInt w64) notes (notes .now) _) ∷ Walk.nothing ∷ Walk.nothing ∷ Walk.nothing ∷ Walk.nothing ∷
         []) _ ! (
         Walk.move ! (1 ∷ 4 ∷ 4 ∷ 2 ∷ []) (
         Walk.tokens-in W ((κ₀, q₀) ∷ (κ₁, q₁) ∷ (κ₂, q₂) ∷ (κ₃, q₃) ∷ []) _ ! (alive 𝓤 H A f-search-byte.signature (κ₀, (κ₁, (κ₂, (κ₃, tt))))
         (q₀, (q₁, (q₂, (q₃, tt))))) (id⊢ 𝓤 _) (
         Walk.use0 W ! (‵ (Outcome-T.the-row .own r3 ((Outcome-L.lowered r3) ∷ []))) (LL.makes Outcome-T.the-type Outcome-L.the-plain 𝓤 H A r3 _ is3) (
         Walk.keep ! (1 ∷ 1 ∷ 0 ∷ []) (
-        Kit.by ! (Walk.leave-by 𝓤 H A W f-search-byte.ended (f-search-byte.clauses 𝓤 H A mem run) stayed-search-byte bound-search-byte (Outcome-L.lowered r3) r3 (tt, (tt, (tt, ((dead .now), ((pieces .now), (tt, (tt, (tt, (tt, tt))))))))) (tt, (tt, (tt, (refl, (refl, (tt, (tt, (tt, (tt, tt))))))))) (factI 𝓤 _ (emp 𝓤) (byte-none e2 e1 (eqb-true r2 0 t1) e3)))))))))))))))))))
+        Kit.by ! (Walk.leave-by 𝓤 H A W f-search-byte.ended (f-search-byte.clauses 𝓤 H A mem run) stayed-search-byte bound-search-byte (Outcome-L.lowered r3) r3 (tt, (tt, (tt, ((dead .now), ((notes .now), (tt, (tt, (tt, (tt, tt))))))))) (tt, (tt, (tt, (refl, (refl, (tt, (tt, (tt, (tt, tt))))))))) (factI 𝓤 _ (emp 𝓤) (byte-none e2 e1 (eqb-true r2 0 t1) e3)))))))))))))))))))
         (λ h1. let t1 : (eqb r2 0) ≡ false = Walk.is-false _ h1 in
         Walk.skips-then ! (Walk.sets ! (Run.bin ! (Walk.local ! 13 refl) (Walk.local ! 11 refl) tt) (Run.store ! 16 refl ((tt, tt))) (
         Walk.first-then ! (Run.branches ! (Walk.local ! 16 refl)
         (λ h2. let t2 : (eqb at end) ≡ true = Walk.is-true _ h2 in
-        -- [κ₀; nodes; κ₃; line; the locals; their ends; κ₁; κ₂; pieces; dead]
-        -- call 4: no_piece (r2, 1)
-        Walk.gives W (Walk.made ((UInt w64) .own r2 ((vint w64 r2) ∷ [])) (uint-makes 𝓤 H A W w64 r2 _ (refl, is2 .1)) ∷
-        Walk.made ((UInt w64) .own 1 ((vint w64 1) ∷ [])) (uint-makes 𝓤 H A W w64 1 _ (refl, lit< tt)) ∷ []) _ ! (
-        Walk.tokens-in W ([]) _ ! (alive 𝓤 H A g-no-piece.signature tt tt) (id⊢ 𝓤 _) (
-        Walk.asks W ! fm g-no-piece.ended (g-no-piece.clauses 𝓤 H A mem run)
-        ((tt, tt, tt, (r2, (1, tt)), ((vint w64 r2) ∷ [], ((vint w64 1) ∷ [], tt))), tt) _ (known-no-piece ((tt, tt, tt, (r2, (1, tt)), ((vint w64 r2) ∷ [], ((vint w64 1) ∷ [], tt))), tt)) (id⊢ 𝓤 (emp 𝓤)) (λ r ws. id⊢ 𝓤 _)
-        (Run.and-then ! (Walk.local ! 15 refl) (Run.and-then ! (Run.lit ! tt) (Run.no-more !))) (λ u4 r4 is4′ e4.
-        Walk.tokens-out W ([]) ! (id⊢ 𝓤 _) (
-        Walk.lands-in ! (Walk.init-as ! 4 refl (LL.lawful Outcome-T.the-type Outcome-L.the-laws 𝓤 H A W .typed r4 _ is4′ .0)
-        (ap only (LL.tells Outcome-T.the-type Outcome-L.the-laws r4 _ is4′))) (
-        let is4 : Is Outcome-T.the-row r4 ((Outcome-L.lowered r4) ∷ []) = subst (λ (vs : List Val). Is Outcome-T.the-row r4 vs)
-        (LL.tells Outcome-T.the-type Outcome-L.the-laws r4 _ is4′) is4′ in
-        Walk.written-out ! (‵ (flft κ₀ q₀) ∷ ‵ (T-search-byte-nodes .own nodes (sliceVal (nodes .ptr) (length (nodes .now)) ∷ [])) ∷
-        ‵ (flft κ₃ q₃) ∷ ‵ (T-search-byte-line .own line (sliceVal (line .ptr) (length (line .now)) ∷ [])) ∷
-        ‵ (fat fullShare Outcome-L.mir l₀ 0 (Outcome-L.lowered r4)) ∷ ‵ (fat fullShare (tyInt w8) l₁ 0 (vint w8 left)) ∷
-        ‵ (fat fullShare (tyInt w8) l₂ 0 (vint w8 right)) ∷ ‵ (fat fullShare Y-search-byte-nodes l₃ 0 (sliceVal (nodes .ptr)
-        (length (nodes .now)))) ∷ ‵ (fat fullShare Y-search-byte-dead l₄ 0 (sliceVal (dead .ptr) (length (dead .now)))) ∷
-        ‵ (fat fullShare Y-search-byte-pieces l₅ 0 (sliceVal (pieces .ptr) (length (pieces .now)))) ∷
+        Walk.sets ! (Run.addr ! (Run.from ! (Run.fld ! refl (Run.hop ! (Part.look-in ! 9 (Part.sub ! 0 refl (Part.whole !))) (Run.stop !)))))
+        (Run.init ! 18 refl ((tt, tt))) (
+        Walk.sets ! (Part.agg ! (Run.and-then ! (Walk.local ! 18 refl) (Run.and-then ! (Walk.part ! 9 refl refl refl) (Run.no-more !))))
+        (Run.init ! 19 refl ((tt, (tt, (record { fits = is-notes .0 .1 .0 }, tt))))) (
+        -- [κ₀; nodes; κ₃; line; the locals; their ends; κ₁; κ₂; notes; dead]
+        -- call 4: count_place (notes)
+        Walk.move ! (28 ∷ 27 ∷ []) (Again.lends W (UInt w64) κ₂ q₂ notes (named 2) (named 0) (notes .now) ! tt (λ ν1 δ1.
+        Walk.gives W (Walk.kept (MutSlice (named 0) (ν1 ∷ []) (UInt w64) .own (record { ptr = (notes .ptr); name = δ1; now = (notes .now) })
+        ((sliceVal (notes .ptr) (length (notes .now))) ∷ [])) ∷ []) _ ! (
+        Walk.move ! (2 ∷ []) (
+        Walk.tokens-in W (((ν1 ∷ []), fullShare) ∷ []) _ ! (alive 𝓤 H A g-count-place.signature ((ν1 ∷ []), tt) (fullShare, tt)) (id⊢ 𝓤 _) (
+        Walk.asksˡ W ! fm g-count-place.ended (g-count-place.clauses 𝓤 H A mem run)
+        ((((ν1 ∷ []), tt), (fullShare, tt), tt, ((record { ptr = (notes .ptr); name = δ1; now = (notes .now) }), tt), ((sliceVal (notes .ptr) (length (notes .now))) ∷ [], tt)), tt) _ (known-count-place ((((ν1 ∷ []), tt), (fullShare, tt), tt, ((record { ptr = (notes .ptr); name = δ1; now = (notes .now) }), tt), ((sliceVal (notes .ptr) (length (notes .now))) ∷ [], tt)), tt)) (factI 𝓤 _ (emp 𝓤) (pre .twenty)) (λ r ws. id⊢ 𝓤 _)
+        (Run.and-then ! (Walk.local ! 21 refl) (Run.no-more !)) (λ u4 r4 ws4 is4′ e4.
+        Walk.returned W (((ν1 ∷ []), fullShare) ∷ []) (Walk.final (finally (UInt w64) δ1 (ws4 .0)) (length (ws4 .0)) (length (notes .now)) ∷
+        []) ! (id⊢ 𝓤 _) (λ len1.
+        Walk.move ! (1 ∷ 1 ∷ 0 ∷ 9 ∷ []) (Again.backs W (UInt w64) κ₂ q₂ notes (named 2) (named 0) (notes .now) ! tt (ws4 .0) (is-notes .0 .1) len1 (
+        Walk.lands-in ! (Walk.init-as ! 19 refl (nothing-lawful 𝓤 H A W .typed r4 _ is4′ .0) (ap only (nothing-tells r4 _ is4′))) (
+        let is4 : Is Nothing r4 (vunit ∷ []) = subst (λ (vs : List Val). Is Nothing r4 vs) (nothing-tells r4 _ is4′) is4′ in
+        Walk.written-out ! (‵ (T-search-byte-notes .own (at-last notes (ws4 .0)) (sliceVal (notes .ptr) (length (ws4 .0)) ∷ [])) ∷ ‵ (flft κ₂ q₂) ∷
+        ‵ (fat fullShare Y-search-byte-notes l₅ 0 (sliceVal (notes .ptr) (length (ws4 .0)))) ∷ ‵ (flft κ₀ q₀) ∷
+        ‵ (T-search-byte-nodes .own nodes (sliceVal (nodes .ptr) (length (nodes .now)) ∷ [])) ∷ ‵ (flft κ₃ q₃) ∷
+        ‵ (T-search-byte-line .own line (sliceVal (line .ptr) (length (line .now)) ∷ [])) ∷ ‵ (froom Outcome-L.mir l₀ 0) ∷
+        ‵ (fat fullShare (tyInt w8) l₁ 0 (vint w8 left)) ∷ ‵ (fat fullShare (tyInt w8) l₂ 0 (vint w8 right)) ∷
+        ‵ (fat fullShare Y-search-byte-nodes l₃ 0 (sliceVal (nodes .ptr) (length (nodes .now)))) ∷
+        ‵ (fat fullShare Y-search-byte-dead l₄ 0 (sliceVal (dead .ptr) (length (dead .now)))) ∷
         ‵ (fat fullShare Y-search-byte-line l₆ 0 (sliceVal (line .ptr) (length (line .now)))) ∷ ‵ (fat fullShare (tyInt w64) l₇ 0 (vint w64 end)) ∷
         ‵ (fat fullShare (tyInt w64) l₈ 0 (vint w64 node)) ∷ ‵ (fat fullShare (tyInt w64) l₉ 0 (vint w64 at)) ∷
         ‵ (fat fullShare (tyInt w64) l₁₀ 0 (vint w64 r2)) ∷ ‵ (fat fullShare (tyInt w16) l₁₁ 0 (vint w16 r1)) ∷
-        ‵ (fat fullShare tyBool l₁₂ 0 (vbool (eqb at end))) ∷ ‵ (froom (tyRef erased mut (pointee ((UInt w8) .written))) l₁₃ 0) ∷
-        ‵ (froom (sliceTy (tyRef erased mut (pointee ((UInt w8) .written)))) l₁₄ 0) ∷
-        ‵ (froom (tyRef erased mut (pointee ((UInt w8) .written))) l₁₅ 0) ∷
-        ‵ (froom (sliceTy (tyRef erased mut (pointee ((UInt w8) .written)))) l₁₆ 0) ∷ ‵ (froom (tyInt w64) l₁₇ 0) ∷ ‵ Fd ∷ ‵ (flft κ₁ q₁) ∷
-        ‵ (flft κ₂ q₂) ∷ ‵ (T-search-byte-pieces .own pieces (sliceVal (pieces .ptr) (length (pieces .now)) ∷ [])) ∷
+        ‵ (fat fullShare tyBool l₁₂ 0 (vbool (eqb at end))) ∷ ‵ (fat fullShare tyUnit l₁₃ 0 vunit) ∷
+        ‵ (fat fullShare (tyRef erased mut (pointee ((UInt w64) .written))) l₁₄ 0 (vptr (notes .ptr .0) (notes .ptr .1))) ∷
+        ‵ (fat fullShare (sliceTy (tyRef erased mut (pointee ((UInt w64) .written)))) l₁₅ 0 (sliceVal (notes .ptr) (length (notes .now)))) ∷
+        ‵ (froom (tyRef erased mut (pointee ((UInt w8) .written))) l₁₆ 0) ∷
+        ‵ (froom (sliceTy (tyRef erased mut (pointee ((UInt w8) .written)))) l₁₇ 0) ∷
+        ‵ (froom (tyRef erased mut (pointee ((UInt w64) .written))) l₁₈ 0) ∷
+        ‵ (froom (sliceTy (tyRef erased mut (pointee ((UInt w64) .written)))) l₁₉ 0) ∷ ‵ (froom (tyInt w64) l₂₀ 0) ∷ ‵ Fd ∷ ‵ (flft κ₁ q₁) ∷
         ‵ (T-search-byte-dead .own dead (sliceVal (dead .ptr) (length (dead .now)) ∷ [])) ∷ []) refl (
-        Walk.returns-by ! Post-search-byte (Walk.through 𝓤 H C Λ E _ _ Post-search-byte refl) (Run.look ! 4 refl) (
-        Walk.move ! (4 ∷ 4 ∷ 4 ∷ 4 ∷ 4 ∷ 4 ∷ 4 ∷ 4 ∷ 4 ∷ 4 ∷ 4 ∷ 4 ∷ 4 ∷ 4 ∷ 4 ∷ 4 ∷ 4 ∷ 4 ∷ 4 ∷ []) (
-        Walk.frees-gathered ! (Walk.full Outcome-L.mir l₀ (Outcome-L.lowered r4) ∷ Walk.full (tyInt w8) l₁ (vint w8 left) ∷
-        Walk.full (tyInt w8) l₂ (vint w8 right) ∷ Walk.full Y-search-byte-nodes l₃ (sliceVal (nodes .ptr) (length (nodes .now))) ∷
-        Walk.full Y-search-byte-dead l₄ (sliceVal (dead .ptr) (length (dead .now))) ∷ Walk.full Y-search-byte-pieces l₅ (sliceVal (pieces .ptr)
-        (length (pieces .now))) ∷ Walk.full Y-search-byte-line l₆ (sliceVal (line .ptr) (length (line .now))) ∷
-        Walk.full (tyInt w64) l₇ (vint w64 end) ∷ Walk.full (tyInt w64) l₈ (vint w64 node) ∷ Walk.full (tyInt w64) l₉ (vint w64 at) ∷
-        Walk.full (tyInt w64) l₁₀ (vint w64 r2) ∷ Walk.full (tyInt w16) l₁₁ (vint w16 r1) ∷ Walk.full tyBool l₁₂ (vbool (eqb at end)) ∷
-        Walk.bare (tyRef erased mut (pointee ((UInt w8) .written))) l₁₃ ∷
-        Walk.bare (sliceTy (tyRef erased mut (pointee ((UInt w8) .written)))) l₁₄ ∷
-        Walk.bare (tyRef erased mut (pointee ((UInt w8) .written))) l₁₅ ∷
-        Walk.bare (sliceTy (tyRef erased mut (pointee ((UInt w8) .written)))) l₁₆ ∷ Walk.bare (tyInt w64) l₁₇ ∷ []) Fd ed (‵ (flft κ₀ q₀) ∷
+        -- [notes; κ₂; the locals; κ₀; nodes; κ₃; line; their ends; κ₁; dead]
+        -- call 5: no_piece (r2)
+        Walk.gives W (Walk.made ((UInt w64) .own r2 ((vint w64 r2) ∷ [])) (uint-makes 𝓤 H A W w64 r2 _ (refl, is2 .1)) ∷ []) _ ! (
+        Walk.tokens-in W ([]) _ ! (alive 𝓤 H A g-no-piece.signature tt tt) (id⊢ 𝓤 _) (
+        Walk.asks W ! fm g-no-piece.ended (g-no-piece.clauses 𝓤 H A mem run)
+        ((tt, tt, tt, (r2, tt), ((vint w64 r2) ∷ [], tt)), tt) _ (known-no-piece ((tt, tt, tt, (r2, tt), ((vint w64 r2) ∷ [], tt)), tt))
+        (id⊢ 𝓤 (emp 𝓤)) (λ r ws. id⊢ 𝓤 _)
+        (Run.and-then ! (Walk.local ! 17 refl) (Run.no-more !)) (λ u5 r5 is5′ e5.
+        Walk.tokens-out W ([]) ! (id⊢ 𝓤 _) (
+        Walk.lands-in ! (Walk.init-as ! 7 refl (LL.lawful Outcome-T.the-type Outcome-L.the-laws 𝓤 H A W .typed r5 _ is5′ .0)
+        (ap only (LL.tells Outcome-T.the-type Outcome-L.the-laws r5 _ is5′))) (
+        let is5 : Is Outcome-T.the-row r5 ((Outcome-L.lowered r5) ∷ []) = subst (λ (vs : List Val). Is Outcome-T.the-row r5 vs)
+        (LL.tells Outcome-T.the-type Outcome-L.the-laws r5 _ is5′) is5′ in
+        Walk.written-out ! (‵ (T-search-byte-notes .own (at-last notes (ws4 .0)) (sliceVal (notes .ptr) (length (ws4 .0)) ∷ [])) ∷ ‵ (flft κ₂ q₂) ∷
+        ‵ (fat fullShare Y-search-byte-notes l₅ 0 (sliceVal (notes .ptr) (length (ws4 .0)))) ∷ ‵ (flft κ₀ q₀) ∷
         ‵ (T-search-byte-nodes .own nodes (sliceVal (nodes .ptr) (length (nodes .now)) ∷ [])) ∷ ‵ (flft κ₃ q₃) ∷
-        ‵ (T-search-byte-line .own line (sliceVal (line .ptr) (length (line .now)) ∷ [])) ∷ ‵ (flft κ₁ q₁) ∷ ‵ (flft κ₂ q₂) ∷
-        ‵ (T-search-byte-pieces .own pieces (sliceVal (pieces .ptr) (length (pieces .now)) ∷ [])) ∷
+        ‵ (T-search-byte-line .own line (sliceVal (line .ptr) (length (line .now)) ∷ [])) ∷
+        ‵ (fat fullShare Outcome-L.mir l₀ 0 (Outcome-L.lowered r5)) ∷ ‵ (fat fullShare (tyInt w8) l₁ 0 (vint w8 left)) ∷
+        ‵ (fat fullShare (tyInt w8) l₂ 0 (vint w8 right)) ∷ ‵ (fat fullShare Y-search-byte-nodes l₃ 0 (sliceVal (nodes .ptr)
+        (length (nodes .now)))) ∷ ‵ (fat fullShare Y-search-byte-dead l₄ 0 (sliceVal (dead .ptr) (length (dead .now)))) ∷
+        ‵ (fat fullShare Y-search-byte-line l₆ 0 (sliceVal (line .ptr) (length (line .now)))) ∷ ‵ (fat fullShare (tyInt w64) l₇ 0 (vint w64 end)) ∷
+        ‵ (fat fullShare (tyInt w64) l₈ 0 (vint w64 node)) ∷ ‵ (fat fullShare (tyInt w64) l₉ 0 (vint w64 at)) ∷
+        ‵ (fat fullShare (tyInt w64) l₁₀ 0 (vint w64 r2)) ∷ ‵ (fat fullShare (tyInt w16) l₁₁ 0 (vint w16 r1)) ∷
+        ‵ (fat fullShare tyBool l₁₂ 0 (vbool (eqb at end))) ∷ ‵ (fat fullShare tyUnit l₁₃ 0 vunit) ∷
+        ‵ (fat fullShare (tyRef erased mut (pointee ((UInt w64) .written))) l₁₄ 0 (vptr (notes .ptr .0) (notes .ptr .1))) ∷
+        ‵ (fat fullShare (sliceTy (tyRef erased mut (pointee ((UInt w64) .written)))) l₁₅ 0 (sliceVal (notes .ptr) (length (notes .now)))) ∷
+        ‵ (froom (tyRef erased mut (pointee ((UInt w8) .written))) l₁₆ 0) ∷
+        ‵ (froom (sliceTy (tyRef erased mut (pointee ((UInt w8) .written)))) l₁₇ 0) ∷
+        ‵ (froom (tyRef erased mut (pointee ((UInt w64) .written))) l₁₈ 0) ∷
+        ‵ (froom (sliceTy (tyRef erased mut (pointee ((UInt w64) .written)))) l₁₉ 0) ∷ ‵ (froom (tyInt w64) l₂₀ 0) ∷ ‵ Fd ∷ ‵ (flft κ₁ q₁) ∷
+        ‵ (T-search-byte-dead .own dead (sliceVal (dead .ptr) (length (dead .now)) ∷ [])) ∷ []) refl (
+        Walk.returns-by ! Post-search-byte (Walk.through 𝓤 H C Λ E _ _ Post-search-byte refl) (Run.look ! 7 refl) (
+        Walk.move ! (7 ∷ 7 ∷ 7 ∷ 7 ∷ 7 ∷ 2 ∷ 6 ∷ 6 ∷ 6 ∷ 6 ∷ 6 ∷ 6 ∷ 6 ∷ 6 ∷ 6 ∷ 6 ∷ 6 ∷ 6 ∷ 6 ∷ 6 ∷ 6 ∷ 6 ∷ []) (
+        Walk.frees-gathered ! (Walk.full Outcome-L.mir l₀ (Outcome-L.lowered r5) ∷ Walk.full (tyInt w8) l₁ (vint w8 left) ∷
+        Walk.full (tyInt w8) l₂ (vint w8 right) ∷ Walk.full Y-search-byte-nodes l₃ (sliceVal (nodes .ptr) (length (nodes .now))) ∷
+        Walk.full Y-search-byte-dead l₄ (sliceVal (dead .ptr) (length (dead .now))) ∷ Walk.full Y-search-byte-notes l₅ (sliceVal (notes .ptr)
+        (length (ws4 .0))) ∷ Walk.full Y-search-byte-line l₆ (sliceVal (line .ptr) (length (line .now))) ∷ Walk.full (tyInt w64) l₇ (vint w64 end) ∷
+        Walk.full (tyInt w64) l₈ (vint w64 node) ∷ Walk.full (tyInt w64) l₉ (vint w64 at) ∷ Walk.full (tyInt w64) l₁₀ (vint w64 r2) ∷
+        Walk.full (tyInt w16) l₁₁ (vint w16 r1) ∷ Walk.full tyBool l₁₂ (vbool (eqb at end)) ∷ Walk.full tyUnit l₁₃ vunit ∷
+        Walk.full (tyRef erased mut (pointee ((UInt w64) .written))) l₁₄ (vptr (notes .ptr .0) (notes .ptr .1)) ∷
+        Walk.full (sliceTy (tyRef erased mut (pointee ((UInt w64) .written)))) l₁₅ (sliceVal (notes .ptr) (length (notes .now))) ∷
+        Walk.bare (tyRef erased mut (pointee ((UInt w8) .written))) l₁₆ ∷
+        Walk.bare (sliceTy (tyRef erased mut (pointee ((UInt w8) .written)))) l₁₇ ∷
+        Walk.bare (tyRef erased mut (pointee ((UInt w64) .written))) l₁₈ ∷
+        Walk.bare (sliceTy (tyRef erased mut (pointee ((UInt w64) .written)))) l₁₉ ∷ Walk.bare (tyInt w64) l₂₀ ∷
+        []) Fd ed (‵ (T-search-byte-notes .own (at-last notes (ws4 .0)) (sliceVal (notes .ptr) (length (ws4 .0)) ∷ [])) ∷ ‵ (flft κ₂ q₂) ∷
+        ‵ (flft κ₀ q₀) ∷ ‵ (T-search-byte-nodes .own nodes (sliceVal (nodes .ptr) (length (nodes .now)) ∷ [])) ∷ ‵ (flft κ₃ q₃) ∷
+        ‵ (T-search-byte-line .own line (sliceVal (line .ptr) (length (line .now)) ∷ [])) ∷ ‵ (flft κ₁ q₁) ∷
         ‵ (T-search-byte-dead .own dead (sliceVal (dead .ptr) (length (dead .now)) ∷ [])) ∷ []) (
-        Walk.move ! (7 ∷ 6 ∷ []) (
+        Walk.move ! (7 ∷ 0 ∷ []) (
         Walk.gives W (Walk.nothing ∷ Walk.nothing ∷ Walk.nothing ∷ Walk.turned (T-search-byte-dead .own dead (sliceVal (dead .ptr)
         (length (dead .now)) ∷ [])) (finally (UInt w8) (dead .name) (dead .now))
-        (Walk.ended-slice 𝓤 H A W (named 1) κ₁ (UInt w8) dead (dead .now) _) ∷ Walk.turned (T-search-byte-pieces .own pieces (sliceVal (pieces .ptr)
-        (length (pieces .now)) ∷ [])) (finally (UInt w8) (pieces .name) (pieces .now))
-        (Walk.ended-slice 𝓤 H A W (named 2) κ₂ (UInt w8) pieces (pieces .now) _) ∷ Walk.nothing ∷ Walk.nothing ∷ Walk.nothing ∷ Walk.nothing ∷
-        []) _ ! (
-        Walk.move ! (1 ∷ 4 ∷ 4 ∷ 2 ∷ []) (
+        (Walk.ended-slice 𝓤 H A W (named 1) κ₁ (UInt w8) dead (dead .now) _) ∷ Walk.turned (T-search-byte-notes .own (at-last notes (ws4 .0))
+        (sliceVal (notes .ptr) (length (ws4 .0)) ∷ [])) (finally (UInt w64) (notes .name) (ws4 .0))
+        (Walk.ended-slice 𝓤 H A W (named 2) κ₂ (UInt w64) notes (ws4 .0) _) ∷ Walk.nothing ∷ Walk.nothing ∷ Walk.nothing ∷ Walk.nothing ∷ []) _ ! (
+        Walk.move ! (2 ∷ 5 ∷ 1 ∷ 2 ∷ []) (
         Walk.tokens-in W ((κ₀, q₀) ∷ (κ₁, q₁) ∷ (κ₂, q₂) ∷ (κ₃, q₃) ∷ []) _ ! (alive 𝓤 H A f-search-byte.signature (κ₀, (κ₁, (κ₂, (κ₃, tt))))
         (q₀, (q₁, (q₂, (q₃, tt))))) (id⊢ 𝓤 _) (
-        Walk.use0 W ! (‵ (Outcome-T.the-row .own r4 ((Outcome-L.lowered r4) ∷ []))) (LL.makes Outcome-T.the-type Outcome-L.the-plain 𝓤 H A r4 _ is4) (
+        Walk.use0 W ! (‵ (Outcome-T.the-row .own r5 ((Outcome-L.lowered r5) ∷ []))) (LL.makes Outcome-T.the-type Outcome-L.the-plain 𝓤 H A r5 _ is5) (
         Walk.keep ! (1 ∷ 1 ∷ 0 ∷ []) (
-        Kit.by ! (Walk.leave-by 𝓤 H A W f-search-byte.ended (f-search-byte.clauses 𝓤 H A mem run) stayed-search-byte bound-search-byte (Outcome-L.lowered r4) r4 (tt, (tt, (tt, ((dead .now), ((pieces .now), (tt, (tt, (tt, (tt, tt))))))))) (tt, (tt, (tt, (refl, (refl, (tt, (tt, (tt, (tt, tt))))))))) (factI 𝓤 _ (emp 𝓤) (byte-end pre e2 (eqb-false r2 0 t1) e1 (eqb-true at end t2) e4)))))))))))))))))))
+        Kit.by ! (Walk.leave-by 𝓤 H A W f-search-byte.ended (f-search-byte.clauses 𝓤 H A mem run) stayed-search-byte bound-search-byte (Outcome-L.lowered r5) r5 (tt, (tt, (tt, ((dead .now), ((ws4 .0), (tt, (tt, (tt, (tt, tt))))))))) (tt, (tt, (tt, (refl, ((len1 ∙ refl), (tt, (tt, (tt, (tt, tt))))))))) (factI 𝓤 _ (emp 𝓤) (byte-end pre e2 (eqb-false r2 0 t1) e1 (eqb-true at end t2) e4 e5))))))))))))))))))))))))))))))))
         (λ h2. let t2 : (eqb at end) ≡ false = Walk.is-false _ h2 in
         Walk.skips-then ! (
         Walk.sets ! (Run.addr ! (Run.from ! (Run.fld ! refl (Run.hop ! (Part.look-in ! 8 (Part.sub ! 0 refl (Part.whole !))) (Run.stop !)))))
-        (Run.init ! 17 refl ((tt, tt))) (
-        Walk.sets ! (Part.agg ! (Run.and-then ! (Walk.local ! 17 refl) (Run.and-then ! (Walk.part ! 8 refl refl refl) (Run.no-more !))))
-        (Run.init ! 18 refl ((tt, (tt, (record { fits = is-dead .0 .1 .0 }, tt))))) (
+        (Run.init ! 20 refl ((tt, tt))) (
+        Walk.sets ! (Part.agg ! (Run.and-then ! (Walk.local ! 20 refl) (Run.and-then ! (Walk.part ! 8 refl refl refl) (Run.no-more !))))
+        (Run.init ! 21 refl ((tt, (tt, (record { fits = is-dead .0 .1 .0 }, tt))))) (
         Walk.sets ! (Run.addr ! (Run.from ! (Run.fld ! refl (Run.hop ! (Part.look-in ! 9 (Part.sub ! 0 refl (Part.whole !))) (Run.stop !)))))
-        (Run.init ! 19 refl ((tt, tt))) (
-        Walk.sets ! (Part.agg ! (Run.and-then ! (Walk.local ! 19 refl) (Run.and-then ! (Walk.part ! 9 refl refl refl) (Run.no-more !))))
-        (Run.init ! 20 refl ((tt, (tt, (record { fits = is-pieces .0 .1 .0 }, tt))))) (
+        (Run.init ! 22 refl ((tt, tt))) (
+        Walk.sets ! (Part.agg ! (Run.and-then ! (Walk.local ! 22 refl) (Run.and-then ! (Walk.part ! 9 refl refl refl) (Run.no-more !))))
+        (Run.init ! 23 refl ((tt, (tt, (record { fits = is-notes .0 .1 .0 }, tt))))) (
         let add1 : (at + 1) < 2 ^ 64 = omega (arith, pre .low, (eqb-false at end t2), fits-end) in
-        Walk.sets ! (Run.bin ! (Walk.local ! 13 refl) (Run.lit ! tt) (record { fits = add1 })) (Run.init ! 21 refl ((tt, record { fits = add1 }))) (
-        -- [κ₀; nodes; κ₃; line; the locals; their ends; κ₁; κ₂; pieces; dead]
-        -- call 5: search (left, right, nodes, dead, pieces, line, end, r2, at + 1)
-        Walk.move ! (26 ∷ 23 ∷ []) (Again.lends W (UInt w8) κ₁ q₁ dead (named 1) (named 1) (dead .now) ! tt (λ ν1 δ1.
-        Walk.move ! (27 ∷ 26 ∷ []) (Again.lends W (UInt w8) κ₂ q₂ pieces (named 2) (named 2) (pieces .now) ! tt (λ ν2 δ2.
+        Walk.sets ! (Run.bin ! (Walk.local ! 13 refl) (Run.lit ! tt) (record { fits = add1 })) (Run.init ! 24 refl ((tt, record { fits = add1 }))) (
+        -- [κ₀; nodes; κ₃; line; the locals; their ends; κ₁; κ₂; notes; dead]
+        -- call 6: search (left, right, nodes, dead, notes, line, end, r2, at + 1)
+        Walk.move ! (29 ∷ 26 ∷ []) (Again.lends W (UInt w8) κ₁ q₁ dead (named 1) (named 1) (dead .now) ! tt (λ ν2 δ2.
+        Walk.move ! (30 ∷ 29 ∷ []) (Again.lends W (UInt w64) κ₂ q₂ notes (named 2) (named 2) (notes .now) ! tt (λ ν3 δ3.
         Walk.move ! (7 ∷ 3 ∷ 0 ∷ 6 ∷ []) (
         Walk.gives W (Walk.made ((UInt w8) .own left ((vint w8 left) ∷ [])) (uint-makes 𝓤 H A W w8 left _ (refl, fits-left)) ∷
         Walk.made ((UInt w8) .own right ((vint w8 right) ∷ [])) (uint-makes 𝓤 H A W w8 right _ (refl, fits-right)) ∷
         Walk.copied (T-search-byte-nodes .own nodes (v-search-byte-nodes ∷ []))
-        (shr-slice-copy 𝓤 H A W (named 0) κ₀ Node-T.the-row .twice nodes _) ∷ Walk.kept (MutSlice (named 1) (ν1 ∷ [])
-        (UInt w8) .own (record { ptr = (dead .ptr); name = δ1; now = (dead .now) }) ((sliceVal (dead .ptr) (length (dead .now))) ∷ [])) ∷
-        Walk.kept (MutSlice (named 2) (ν2 ∷ []) (UInt w8) .own (record { ptr = (pieces .ptr); name = δ2; now = (pieces .now) })
-        ((sliceVal (pieces .ptr) (length (pieces .now))) ∷ [])) ∷ Walk.copied (T-search-byte-line .own line (v-search-byte-line ∷ []))
+        (shr-slice-copy 𝓤 H A W (named 0) κ₀ Node-T.the-row .twice nodes _) ∷ Walk.kept (MutSlice (named 1) (ν2 ∷ [])
+        (UInt w8) .own (record { ptr = (dead .ptr); name = δ2; now = (dead .now) }) ((sliceVal (dead .ptr) (length (dead .now))) ∷ [])) ∷
+        Walk.kept (MutSlice (named 2) (ν3 ∷ []) (UInt w64) .own (record { ptr = (notes .ptr); name = δ3; now = (notes .now) })
+        ((sliceVal (notes .ptr) (length (notes .now))) ∷ [])) ∷ Walk.copied (T-search-byte-line .own line (v-search-byte-line ∷ []))
         (shr-slice-copy 𝓤 H A W (named 3) κ₃ (UInt w8) .twice line _) ∷ Walk.made ((UInt w64) .own end ((vint w64 end) ∷ []))
         (uint-makes 𝓤 H A W w64 end _ (refl, fits-end)) ∷ Walk.made ((UInt w64) .own r2 ((vint w64 r2) ∷ []))
         (uint-makes 𝓤 H A W w64 r2 _ (refl, is2 .1)) ∷ Walk.made ((UInt w64) .own (at + 1) ((vint w64 (at + 1)) ∷ []))
         (uint-makes 𝓤 H A W w64 (at + 1) _ (refl, add1)) ∷ []) _ ! (
         Walk.move ! (7 ∷ 6 ∷ 4 ∷ 5 ∷ []) (
-        Walk.tokens-in W ((κ₀, q₀) ∷ ((ν1 ∷ []), fullShare) ∷ ((ν2 ∷ []), fullShare) ∷ (κ₃, q₃) ∷
-        []) _ ! (alive 𝓤 H A f-search.signature (κ₀, ((ν1 ∷ []), ((ν2 ∷ []), (κ₃, tt)))) (q₀, (fullShare, (fullShare, (q₃, tt))))) (id⊢ 𝓤 _) (
+        Walk.tokens-in W ((κ₀, q₀) ∷ ((ν2 ∷ []), fullShare) ∷ ((ν3 ∷ []), fullShare) ∷ (κ₃, q₃) ∷
+        []) _ ! (alive 𝓤 H A f-search.signature (κ₀, ((ν2 ∷ []), ((ν3 ∷ []), (κ₃, tt)))) (q₀, (fullShare, (fullShare, (q₃, tt))))) (id⊢ 𝓤 _) (
         Walk.asksˡ W ! fm f-search.ended (f-search.clauses 𝓤 H A mem run)
-        (((κ₀, ((ν1 ∷ []), ((ν2 ∷ []), (κ₃, tt)))), (q₀, (fullShare, (fullShare, (q₃, tt)))), tt, (left, (right, (nodes, ((record { ptr = (dead .ptr); name = δ1; now = (dead .now) }), ((record { ptr = (pieces .ptr); name = δ2; now = (pieces .now) }), (line, (end, (r2, ((at + 1), tt))))))))), ((vint w8 left) ∷ [], ((vint w8 right) ∷ [], (v-search-byte-nodes ∷ [], ((sliceVal (dead .ptr) (length (dead .now))) ∷ [], ((sliceVal (pieces .ptr) (length (pieces .now))) ∷ [], (v-search-byte-line ∷ [], ((vint w64 end) ∷ [], ((vint w64 r2) ∷ [], ((vint w64 (at + 1)) ∷ [], tt)))))))))), tt) _ (known-search (((κ₀, ((ν1 ∷ []), ((ν2 ∷ []), (κ₃, tt)))), (q₀, (fullShare, (fullShare, (q₃, tt)))), tt, (left, (right, (nodes, ((record { ptr = (dead .ptr); name = δ1; now = (dead .now) }), ((record { ptr = (pieces .ptr); name = δ2; now = (pieces .now) }), (line, (end, (r2, ((at + 1), tt))))))))), ((vint w8 left) ∷ [], ((vint w8 right) ∷ [], (v-search-byte-nodes ∷ [], ((sliceVal (dead .ptr) (length (dead .now))) ∷ [], ((sliceVal (pieces .ptr) (length (pieces .now))) ∷ [], (v-search-byte-line ∷ [], ((vint w64 end) ∷ [], ((vint w64 r2) ∷ [], ((vint w64 (at + 1)) ∷ [], tt)))))))))), tt) (byte-less pre e2 e1 (eqb-false r2 0 t1) (eqb-false at end t2))) (factI 𝓤 _ (emp 𝓤) (asks-byte pre e2 e1 (eqb-false r2 0 t1) (eqb-false at end t2))) (λ r ws. id⊢ 𝓤 _)
+        (((κ₀, ((ν2 ∷ []), ((ν3 ∷ []), (κ₃, tt)))), (q₀, (fullShare, (fullShare, (q₃, tt)))), tt, (left, (right, (nodes, ((record { ptr = (dead .ptr); name = δ2; now = (dead .now) }), ((record { ptr = (notes .ptr); name = δ3; now = (notes .now) }), (line, (end, (r2, ((at + 1), tt))))))))), ((vint w8 left) ∷ [], ((vint w8 right) ∷ [], (v-search-byte-nodes ∷ [], ((sliceVal (dead .ptr) (length (dead .now))) ∷ [], ((sliceVal (notes .ptr) (length (notes .now))) ∷ [], (v-search-byte-line ∷ [], ((vint w64 end) ∷ [], ((vint w64 r2) ∷ [], ((vint w64 (at + 1)) ∷ [], tt)))))))))), tt) _ (known-search (((κ₀, ((ν2 ∷ []), ((ν3 ∷ []), (κ₃, tt)))), (q₀, (fullShare, (fullShare, (q₃, tt)))), tt, (left, (right, (nodes, ((record { ptr = (dead .ptr); name = δ2; now = (dead .now) }), ((record { ptr = (notes .ptr); name = δ3; now = (notes .now) }), (line, (end, (r2, ((at + 1), tt))))))))), ((vint w8 left) ∷ [], ((vint w8 right) ∷ [], (v-search-byte-nodes ∷ [], ((sliceVal (dead .ptr) (length (dead .now))) ∷ [], ((sliceVal (notes .ptr) (length (notes .now))) ∷ [], (v-search-byte-line ∷ [], ((vint w64 end) ∷ [], ((vint w64 r2) ∷ [], ((vint w64 (at + 1)) ∷ [], tt)))))))))), tt) (byte-less pre e2 e1 (eqb-false r2 0 t1) (eqb-false at end t2))) (factI 𝓤 _ (emp 𝓤) (asks-byte pre e2 (eqb-false at end t2))) (λ r ws. id⊢ 𝓤 _)
         (Run.and-then ! (Walk.local ! 6 refl) (Run.and-then ! (Walk.local ! 7 refl) (Run.and-then ! (Walk.local ! 8 refl)
-        (Run.and-then ! (Walk.local ! 19 refl) (Run.and-then ! (Walk.local ! 21 refl) (Run.and-then ! (Walk.local ! 11 refl)
-        (Run.and-then ! (Walk.local ! 12 refl) (Run.and-then ! (Walk.local ! 15 refl) (Run.and-then ! (Walk.local ! 22 refl)
-        (Run.no-more !)))))))))) (λ u5 r5 ws5 is5′ e5.
-        Walk.returned W ((κ₀, q₀) ∷ ((ν1 ∷ []), fullShare) ∷ ((ν2 ∷ []), fullShare) ∷ (κ₃, q₃) ∷ []) (Walk.gone _ ∷ Walk.gone _ ∷ Walk.gone _ ∷
-        Walk.final (finally (UInt w8) δ1 (ws5 .1 .1 .1 .0)) (length (ws5 .1 .1 .1 .0)) (length (dead .now)) ∷
-        Walk.final (finally (UInt w8) δ2 (ws5 .1 .1 .1 .1 .0)) (length (ws5 .1 .1 .1 .1 .0)) (length (pieces .now)) ∷ Walk.gone _ ∷ Walk.gone _ ∷
-        Walk.gone _ ∷ Walk.gone _ ∷ []) ! (id⊢ 𝓤 _) (λ len1 len2.
+        (Run.and-then ! (Walk.local ! 22 refl) (Run.and-then ! (Walk.local ! 24 refl) (Run.and-then ! (Walk.local ! 11 refl)
+        (Run.and-then ! (Walk.local ! 12 refl) (Run.and-then ! (Walk.local ! 15 refl) (Run.and-then ! (Walk.local ! 25 refl)
+        (Run.no-more !)))))))))) (λ u6 r6 ws6 is6′ e6.
+        Walk.returned W ((κ₀, q₀) ∷ ((ν2 ∷ []), fullShare) ∷ ((ν3 ∷ []), fullShare) ∷ (κ₃, q₃) ∷ []) (Walk.gone _ ∷ Walk.gone _ ∷ Walk.gone _ ∷
+        Walk.final (finally (UInt w8) δ2 (ws6 .1 .1 .1 .0)) (length (ws6 .1 .1 .1 .0)) (length (dead .now)) ∷
+        Walk.final (finally (UInt w64) δ3 (ws6 .1 .1 .1 .1 .0)) (length (ws6 .1 .1 .1 .1 .0)) (length (notes .now)) ∷ Walk.gone _ ∷ Walk.gone _ ∷
+        Walk.gone _ ∷ Walk.gone _ ∷ []) ! (id⊢ 𝓤 _) (λ len2 len3.
         Walk.move ! (3 ∷ 8 ∷ 1 ∷ 11 ∷ []) (
-        Again.backs W (UInt w8) κ₁ q₁ dead (named 1) (named 1) (dead .now) ! tt (ws5 .1 .1 .1 .0) (is-dead .0 .1) len1 (
+        Again.backs W (UInt w8) κ₁ q₁ dead (named 1) (named 1) (dead .now) ! tt (ws6 .1 .1 .1 .0) (is-dead .0 .1) len2 (
         Walk.move ! (5 ∷ 8 ∷ 3 ∷ 11 ∷ []) (
-        Again.backs W (UInt w8) κ₂ q₂ pieces (named 2) (named 2) (pieces .now) ! tt (ws5 .1 .1 .1 .1 .0) (is-pieces .0 .1) len2 (
-        Walk.lands-in ! (Walk.init-as ! 10 refl (LL.lawful Outcome-T.the-type Outcome-L.the-laws 𝓤 H A W .typed r5 _ is5′ .0)
-        (ap only (LL.tells Outcome-T.the-type Outcome-L.the-laws r5 _ is5′))) (
-        let is5 : Is Outcome-T.the-row r5 ((Outcome-L.lowered r5) ∷ []) = subst (λ (vs : List Val). Is Outcome-T.the-row r5 vs)
-        (LL.tells Outcome-T.the-type Outcome-L.the-laws r5 _ is5′) is5′ in
-        Walk.written-out ! (‵ (T-search-byte-pieces .own (at-last pieces (ws5 .1 .1 .1 .1 .0)) (sliceVal (pieces .ptr)
-        (length (ws5 .1 .1 .1 .1 .0)) ∷ [])) ∷ ‵ (flft κ₂ q₂) ∷ ‵ (fat fullShare Y-search-byte-pieces l₅ 0 (sliceVal (pieces .ptr)
-        (length (ws5 .1 .1 .1 .1 .0)))) ∷ ‵ (T-search-byte-dead .own (at-last dead (ws5 .1 .1 .1 .0)) (sliceVal (dead .ptr)
-        (length (ws5 .1 .1 .1 .0)) ∷ [])) ∷ ‵ (flft κ₁ q₁) ∷ ‵ (fat fullShare Y-search-byte-dead l₄ 0 (sliceVal (dead .ptr)
-        (length (ws5 .1 .1 .1 .0)))) ∷ ‵ (flft κ₀ q₀) ∷ ‵ (flft κ₃ q₃) ∷ ‵ (T-search-byte-nodes .own nodes (sliceVal (nodes .ptr)
-        (length (nodes .now)) ∷ [])) ∷ ‵ (T-search-byte-line .own line (sliceVal (line .ptr) (length (line .now)) ∷ [])) ∷
-        ‵ (fat fullShare Outcome-L.mir l₀ 0 (Outcome-L.lowered r5)) ∷ ‵ (fat fullShare (tyInt w8) l₁ 0 (vint w8 left)) ∷
+        Again.backs W (UInt w64) κ₂ q₂ notes (named 2) (named 2) (notes .now) ! tt (ws6 .1 .1 .1 .1 .0) (is-notes .0 .1) len3 (
+        Walk.lands-in ! (Walk.init-as ! 10 refl (LL.lawful Outcome-T.the-type Outcome-L.the-laws 𝓤 H A W .typed r6 _ is6′ .0)
+        (ap only (LL.tells Outcome-T.the-type Outcome-L.the-laws r6 _ is6′))) (
+        let is6 : Is Outcome-T.the-row r6 ((Outcome-L.lowered r6) ∷ []) = subst (λ (vs : List Val). Is Outcome-T.the-row r6 vs)
+        (LL.tells Outcome-T.the-type Outcome-L.the-laws r6 _ is6′) is6′ in
+        Walk.written-out ! (‵ (T-search-byte-notes .own (at-last notes (ws6 .1 .1 .1 .1 .0)) (sliceVal (notes .ptr) (length (ws6 .1 .1 .1 .1 .0)) ∷
+        [])) ∷ ‵ (flft κ₂ q₂) ∷ ‵ (fat fullShare Y-search-byte-notes l₅ 0 (sliceVal (notes .ptr) (length (ws6 .1 .1 .1 .1 .0)))) ∷
+        ‵ (T-search-byte-dead .own (at-last dead (ws6 .1 .1 .1 .0)) (sliceVal (dead .ptr) (length (ws6 .1 .1 .1 .0)) ∷ [])) ∷ ‵ (flft κ₁ q₁) ∷
+        ‵ (fat fullShare Y-search-byte-dead l₄ 0 (sliceVal (dead .ptr) (length (ws6 .1 .1 .1 .0)))) ∷ ‵ (flft κ₀ q₀) ∷ ‵ (flft κ₃ q₃) ∷
+        ‵ (T-search-byte-nodes .own nodes (sliceVal (nodes .ptr) (length (nodes .now)) ∷ [])) ∷
+        ‵ (T-search-byte-line .own line (sliceVal (line .ptr) (length (line .now)) ∷ [])) ∷
+        ‵ (fat fullShare Outcome-L.mir l₀ 0 (Outcome-L.lowered r6)) ∷ ‵ (fat fullShare (tyInt w8) l₁ 0 (vint w8 left)) ∷
         ‵ (fat fullShare (tyInt w8) l₂ 0 (vint w8 right)) ∷ ‵ (fat fullShare Y-search-byte-nodes l₃ 0 (sliceVal (nodes .ptr)
         (length (nodes .now)))) ∷ ‵ (fat fullShare Y-search-byte-line l₆ 0 (sliceVal (line .ptr) (length (line .now)))) ∷
         ‵ (fat fullShare (tyInt w64) l₇ 0 (vint w64 end)) ∷ ‵ (fat fullShare (tyInt w64) l₈ 0 (vint w64 node)) ∷
         ‵ (fat fullShare (tyInt w64) l₉ 0 (vint w64 at)) ∷ ‵ (fat fullShare (tyInt w64) l₁₀ 0 (vint w64 r2)) ∷
-        ‵ (fat fullShare (tyInt w16) l₁₁ 0 (vint w16 r1)) ∷ ‵ (fat fullShare tyBool l₁₂ 0 (vbool (eqb at end))) ∷
-        ‵ (fat fullShare (tyRef erased mut (pointee ((UInt w8) .written))) l₁₃ 0 (vptr (dead .ptr .0) (dead .ptr .1))) ∷
-        ‵ (fat fullShare (sliceTy (tyRef erased mut (pointee ((UInt w8) .written)))) l₁₄ 0 (sliceVal (dead .ptr) (length (dead .now)))) ∷
-        ‵ (fat fullShare (tyRef erased mut (pointee ((UInt w8) .written))) l₁₅ 0 (vptr (pieces .ptr .0) (pieces .ptr .1))) ∷
-        ‵ (fat fullShare (sliceTy (tyRef erased mut (pointee ((UInt w8) .written)))) l₁₆ 0 (sliceVal (pieces .ptr) (length (pieces .now)))) ∷
-        ‵ (fat fullShare (tyInt w64) l₁₇ 0 (vint w64 (at + 1))) ∷ ‵ Fd ∷ []) refl (
+        ‵ (fat fullShare (tyInt w16) l₁₁ 0 (vint w16 r1)) ∷ ‵ (fat fullShare tyBool l₁₂ 0 (vbool (eqb at end))) ∷ ‵ (froom tyUnit l₁₃ 0) ∷
+        ‵ (froom (tyRef erased mut (pointee ((UInt w64) .written))) l₁₄ 0) ∷
+        ‵ (froom (sliceTy (tyRef erased mut (pointee ((UInt w64) .written)))) l₁₅ 0) ∷
+        ‵ (fat fullShare (tyRef erased mut (pointee ((UInt w8) .written))) l₁₆ 0 (vptr (dead .ptr .0) (dead .ptr .1))) ∷
+        ‵ (fat fullShare (sliceTy (tyRef erased mut (pointee ((UInt w8) .written)))) l₁₇ 0 (sliceVal (dead .ptr) (length (dead .now)))) ∷
+        ‵ (fat fullShare (tyRef erased mut (pointee ((UInt w64) .written))) l₁₈ 0 (vptr (notes .ptr .0) (notes .ptr .1))) ∷
+        ‵ (fat fullShare (sliceTy (tyRef erased mut (pointee ((UInt w64) .written)))) l₁₉ 0 (sliceVal (notes .ptr) (length (notes .now)))) ∷
+        ‵ (fat fullShare (tyInt w64) l₂₀ 0 (vint w64 (at + 1))) ∷ ‵ Fd ∷ []) refl (
         Walk.returns-by ! Post-search-byte refl (Run.look ! 10 refl) (
-        Walk.move ! (10 ∷ 10 ∷ 10 ∷ 10 ∷ 5 ∷ 2 ∷ 8 ∷ 8 ∷ 8 ∷ 8 ∷ 8 ∷ 8 ∷ 8 ∷ 8 ∷ 8 ∷ 8 ∷ 8 ∷ 8 ∷ 8 ∷ []) (
-        Walk.frees-gathered ! (Walk.full Outcome-L.mir l₀ (Outcome-L.lowered r5) ∷ Walk.full (tyInt w8) l₁ (vint w8 left) ∷
+        Walk.move ! (10 ∷ 10 ∷ 10 ∷ 10 ∷ 5 ∷ 2 ∷ 8 ∷ 8 ∷ 8 ∷ 8 ∷ 8 ∷ 8 ∷ 8 ∷ 8 ∷ 8 ∷ 8 ∷ 8 ∷ 8 ∷ 8 ∷ 8 ∷ 8 ∷ 8 ∷ []) (
+        Walk.frees-gathered ! (Walk.full Outcome-L.mir l₀ (Outcome-L.lowered r6) ∷ Walk.full (tyInt w8) l₁ (vint w8 left) ∷
         Walk.full (tyInt w8) l₂ (vint w8 right) ∷ Walk.full Y-search-byte-nodes l₃ (sliceVal (nodes .ptr) (length (nodes .now))) ∷
-        Walk.full Y-search-byte-dead l₄ (sliceVal (dead .ptr) (length (ws5 .1 .1 .1 .0))) ∷
-        Walk.full Y-search-byte-pieces l₅ (sliceVal (pieces .ptr) (length (ws5 .1 .1 .1 .1 .0))) ∷
-        Walk.full Y-search-byte-line l₆ (sliceVal (line .ptr) (length (line .now))) ∷ Walk.full (tyInt w64) l₇ (vint w64 end) ∷
-        Walk.full (tyInt w64) l₈ (vint w64 node) ∷ Walk.full (tyInt w64) l₉ (vint w64 at) ∷ Walk.full (tyInt w64) l₁₀ (vint w64 r2) ∷
-        Walk.full (tyInt w16) l₁₁ (vint w16 r1) ∷ Walk.full tyBool l₁₂ (vbool (eqb at end)) ∷
-        Walk.full (tyRef erased mut (pointee ((UInt w8) .written))) l₁₃ (vptr (dead .ptr .0) (dead .ptr .1)) ∷
-        Walk.full (sliceTy (tyRef erased mut (pointee ((UInt w8) .written)))) l₁₄ (sliceVal (dead .ptr) (length (dead .now))) ∷
-        Walk.full (tyRef erased mut (pointee ((UInt w8) .written))) l₁₅ (vptr (pieces .ptr .0) (pieces .ptr .1)) ∷
-        Walk.full (sliceTy (tyRef erased mut (pointee ((UInt w8) .written)))) l₁₆ (sliceVal (pieces .ptr) (length (pieces .now))) ∷
-        Walk.full (tyInt w64) l₁₇ (vint w64 (at + 1)) ∷ []) Fd ed (‵ (T-search-byte-pieces .own (at-last pieces (ws5 .1 .1 .1 .1 .0))
-        (sliceVal (pieces .ptr) (length (ws5 .1 .1 .1 .1 .0)) ∷ [])) ∷ ‵ (flft κ₂ q₂) ∷ ‵ (T-search-byte-dead .own (at-last dead (ws5 .1 .1 .1 .0))
-        (sliceVal (dead .ptr) (length (ws5 .1 .1 .1 .0)) ∷ [])) ∷ ‵ (flft κ₁ q₁) ∷ ‵ (flft κ₀ q₀) ∷ ‵ (flft κ₃ q₃) ∷
+        Walk.full Y-search-byte-dead l₄ (sliceVal (dead .ptr) (length (ws6 .1 .1 .1 .0))) ∷ Walk.full Y-search-byte-notes l₅ (sliceVal (notes .ptr)
+        (length (ws6 .1 .1 .1 .1 .0))) ∷ Walk.full Y-search-byte-line l₆ (sliceVal (line .ptr) (length (line .now))) ∷
+        Walk.full (tyInt w64) l₇ (vint w64 end) ∷ Walk.full (tyInt w64) l₈ (vint w64 node) ∷ Walk.full (tyInt w64) l₉ (vint w64 at) ∷
+        Walk.full (tyInt w64) l₁₀ (vint w64 r2) ∷ Walk.full (tyInt w16) l₁₁ (vint w16 r1) ∷ Walk.full tyBool l₁₂ (vbool (eqb at end)) ∷
+        Walk.bare tyUnit l₁₃ ∷ Walk.bare (tyRef erased mut (pointee ((UInt w64) .written))) l₁₄ ∷
+        Walk.bare (sliceTy (tyRef erased mut (pointee ((UInt w64) .written)))) l₁₅ ∷
+        Walk.full (tyRef erased mut (pointee ((UInt w8) .written))) l₁₆ (vptr (dead .ptr .0) (dead .ptr .1)) ∷
+        Walk.full (sliceTy (tyRef erased mut (pointee ((UInt w8) .written)))) l₁₇ (sliceVal (dead .ptr) (length (dead .now))) ∷
+        Walk.full (tyRef erased mut (pointee ((UInt w64) .written))) l₁₈ (vptr (notes .ptr .0) (notes .ptr .1)) ∷
+        Walk.full (sliceTy (tyRef erased mut (pointee ((UInt w64) .written)))) l₁₉ (sliceVal (notes .ptr) (length (notes .now))) ∷
+        Walk.full (tyInt w64) l₂₀ (vint w64 (at + 1)) ∷ []) Fd ed (‵ (T-search-byte-notes .own (at-last notes (ws6 .1 .1 .1 .1 .0))
+        (sliceVal (notes .ptr) (length (ws6 .1 .1 .1 .1 .0)) ∷ [])) ∷ ‵ (flft κ₂ q₂) ∷ ‵ (T-search-byte-dead .own (at-last dead (ws6 .1 .1 .1 .0))
+        (sliceVal (dead .ptr) (length (ws6 .1 .1 .1 .0)) ∷ [])) ∷ ‵ (flft κ₁ q₁) ∷ ‵ (flft κ₀ q₀) ∷ ‵ (flft κ₃ q₃) ∷
         ‵ (T-search-byte-nodes .own nodes (sliceVal (nodes .ptr) (length (nodes .now)) ∷ [])) ∷
         ‵ (T-search-byte-line .own line (sliceVal (line .ptr) (length (line .now)) ∷ [])) ∷ []) (
         Walk.move ! (2 ∷ 0 ∷ []) (
-        Walk.gives W (Walk.nothing ∷ Walk.nothing ∷ Walk.nothing ∷ Walk.turned (T-search-byte-dead .own (at-last dead (ws5 .1 .1 .1 .0))
-        (sliceVal (dead .ptr) (length (ws5 .1 .1 .1 .0)) ∷ [])) (finally (UInt w8) (dead .name) (ws5 .1 .1 .1 .0))
-        (Walk.ended-slice 𝓤 H A W (named 1) κ₁ (UInt w8) dead (ws5 .1 .1 .1 .0) _) ∷
-        Walk.turned (T-search-byte-pieces .own (at-last pieces (ws5 .1 .1 .1 .1 .0)) (sliceVal (pieces .ptr) (length (ws5 .1 .1 .1 .1 .0)) ∷ []))
-        (finally (UInt w8) (pieces .name) (ws5 .1 .1 .1 .1 .0)) (Walk.ended-slice 𝓤 H A W (named 2) κ₂ (UInt w8) pieces (ws5 .1 .1 .1 .1 .0) _) ∷
+        Walk.gives W (Walk.nothing ∷ Walk.nothing ∷ Walk.nothing ∷ Walk.turned (T-search-byte-dead .own (at-last dead (ws6 .1 .1 .1 .0))
+        (sliceVal (dead .ptr) (length (ws6 .1 .1 .1 .0)) ∷ [])) (finally (UInt w8) (dead .name) (ws6 .1 .1 .1 .0))
+        (Walk.ended-slice 𝓤 H A W (named 1) κ₁ (UInt w8) dead (ws6 .1 .1 .1 .0) _) ∷
+        Walk.turned (T-search-byte-notes .own (at-last notes (ws6 .1 .1 .1 .1 .0)) (sliceVal (notes .ptr) (length (ws6 .1 .1 .1 .1 .0)) ∷ []))
+        (finally (UInt w64) (notes .name) (ws6 .1 .1 .1 .1 .0)) (Walk.ended-slice 𝓤 H A W (named 2) κ₂ (UInt w64) notes (ws6 .1 .1 .1 .1 .0) _) ∷
         Walk.nothing ∷ Walk.nothing ∷ Walk.nothing ∷ Walk.nothing ∷ []) _ ! (
         Walk.move ! (3 ∷ 2 ∷ 1 ∷ 1 ∷ []) (
         Walk.tokens-in W ((κ₀, q₀) ∷ (κ₁, q₁) ∷ (κ₂, q₂) ∷ (κ₃, q₃) ∷ []) _ ! (alive 𝓤 H A f-search-byte.signature (κ₀, (κ₁, (κ₂, (κ₃, tt))))
         (q₀, (q₁, (q₂, (q₃, tt))))) (id⊢ 𝓤 _) (
-        Walk.use0 W ! (‵ (Outcome-T.the-row .own r5 ((Outcome-L.lowered r5) ∷ []))) (LL.makes Outcome-T.the-type Outcome-L.the-plain 𝓤 H A r5 _ is5) (
+        Walk.use0 W ! (‵ (Outcome-T.the-row .own r6 ((Outcome-L.lowered r6) ∷ []))) (LL.makes Outcome-T.the-type Outcome-L.the-plain 𝓤 H A r6 _ is6) (
         Walk.keep ! (1 ∷ 1 ∷ 0 ∷ []) (
-        Kit.by ! (Walk.leave-by 𝓤 H A W f-search-byte.ended (f-search-byte.clauses 𝓤 H A mem run) stayed-search-byte bound-search-byte (Outcome-L.lowered r5) r5 (tt, (tt, (tt, ((ws5 .1 .1 .1 .0), ((ws5 .1 .1 .1 .1 .0), (tt, (tt, (tt, (tt, tt))))))))) (tt, (tt, (tt, ((len1 ∙ refl), ((len2 ∙ refl), (tt, (tt, (tt, (tt, tt))))))))) (factI 𝓤 _ (emp 𝓤) (byte-below pre e2 (eqb-false r2 0 t1) e1 (eqb-false at end t2) e5))))))))))))))))))))))))))))))))))))))))))))))))))))))))))))))))))))))))))))))))))))))))))))))
+        Kit.by ! (Walk.leave-by 𝓤 H A W f-search-byte.ended (f-search-byte.clauses 𝓤 H A mem run) stayed-search-byte bound-search-byte (Outcome-L.lowered r6) r6 (tt, (tt, (tt, ((ws6 .1 .1 .1 .0), ((ws6 .1 .1 .1 .1 .0), (tt, (tt, (tt, (tt, tt))))))))) (tt, (tt, (tt, ((len2 ∙ refl), ((len3 ∙ refl), (tt, (tt, (tt, (tt, tt))))))))) (factI 𝓤 _ (emp 𝓤) (byte-below pre e2 (eqb-false r2 0 t1) e1 (eqb-false at end t2) e6)))))))))))))))))))))))))))))))))))))))))))))))))))))))))))))))))))))))))))))))))))))))))))))))))
 
 module _ {M : Type 1} (𝓤 : URA M) (H : Heap 𝓤) (A : Atoms 𝓤) (W : Given 𝓤 H A) (mem : Memory → SProp 𝓤) (run : Routine → Fun 𝓤) (κ₀ : Lft)
     (q₀ : Share) (κ₁ : Lft) (q₁ : Share) (κ₂ : Lft) (q₂ : Share) (κ₃ : Lft) (q₃ : Share) (left : ℕ) (right : ℕ) (nodes : RefT (List Node))
-    (dead : RefT (List ℕ)) (pieces : RefT (List ℕ)) (line : RefT (List ℕ)) (end : ℕ) (node : ℕ) (at : ℕ) where
+    (dead : RefT (List ℕ)) (notes : RefT (List ℕ)) (line : RefT (List ℕ)) (end : ℕ) (node : ℕ) (at : ℕ) where
   abbrev T-search-piece-nodes : RattleType
   T-search-piece-nodes = ShrSlice (named 0) κ₀ Node-T.the-row
 
@@ -1585,14 +1694,14 @@ module _ {M : Type 1} (𝓤 : URA M) (H : Heap 𝓤) (A : Atoms 𝓤) (W : Given
   abbrev v-search-piece-dead : Val
   v-search-piece-dead = sliceVal (dead .ptr) (length (dead .now))
 
-  abbrev T-search-piece-pieces : RattleType
-  T-search-piece-pieces = MutSlice (named 2) κ₂ (UInt w8)
+  abbrev T-search-piece-notes : RattleType
+  T-search-piece-notes = MutSlice (named 2) κ₂ (UInt w64)
 
-  abbrev Y-search-piece-pieces : Ty
-  Y-search-piece-pieces = sliceTy (tyRef (named 2) mut (pointee ((UInt w8) .written)))
+  abbrev Y-search-piece-notes : Ty
+  Y-search-piece-notes = sliceTy (tyRef (named 2) mut (pointee ((UInt w64) .written)))
 
-  abbrev v-search-piece-pieces : Val
-  v-search-piece-pieces = sliceVal (pieces .ptr) (length (pieces .now))
+  abbrev v-search-piece-notes : Val
+  v-search-piece-notes = sliceVal (notes .ptr) (length (notes .now))
 
   abbrev T-search-piece-line : RattleType
   T-search-piece-line = ShrSlice (named 3) κ₃ (UInt w8)
@@ -1604,7 +1713,7 @@ module _ {M : Type 1} (𝓤 : URA M) (H : Heap 𝓤) (A : Atoms 𝓤) (W : Given
   v-search-piece-line = sliceVal (line .ptr) (length (line .now))
 
   abbrev bound-search-piece : Walk.Of 𝓤 H A f-search-piece.ended (f-search-piece.clauses 𝓤 H A mem run) .Ghost
-  bound-search-piece = (((κ₀, (κ₁, (κ₂, (κ₃, tt)))), (q₀, (q₁, (q₂, (q₃, tt)))), tt, (left, (right, (nodes, (dead, (pieces, (line, (end, (node, (at, tt))))))))), ((vint w8 left) ∷ [], ((vint w8 right) ∷ [], (v-search-piece-nodes ∷ [], (v-search-piece-dead ∷ [], (v-search-piece-pieces ∷ [], (v-search-piece-line ∷ [], ((vint w64 end) ∷ [], ((vint w64 node) ∷ [], ((vint w64 at) ∷ [], tt)))))))))), tt)
+  bound-search-piece = (((κ₀, (κ₁, (κ₂, (κ₃, tt)))), (q₀, (q₁, (q₂, (q₃, tt)))), tt, (left, (right, (nodes, (dead, (notes, (line, (end, (node, (at, tt))))))))), ((vint w8 left) ∷ [], ((vint w8 right) ∷ [], (v-search-piece-nodes ∷ [], (v-search-piece-dead ∷ [], (v-search-piece-notes ∷ [], (v-search-piece-line ∷ [], ((vint w64 end) ∷ [], ((vint w64 node) ∷ [], ((vint w64 at) ∷ [], tt)))))))))), tt)
 
   abbrev Post-search-piece : Val → SProp 𝓤
   Post-search-piece = walkOf 𝓤 H A f-search-piece.ended stayed-search-piece (f-search-piece.clauses 𝓤 H A mem run) .post bound-search-piece
@@ -1616,79 +1725,79 @@ module _ {M : Type 1} (𝓤 : URA M) (H : Heap 𝓤) (A : Atoms 𝓤) (W : Given
       (Walk.Of 𝓤 H A g-holes-of.ended (g-holes-of.clauses 𝓤 H A mem run))) (known-store-piece : Triple 𝓤 (C #g-store-piece)
       (Walk.Of 𝓤 H A g-store-piece.ended (g-store-piece.clauses 𝓤 H A mem run)))
       (known-search : (y : Walk.Of 𝓤 H A f-search.ended (f-search.clauses 𝓤 H A mem run) .Ghost)
-      → μ-search 𝓤 H A mem run y < measure-search-piece left right nodes dead pieces line end node at
+      → μ-search 𝓤 H A mem run y < measure-search-piece left right nodes dead notes line end node at
       → ent 𝓤 (Walk.Of 𝓤 H A f-search.ended (f-search.clauses 𝓤 H A mem run) .pre y)
       (C #search (Walk.Of 𝓤 H A f-search.ended (f-search.clauses 𝓤 H A mem run) .args y)
       (Walk.Of 𝓤 H A f-search.ended (f-search.clauses 𝓤 H A mem run) .post y)))
       (known-search-atom : (y : Walk.Of 𝓤 H A f-search-atom.ended (f-search-atom.clauses 𝓤 H A mem run) .Ghost)
-      → μ-search-atom 𝓤 H A mem run y < measure-search-piece left right nodes dead pieces line end node at
+      → μ-search-atom 𝓤 H A mem run y < measure-search-piece left right nodes dead notes line end node at
       → ent 𝓤 (Walk.Of 𝓤 H A f-search-atom.ended (f-search-atom.clauses 𝓤 H A mem run) .pre y)
       (C #search-atom (Walk.Of 𝓤 H A f-search-atom.ended (f-search-atom.clauses 𝓤 H A mem run) .args y)
       (Walk.Of 𝓤 H A f-search-atom.ended (f-search-atom.clauses 𝓤 H A mem run) .post y)))
       (known-search-byte : (y : Walk.Of 𝓤 H A f-search-byte.ended (f-search-byte.clauses 𝓤 H A mem run) .Ghost)
-      → μ-search-byte 𝓤 H A mem run y < measure-search-piece left right nodes dead pieces line end node at
+      → μ-search-byte 𝓤 H A mem run y < measure-search-piece left right nodes dead notes line end node at
       → ent 𝓤 (Walk.Of 𝓤 H A f-search-byte.ended (f-search-byte.clauses 𝓤 H A mem run) .pre y)
       (C #search-byte (Walk.Of 𝓤 H A f-search-byte.ended (f-search-byte.clauses 𝓤 H A mem run) .args y)
       (Walk.Of 𝓤 H A f-search-byte.ended (f-search-byte.clauses 𝓤 H A mem run) .post y)))
       (known-search-piece : (y : Walk.Of 𝓤 H A f-search-piece.ended (f-search-piece.clauses 𝓤 H A mem run) .Ghost)
-      → μ-search-piece 𝓤 H A mem run y < measure-search-piece left right nodes dead pieces line end node at
+      → μ-search-piece 𝓤 H A mem run y < measure-search-piece left right nodes dead notes line end node at
       → ent 𝓤 (Walk.Of 𝓤 H A f-search-piece.ended (f-search-piece.clauses 𝓤 H A mem run) .pre y)
       (C #search-piece (Walk.Of 𝓤 H A f-search-piece.ended (f-search-piece.clauses 𝓤 H A mem run) .args y)
       (Walk.Of 𝓤 H A f-search-piece.ended (f-search-piece.clauses 𝓤 H A mem run) .post y)))
       (known-take-up : (y : Walk.Of 𝓤 H A f-take-up.ended (f-take-up.clauses 𝓤 H A mem run) .Ghost)
-      → μ-take-up 𝓤 H A mem run y < measure-search-piece left right nodes dead pieces line end node at
+      → μ-take-up 𝓤 H A mem run y < measure-search-piece left right nodes dead notes line end node at
       → ent 𝓤 (Walk.Of 𝓤 H A f-take-up.ended (f-take-up.clauses 𝓤 H A mem run) .pre y)
       (C #take-up (Walk.Of 𝓤 H A f-take-up.ended (f-take-up.clauses 𝓤 H A mem run) .args y)
       (Walk.Of 𝓤 H A f-take-up.ended (f-take-up.clauses 𝓤 H A mem run) .post y))) where
     walk-search-piece : (fits-left : left < 2 ^ 8) → (fits-right : right < 2 ^ 8)
         → (is-nodes : Is T-search-piece-nodes nodes (v-search-piece-nodes ∷ [])) → (is-dead : Is T-search-piece-dead dead (v-search-piece-dead ∷
-        [])) → (is-pieces : Is T-search-piece-pieces pieces (v-search-piece-pieces ∷ []))
+        [])) → (is-notes : Is T-search-piece-notes notes (v-search-piece-notes ∷ []))
         → (is-line : Is T-search-piece-line line (v-search-piece-line ∷ [])) → (fits-end : end < 2 ^ 64) → (fits-node : node < 2 ^ 64)
-        → (fits-at : at < 2 ^ 64) → (pre : Asks (now nodes) (now dead) (now pieces) (now line) end node at)
+        → (fits-at : at < 2 ^ 64) → (pre : Asks (now nodes) (now dead) (now notes) (now line) end node at)
         → ent 𝓤 (onEntry 𝓤 H A f-search-piece.signature (κ₀, (κ₁, (κ₂, (κ₃, tt)))) (q₀, (q₁, (q₂, (q₃, tt))))
-        (left, (right, (nodes, (dead, (pieces, (line, (end, (node, (at, tt)))))))))
-        ((vint w8 left) ∷ [], ((vint w8 right) ∷ [], (v-search-piece-nodes ∷ [], (v-search-piece-dead ∷ [], (v-search-piece-pieces ∷ [], (v-search-piece-line ∷ [], ((vint w64 end) ∷ [], ((vint w64 node) ∷ [], ((vint w64 at) ∷ [], tt)))))))))) (WpFn 𝓤 H C Λ code.search-piece-function ((vint w8 left) ∷ (vint w8 right) ∷ v-search-piece-nodes ∷ v-search-piece-dead ∷ v-search-piece-pieces ∷ v-search-piece-line ∷ (vint w64 end) ∷ (vint w64 node) ∷ (vint w64 at) ∷ []) Post-search-piece)
-    walk-search-piece fits-left fits-right is-nodes is-dead is-pieces is-line fits-end fits-node fits-at pre =
+        (left, (right, (nodes, (dead, (notes, (line, (end, (node, (at, tt)))))))))
+        ((vint w8 left) ∷ [], ((vint w8 right) ∷ [], (v-search-piece-nodes ∷ [], (v-search-piece-dead ∷ [], (v-search-piece-notes ∷ [], (v-search-piece-line ∷ [], ((vint w64 end) ∷ [], ((vint w64 node) ∷ [], ((vint w64 at) ∷ [], tt)))))))))) (WpFn 𝓤 H C Λ code.search-piece-function ((vint w8 left) ∷ (vint w8 right) ∷ v-search-piece-nodes ∷ v-search-piece-dead ∷ v-search-piece-notes ∷ v-search-piece-line ∷ (vint w64 end) ∷ (vint w64 node) ∷ (vint w64 at) ∷ []) Post-search-piece)
+    walk-search-piece fits-left fits-right is-nodes is-dead is-notes is-line fits-end fits-node fits-at pre =
         Kit.qed W (raw (alive 𝓤 H A f-search-piece.signature (κ₀, (κ₁, (κ₂, (κ₃, tt)))) (q₀, (q₁, (q₂, (q₃, tt))))) ∷ ‵ (owns ((UInt w8) ∷
-        (UInt w8) ∷ T-search-piece-nodes ∷ T-search-piece-dead ∷ T-search-piece-pieces ∷ T-search-piece-line ∷ (UInt w64) ∷ (UInt w64) ∷
-        (UInt w64) ∷ []) (left, (right, (nodes, (dead, (pieces, (line, (end, (node, (at, tt)))))))))
-        ((vint w8 left) ∷ [], ((vint w8 right) ∷ [], (v-search-piece-nodes ∷ [], (v-search-piece-dead ∷ [], (v-search-piece-pieces ∷ [], (v-search-piece-line ∷ [], ((vint w64 end) ∷ [], ((vint w64 node) ∷ [], ((vint w64 at) ∷ [], tt)))))))))) ∷ []) ∵
+        (UInt w8) ∷ T-search-piece-nodes ∷ T-search-piece-dead ∷ T-search-piece-notes ∷ T-search-piece-line ∷ (UInt w64) ∷ (UInt w64) ∷ (UInt w64) ∷
+        []) (left, (right, (nodes, (dead, (notes, (line, (end, (node, (at, tt)))))))))
+        ((vint w8 left) ∷ [], ((vint w8 right) ∷ [], (v-search-piece-nodes ∷ [], (v-search-piece-dead ∷ [], (v-search-piece-notes ∷ [], (v-search-piece-line ∷ [], ((vint w64 end) ∷ [], ((vint w64 node) ∷ [], ((vint w64 at) ∷ [], tt)))))))))) ∷ []) ∵
         Walk.move ! (1 ∷ []) (
         Walk.hears W (Walk.gone ((UInt w8) .own left ((vint w8 left) ∷ [])) ∷ Walk.gone ((UInt w8) .own right ((vint w8 right) ∷ [])) ∷
         Walk.stays (T-search-piece-nodes .own nodes (v-search-piece-nodes ∷ [])) ∷ Walk.stays (T-search-piece-dead .own dead (v-search-piece-dead ∷
-        [])) ∷ Walk.stays (T-search-piece-pieces .own pieces (v-search-piece-pieces ∷ [])) ∷
+        [])) ∷ Walk.stays (T-search-piece-notes .own notes (v-search-piece-notes ∷ [])) ∷
         Walk.stays (T-search-piece-line .own line (v-search-piece-line ∷ [])) ∷ Walk.gone ((UInt w64) .own end ((vint w64 end) ∷ [])) ∷
         Walk.gone ((UInt w64) .own node ((vint w64 node) ∷ [])) ∷ Walk.gone ((UInt w64) .own at ((vint w64 at) ∷ [])) ∷ []) ! (
         Walk.move ! (4 ∷ []) (Walk.tokens-out W ((κ₀, q₀) ∷ (κ₁, q₁) ∷ (κ₂, q₂) ∷ (κ₃, q₃) ∷ []) ! (id⊢ 𝓤 _) (
         Walk.enter ! C Λ code.search-piece-function ((vint w8 left) ∷ (vint w8 right) ∷ v-search-piece-nodes ∷ v-search-piece-dead ∷
-        v-search-piece-pieces ∷ v-search-piece-line ∷ (vint w64 end) ∷ (vint w64 node) ∷ (vint w64 at) ∷ []) Post-search-piece (
+        v-search-piece-notes ∷ v-search-piece-line ∷ (vint w64 end) ∷ (vint w64 node) ∷ (vint w64 at) ∷ []) Post-search-piece (
         Run.alloc1 ! (λ l₀. Run.alloc1 ! (λ l₁. Run.alloc1 ! (λ l₂. Run.alloc1 ! (λ l₃. Run.alloc1 ! (λ l₄. Run.alloc1 ! (λ l₅. Run.alloc1 ! (λ l₆. Run.alloc1 ! (λ l₇. Run.alloc1 ! (λ l₈. Run.alloc1 ! (λ l₉. Run.alloc1 ! (λ l₁₀. Run.alloc1 ! (λ l₁₁. Run.alloc1 ! (λ l₁₂. Run.alloc1 ! (λ l₁₃. Run.alloc1 ! (λ l₁₄. Run.alloc1 ! (λ l₁₅. Run.alloc1 ! (λ l₁₆. Run.alloc1 ! (λ l₁₇. Run.alloc1 ! (λ l₁₈. Run.alloc1 ! (λ l₁₉. Run.alloc1 ! (λ l₂₀.
         let E : Env 𝓤 H = Walk.at-addresses (code.search-piece-function .locals) (l₀ ∷ l₁ ∷ l₂ ∷ l₃ ∷ l₄ ∷ l₅ ∷ l₆ ∷ l₇ ∷ l₈ ∷ l₉ ∷ l₁₀ ∷ l₁₁ ∷
         l₁₂ ∷ l₁₃ ∷ l₁₄ ∷ l₁₅ ∷ l₁₆ ∷ l₁₇ ∷ l₁₈ ∷ l₁₉ ∷ l₂₀ ∷ []) in
         Walk.move ! (40 ∷ 40 ∷ 38 ∷ 38 ∷ 36 ∷ 36 ∷ 34 ∷ 34 ∷ 32 ∷ 32 ∷ 30 ∷ 30 ∷ 28 ∷ 28 ∷ 26 ∷ 26 ∷ 24 ∷ 24 ∷ 22 ∷ 22 ∷ 20 ∷ 20 ∷ 18 ∷ 18 ∷ 16 ∷
         16 ∷ 14 ∷ 14 ∷ 12 ∷ 12 ∷ 10 ∷ 10 ∷ 8 ∷ 8 ∷ 6 ∷ 6 ∷ 4 ∷ 4 ∷ 2 ∷ 2 ∷ 0 ∷ 0 ∷ []) (
         Walk.gathers ! (Walk.bare Outcome-L.mir l₀ ∷ Walk.bare (tyInt w8) l₁ ∷ Walk.bare (tyInt w8) l₂ ∷ Walk.bare Y-search-piece-nodes l₃ ∷
-        Walk.bare Y-search-piece-dead l₄ ∷ Walk.bare Y-search-piece-pieces l₅ ∷ Walk.bare Y-search-piece-line l₆ ∷ Walk.bare (tyInt w64) l₇ ∷
+        Walk.bare Y-search-piece-dead l₄ ∷ Walk.bare Y-search-piece-notes l₅ ∷ Walk.bare Y-search-piece-line l₆ ∷ Walk.bare (tyInt w64) l₇ ∷
         Walk.bare (tyInt w64) l₈ ∷ Walk.bare (tyInt w64) l₉ ∷ Walk.bare (tyInt w64) l₁₀ ∷ Walk.bare Outcome-L.mir l₁₁ ∷ Walk.bare Node-L.mir l₁₂ ∷
         Walk.bare tyBool l₁₃ ∷ Walk.bare (tyRef erased mut (pointee ((UInt w8) .written))) l₁₄ ∷
         Walk.bare (sliceTy (tyRef erased mut (pointee ((UInt w8) .written)))) l₁₅ ∷
-        Walk.bare (tyRef erased mut (pointee ((UInt w8) .written))) l₁₆ ∷
-        Walk.bare (sliceTy (tyRef erased mut (pointee ((UInt w8) .written)))) l₁₇ ∷
-        Walk.bare (tyRef erased mut (pointee ((UInt w8) .written))) l₁₈ ∷
-        Walk.bare (sliceTy (tyRef erased mut (pointee ((UInt w8) .written)))) l₁₉ ∷ Walk.bare (tyInt w64) l₂₀ ∷ []) (‵ (flft κ₀ q₀) ∷
+        Walk.bare (tyRef erased mut (pointee ((UInt w64) .written))) l₁₆ ∷
+        Walk.bare (sliceTy (tyRef erased mut (pointee ((UInt w64) .written)))) l₁₇ ∷
+        Walk.bare (tyRef erased mut (pointee ((UInt w64) .written))) l₁₈ ∷
+        Walk.bare (sliceTy (tyRef erased mut (pointee ((UInt w64) .written)))) l₁₉ ∷ Walk.bare (tyInt w64) l₂₀ ∷ []) (‵ (flft κ₀ q₀) ∷
         ‵ (flft κ₁ q₁) ∷ ‵ (flft κ₂ q₂) ∷ ‵ (flft κ₃ q₃) ∷ ‵ (T-search-piece-line .own line (sliceVal (line .ptr) (length (line .now)) ∷ [])) ∷
-        ‵ (T-search-piece-pieces .own pieces (sliceVal (pieces .ptr) (length (pieces .now)) ∷ [])) ∷
+        ‵ (T-search-piece-notes .own notes (sliceVal (notes .ptr) (length (notes .now)) ∷ [])) ∷
         ‵ (T-search-piece-dead .own dead (sliceVal (dead .ptr) (length (dead .now)) ∷ [])) ∷
         ‵ (T-search-piece-nodes .own nodes (sliceVal (nodes .ptr) (length (nodes .now)) ∷ [])) ∷ []) (λ Fd ed.
         Walk.allocated ! (Walk.after-result ! (Walk.pass ! (Run.init ! 1 refl ((tt, record { fits = fits-left }))) (
         Walk.pass ! (Run.init ! 2 refl ((tt, record { fits = fits-right }))) (
         Walk.pass ! (Run.init ! 3 refl (shr-slice-lawful 𝓤 H A W (named 0) κ₀ Node-T.the-row .typed nodes _ is-nodes .0)) (
         Walk.pass ! (Run.init ! 4 refl (mut-slice-lawful 𝓤 H A W (named 1) κ₁ (UInt w8) .typed dead _ is-dead .0)) (
-        Walk.pass ! (Run.init ! 5 refl (mut-slice-lawful 𝓤 H A W (named 2) κ₂ (UInt w8) .typed pieces _ is-pieces .0)) (
+        Walk.pass ! (Run.init ! 5 refl (mut-slice-lawful 𝓤 H A W (named 2) κ₂ (UInt w64) .typed notes _ is-notes .0)) (
         Walk.pass ! (Run.init ! 6 refl (shr-slice-lawful 𝓤 H A W (named 3) κ₃ (UInt w8) .typed line _ is-line .0)) (
         Walk.pass ! (Run.init ! 7 refl ((tt, record { fits = fits-end }))) (Walk.pass ! (Run.init ! 8 refl ((tt, record { fits = fits-node }))) (
         Walk.pass ! (Run.init ! 9 refl ((tt, record { fits = fits-at }))) (Walk.passed ! (
-        -- [the locals; their ends; κ₀; κ₁; κ₂; κ₃; line; pieces; dead; nodes]
+        -- [the locals; their ends; κ₀; κ₁; κ₂; κ₃; line; notes; dead; nodes]
         -- call 1: child (nodes, node, 1)
         Walk.move ! (29 ∷ []) (
         Walk.gives W (Walk.copied (T-search-piece-nodes .own nodes (v-search-piece-nodes ∷ []))
@@ -1707,30 +1816,30 @@ module _ {M : Type 1} (𝓤 : URA M) (H : Heap 𝓤) (A : Atoms 𝓤) (W : Given
         ‵ (froom Outcome-L.mir l₀ 0) ∷ ‵ (fat fullShare (tyInt w8) l₁ 0 (vint w8 left)) ∷ ‵ (fat fullShare (tyInt w8) l₂ 0 (vint w8 right)) ∷
         ‵ (fat fullShare Y-search-piece-nodes l₃ 0 (sliceVal (nodes .ptr) (length (nodes .now)))) ∷
         ‵ (fat fullShare Y-search-piece-dead l₄ 0 (sliceVal (dead .ptr) (length (dead .now)))) ∷
-        ‵ (fat fullShare Y-search-piece-pieces l₅ 0 (sliceVal (pieces .ptr) (length (pieces .now)))) ∷
+        ‵ (fat fullShare Y-search-piece-notes l₅ 0 (sliceVal (notes .ptr) (length (notes .now)))) ∷
         ‵ (fat fullShare Y-search-piece-line l₆ 0 (sliceVal (line .ptr) (length (line .now)))) ∷ ‵ (fat fullShare (tyInt w64) l₇ 0 (vint w64 end)) ∷
         ‵ (fat fullShare (tyInt w64) l₈ 0 (vint w64 node)) ∷ ‵ (fat fullShare (tyInt w64) l₉ 0 (vint w64 at)) ∷
         ‵ (fat fullShare (tyInt w64) l₁₀ 0 (vint w64 r1)) ∷ ‵ (froom Outcome-L.mir l₁₁ 0) ∷ ‵ (froom Node-L.mir l₁₂ 0) ∷ ‵ (froom tyBool l₁₃ 0) ∷
         ‵ (froom (tyRef erased mut (pointee ((UInt w8) .written))) l₁₄ 0) ∷
         ‵ (froom (sliceTy (tyRef erased mut (pointee ((UInt w8) .written)))) l₁₅ 0) ∷
-        ‵ (froom (tyRef erased mut (pointee ((UInt w8) .written))) l₁₆ 0) ∷
-        ‵ (froom (sliceTy (tyRef erased mut (pointee ((UInt w8) .written)))) l₁₇ 0) ∷
-        ‵ (froom (tyRef erased mut (pointee ((UInt w8) .written))) l₁₈ 0) ∷
-        ‵ (froom (sliceTy (tyRef erased mut (pointee ((UInt w8) .written)))) l₁₉ 0) ∷ ‵ (froom (tyInt w64) l₂₀ 0) ∷ ‵ Fd ∷ ‵ (flft κ₁ q₁) ∷
+        ‵ (froom (tyRef erased mut (pointee ((UInt w64) .written))) l₁₆ 0) ∷
+        ‵ (froom (sliceTy (tyRef erased mut (pointee ((UInt w64) .written)))) l₁₇ 0) ∷
+        ‵ (froom (tyRef erased mut (pointee ((UInt w64) .written))) l₁₈ 0) ∷
+        ‵ (froom (sliceTy (tyRef erased mut (pointee ((UInt w64) .written)))) l₁₉ 0) ∷ ‵ (froom (tyInt w64) l₂₀ 0) ∷ ‵ Fd ∷ ‵ (flft κ₁ q₁) ∷
         ‵ (flft κ₂ q₂) ∷ ‵ (flft κ₃ q₃) ∷ ‵ (T-search-piece-line .own line (sliceVal (line .ptr) (length (line .now)) ∷ [])) ∷
-        ‵ (T-search-piece-pieces .own pieces (sliceVal (pieces .ptr) (length (pieces .now)) ∷ [])) ∷
+        ‵ (T-search-piece-notes .own notes (sliceVal (notes .ptr) (length (notes .now)) ∷ [])) ∷
         ‵ (T-search-piece-dead .own dead (sliceVal (dead .ptr) (length (dead .now)) ∷ [])) ∷ []) refl (
         Walk.sets ! (Run.bin ! (Walk.local ! 12 refl) (Run.lit ! tt) tt) (Run.init ! 15 refl ((tt, tt))) (Walk.first-then ! (
         Run.branches ! (Walk.local ! 15 refl)
         (λ h1. let t1 : (eqb r1 0) ≡ true = Walk.is-true _ h1 in
-        -- [κ₀; nodes; the locals; their ends; κ₁; κ₂; κ₃; line; pieces; dead]
-        -- call 2: no_piece (0, 0)
-        Walk.gives W (Walk.made ((UInt w64) .own 0 ((vint w64 0) ∷ [])) (uint-makes 𝓤 H A W w64 0 _ (refl, lit< tt)) ∷
-        Walk.made ((UInt w64) .own 0 ((vint w64 0) ∷ [])) (uint-makes 𝓤 H A W w64 0 _ (refl, lit< tt)) ∷ []) _ ! (
+        -- [κ₀; nodes; the locals; their ends; κ₁; κ₂; κ₃; line; notes; dead]
+        -- call 2: no_piece (0)
+        Walk.gives W (Walk.made ((UInt w64) .own 0 ((vint w64 0) ∷ [])) (uint-makes 𝓤 H A W w64 0 _ (refl, lit< tt)) ∷ []) _ ! (
         Walk.tokens-in W ([]) _ ! (alive 𝓤 H A g-no-piece.signature tt tt) (id⊢ 𝓤 _) (
         Walk.asks W ! fm g-no-piece.ended (g-no-piece.clauses 𝓤 H A mem run)
-        ((tt, tt, tt, (0, (0, tt)), ((vint w64 0) ∷ [], ((vint w64 0) ∷ [], tt))), tt) _ (known-no-piece ((tt, tt, tt, (0, (0, tt)), ((vint w64 0) ∷ [], ((vint w64 0) ∷ [], tt))), tt)) (id⊢ 𝓤 (emp 𝓤)) (λ r ws. id⊢ 𝓤 _)
-        (Run.and-then ! (Run.lit ! tt) (Run.and-then ! (Run.lit ! tt) (Run.no-more !))) (λ u2 r2 is2′ e2.
+        ((tt, tt, tt, (0, tt), ((vint w64 0) ∷ [], tt)), tt) _ (known-no-piece ((tt, tt, tt, (0, tt), ((vint w64 0) ∷ [], tt)), tt)) (id⊢ 𝓤 (emp 𝓤))
+        (λ r ws. id⊢ 𝓤 _)
+        (Run.and-then ! (Run.lit ! tt) (Run.no-more !)) (λ u2 r2 is2′ e2.
         Walk.tokens-out W ([]) ! (id⊢ 𝓤 _) (
         Walk.lands-in ! (Walk.init-as ! 2 refl (LL.lawful Outcome-T.the-type Outcome-L.the-laws 𝓤 H A W .typed r2 _ is2′ .0)
         (ap only (LL.tells Outcome-T.the-type Outcome-L.the-laws r2 _ is2′))) (
@@ -1740,50 +1849,50 @@ module _ {M : Type 1} (𝓤 : URA M) (H : Heap 𝓤) (A : Atoms 𝓤) (W : Given
         ‵ (fat fullShare Outcome-L.mir l₀ 0 (Outcome-L.lowered r2)) ∷ ‵ (fat fullShare (tyInt w8) l₁ 0 (vint w8 left)) ∷
         ‵ (fat fullShare (tyInt w8) l₂ 0 (vint w8 right)) ∷ ‵ (fat fullShare Y-search-piece-nodes l₃ 0 (sliceVal (nodes .ptr)
         (length (nodes .now)))) ∷ ‵ (fat fullShare Y-search-piece-dead l₄ 0 (sliceVal (dead .ptr) (length (dead .now)))) ∷
-        ‵ (fat fullShare Y-search-piece-pieces l₅ 0 (sliceVal (pieces .ptr) (length (pieces .now)))) ∷
+        ‵ (fat fullShare Y-search-piece-notes l₅ 0 (sliceVal (notes .ptr) (length (notes .now)))) ∷
         ‵ (fat fullShare Y-search-piece-line l₆ 0 (sliceVal (line .ptr) (length (line .now)))) ∷ ‵ (fat fullShare (tyInt w64) l₇ 0 (vint w64 end)) ∷
         ‵ (fat fullShare (tyInt w64) l₈ 0 (vint w64 node)) ∷ ‵ (fat fullShare (tyInt w64) l₉ 0 (vint w64 at)) ∷
         ‵ (fat fullShare (tyInt w64) l₁₀ 0 (vint w64 r1)) ∷ ‵ (froom Outcome-L.mir l₁₁ 0) ∷ ‵ (froom Node-L.mir l₁₂ 0) ∷
         ‵ (fat fullShare tyBool l₁₃ 0 (vbool (eqb r1 0))) ∷ ‵ (froom (tyRef erased mut (pointee ((UInt w8) .written))) l₁₄ 0) ∷
         ‵ (froom (sliceTy (tyRef erased mut (pointee ((UInt w8) .written)))) l₁₅ 0) ∷
-        ‵ (froom (tyRef erased mut (pointee ((UInt w8) .written))) l₁₆ 0) ∷
-        ‵ (froom (sliceTy (tyRef erased mut (pointee ((UInt w8) .written)))) l₁₇ 0) ∷
-        ‵ (froom (tyRef erased mut (pointee ((UInt w8) .written))) l₁₈ 0) ∷
-        ‵ (froom (sliceTy (tyRef erased mut (pointee ((UInt w8) .written)))) l₁₉ 0) ∷ ‵ (froom (tyInt w64) l₂₀ 0) ∷ ‵ Fd ∷ ‵ (flft κ₁ q₁) ∷
+        ‵ (froom (tyRef erased mut (pointee ((UInt w64) .written))) l₁₆ 0) ∷
+        ‵ (froom (sliceTy (tyRef erased mut (pointee ((UInt w64) .written)))) l₁₇ 0) ∷
+        ‵ (froom (tyRef erased mut (pointee ((UInt w64) .written))) l₁₈ 0) ∷
+        ‵ (froom (sliceTy (tyRef erased mut (pointee ((UInt w64) .written)))) l₁₉ 0) ∷ ‵ (froom (tyInt w64) l₂₀ 0) ∷ ‵ Fd ∷ ‵ (flft κ₁ q₁) ∷
         ‵ (flft κ₂ q₂) ∷ ‵ (flft κ₃ q₃) ∷ ‵ (T-search-piece-line .own line (sliceVal (line .ptr) (length (line .now)) ∷ [])) ∷
-        ‵ (T-search-piece-pieces .own pieces (sliceVal (pieces .ptr) (length (pieces .now)) ∷ [])) ∷
+        ‵ (T-search-piece-notes .own notes (sliceVal (notes .ptr) (length (notes .now)) ∷ [])) ∷
         ‵ (T-search-piece-dead .own dead (sliceVal (dead .ptr) (length (dead .now)) ∷ [])) ∷ []) refl (
         Walk.returns-by ! Post-search-piece (Walk.through 𝓤 H C Λ E _ _ Post-search-piece refl) (Run.look ! 2 refl) (
         Walk.move ! (2 ∷ 2 ∷ 2 ∷ 2 ∷ 2 ∷ 2 ∷ 2 ∷ 2 ∷ 2 ∷ 2 ∷ 2 ∷ 2 ∷ 2 ∷ 2 ∷ 2 ∷ 2 ∷ 2 ∷ 2 ∷ 2 ∷ 2 ∷ 2 ∷ 2 ∷ []) (
         Walk.frees-gathered ! (Walk.full Outcome-L.mir l₀ (Outcome-L.lowered r2) ∷ Walk.full (tyInt w8) l₁ (vint w8 left) ∷
         Walk.full (tyInt w8) l₂ (vint w8 right) ∷ Walk.full Y-search-piece-nodes l₃ (sliceVal (nodes .ptr) (length (nodes .now))) ∷
-        Walk.full Y-search-piece-dead l₄ (sliceVal (dead .ptr) (length (dead .now))) ∷ Walk.full Y-search-piece-pieces l₅ (sliceVal (pieces .ptr)
-        (length (pieces .now))) ∷ Walk.full Y-search-piece-line l₆ (sliceVal (line .ptr) (length (line .now))) ∷
+        Walk.full Y-search-piece-dead l₄ (sliceVal (dead .ptr) (length (dead .now))) ∷ Walk.full Y-search-piece-notes l₅ (sliceVal (notes .ptr)
+        (length (notes .now))) ∷ Walk.full Y-search-piece-line l₆ (sliceVal (line .ptr) (length (line .now))) ∷
         Walk.full (tyInt w64) l₇ (vint w64 end) ∷ Walk.full (tyInt w64) l₈ (vint w64 node) ∷ Walk.full (tyInt w64) l₉ (vint w64 at) ∷
         Walk.full (tyInt w64) l₁₀ (vint w64 r1) ∷ Walk.bare Outcome-L.mir l₁₁ ∷ Walk.bare Node-L.mir l₁₂ ∷ Walk.full tyBool l₁₃ (vbool (eqb r1 0)) ∷
         Walk.bare (tyRef erased mut (pointee ((UInt w8) .written))) l₁₄ ∷
         Walk.bare (sliceTy (tyRef erased mut (pointee ((UInt w8) .written)))) l₁₅ ∷
-        Walk.bare (tyRef erased mut (pointee ((UInt w8) .written))) l₁₆ ∷
-        Walk.bare (sliceTy (tyRef erased mut (pointee ((UInt w8) .written)))) l₁₇ ∷
-        Walk.bare (tyRef erased mut (pointee ((UInt w8) .written))) l₁₈ ∷
-        Walk.bare (sliceTy (tyRef erased mut (pointee ((UInt w8) .written)))) l₁₉ ∷ Walk.bare (tyInt w64) l₂₀ ∷ []) Fd ed (‵ (flft κ₀ q₀) ∷
+        Walk.bare (tyRef erased mut (pointee ((UInt w64) .written))) l₁₆ ∷
+        Walk.bare (sliceTy (tyRef erased mut (pointee ((UInt w64) .written)))) l₁₇ ∷
+        Walk.bare (tyRef erased mut (pointee ((UInt w64) .written))) l₁₈ ∷
+        Walk.bare (sliceTy (tyRef erased mut (pointee ((UInt w64) .written)))) l₁₉ ∷ Walk.bare (tyInt w64) l₂₀ ∷ []) Fd ed (‵ (flft κ₀ q₀) ∷
         ‵ (T-search-piece-nodes .own nodes (sliceVal (nodes .ptr) (length (nodes .now)) ∷ [])) ∷ ‵ (flft κ₁ q₁) ∷ ‵ (flft κ₂ q₂) ∷ ‵ (flft κ₃ q₃) ∷
         ‵ (T-search-piece-line .own line (sliceVal (line .ptr) (length (line .now)) ∷ [])) ∷
-        ‵ (T-search-piece-pieces .own pieces (sliceVal (pieces .ptr) (length (pieces .now)) ∷ [])) ∷
+        ‵ (T-search-piece-notes .own notes (sliceVal (notes .ptr) (length (notes .now)) ∷ [])) ∷
         ‵ (T-search-piece-dead .own dead (sliceVal (dead .ptr) (length (dead .now)) ∷ [])) ∷ []) (
         Walk.move ! (7 ∷ 6 ∷ []) (
         Walk.gives W (Walk.nothing ∷ Walk.nothing ∷ Walk.nothing ∷ Walk.turned (T-search-piece-dead .own dead (sliceVal (dead .ptr)
         (length (dead .now)) ∷ [])) (finally (UInt w8) (dead .name) (dead .now))
-        (Walk.ended-slice 𝓤 H A W (named 1) κ₁ (UInt w8) dead (dead .now) _) ∷
-        Walk.turned (T-search-piece-pieces .own pieces (sliceVal (pieces .ptr) (length (pieces .now)) ∷ [])) (finally (UInt w8) (pieces .name)
-        (pieces .now)) (Walk.ended-slice 𝓤 H A W (named 2) κ₂ (UInt w8) pieces (pieces .now) _) ∷ Walk.nothing ∷ Walk.nothing ∷ Walk.nothing ∷
-        Walk.nothing ∷ []) _ ! (
+        (Walk.ended-slice 𝓤 H A W (named 1) κ₁ (UInt w8) dead (dead .now) _) ∷ Walk.turned (T-search-piece-notes .own notes (sliceVal (notes .ptr)
+        (length (notes .now)) ∷ [])) (finally (UInt w64) (notes .name) (notes .now))
+        (Walk.ended-slice 𝓤 H A W (named 2) κ₂ (UInt w64) notes (notes .now) _) ∷ Walk.nothing ∷ Walk.nothing ∷ Walk.nothing ∷ Walk.nothing ∷
+        []) _ ! (
         Walk.move ! (1 ∷ 2 ∷ 2 ∷ 2 ∷ []) (
         Walk.tokens-in W ((κ₀, q₀) ∷ (κ₁, q₁) ∷ (κ₂, q₂) ∷ (κ₃, q₃) ∷ []) _ ! (alive 𝓤 H A f-search-piece.signature (κ₀, (κ₁, (κ₂, (κ₃, tt))))
         (q₀, (q₁, (q₂, (q₃, tt))))) (id⊢ 𝓤 _) (
         Walk.use0 W ! (‵ (Outcome-T.the-row .own r2 ((Outcome-L.lowered r2) ∷ []))) (LL.makes Outcome-T.the-type Outcome-L.the-plain 𝓤 H A r2 _ is2) (
         Walk.keep ! (1 ∷ 1 ∷ 0 ∷ []) (
-        Kit.by ! (Walk.leave-by 𝓤 H A W f-search-piece.ended (f-search-piece.clauses 𝓤 H A mem run) stayed-search-piece bound-search-piece (Outcome-L.lowered r2) r2 (tt, (tt, (tt, ((dead .now), ((pieces .now), (tt, (tt, (tt, (tt, tt))))))))) (tt, (tt, (tt, (refl, (refl, (tt, (tt, (tt, (tt, tt))))))))) (factI 𝓤 _ (emp 𝓤) (piece-none e1 refl (eqb-true r1 0 t1) e2)))))))))))))))))))
+        Kit.by ! (Walk.leave-by 𝓤 H A W f-search-piece.ended (f-search-piece.clauses 𝓤 H A mem run) stayed-search-piece bound-search-piece (Outcome-L.lowered r2) r2 (tt, (tt, (tt, ((dead .now), ((notes .now), (tt, (tt, (tt, (tt, tt))))))))) (tt, (tt, (tt, (refl, (refl, (tt, (tt, (tt, (tt, tt))))))))) (factI 𝓤 _ (emp 𝓤) (piece-none e1 refl (eqb-true r1 0 t1) e2)))))))))))))))))))
         (λ h1. let t1 : (eqb r1 0) ≡ false = Walk.is-false _ h1 in
         Walk.skips-then ! (
         Walk.sets ! (Run.addr ! (Run.from ! (Run.fld ! refl (Run.hop ! (Part.look-in ! 6 (Part.sub ! 0 refl (Part.whole !))) (Run.stop !)))))
@@ -1793,19 +1902,19 @@ module _ {M : Type 1} (𝓤 : URA M) (H : Heap 𝓤) (A : Atoms 𝓤) (W : Given
         Walk.sets ! (Run.addr ! (Run.from ! (Run.fld ! refl (Run.hop ! (Part.look-in ! 7 (Part.sub ! 0 refl (Part.whole !))) (Run.stop !)))))
         (Run.init ! 18 refl ((tt, tt))) (
         Walk.sets ! (Part.agg ! (Run.and-then ! (Walk.local ! 18 refl) (Run.and-then ! (Walk.part ! 7 refl refl refl) (Run.no-more !))))
-        (Run.init ! 19 refl ((tt, (tt, (record { fits = is-pieces .0 .1 .0 }, tt))))) (
-        -- [κ₀; nodes; the locals; their ends; κ₁; κ₂; κ₃; line; pieces; dead]
-        -- call 3: search (left, right, nodes, dead, pieces, line, end, r1, at)
+        (Run.init ! 19 refl ((tt, (tt, (record { fits = is-notes .0 .1 .0 }, tt))))) (
+        -- [κ₀; nodes; the locals; their ends; κ₁; κ₂; κ₃; line; notes; dead]
+        -- call 3: search (left, right, nodes, dead, notes, line, end, r1, at)
         Walk.move ! (29 ∷ 24 ∷ []) (Again.lends W (UInt w8) κ₁ q₁ dead (named 1) (named 1) (dead .now) ! tt (λ ν1 δ1.
-        Walk.move ! (30 ∷ 27 ∷ []) (Again.lends W (UInt w8) κ₂ q₂ pieces (named 2) (named 2) (pieces .now) ! tt (λ ν2 δ2.
+        Walk.move ! (30 ∷ 27 ∷ []) (Again.lends W (UInt w64) κ₂ q₂ notes (named 2) (named 2) (notes .now) ! tt (λ ν2 δ2.
         Walk.move ! (7 ∷ 3 ∷ 0 ∷ 28 ∷ []) (
         Walk.gives W (Walk.made ((UInt w8) .own left ((vint w8 left) ∷ [])) (uint-makes 𝓤 H A W w8 left _ (refl, fits-left)) ∷
         Walk.made ((UInt w8) .own right ((vint w8 right) ∷ [])) (uint-makes 𝓤 H A W w8 right _ (refl, fits-right)) ∷
         Walk.copied (T-search-piece-nodes .own nodes (v-search-piece-nodes ∷ []))
         (shr-slice-copy 𝓤 H A W (named 0) κ₀ Node-T.the-row .twice nodes _) ∷ Walk.kept (MutSlice (named 1) (ν1 ∷ [])
         (UInt w8) .own (record { ptr = (dead .ptr); name = δ1; now = (dead .now) }) ((sliceVal (dead .ptr) (length (dead .now))) ∷ [])) ∷
-        Walk.kept (MutSlice (named 2) (ν2 ∷ []) (UInt w8) .own (record { ptr = (pieces .ptr); name = δ2; now = (pieces .now) })
-        ((sliceVal (pieces .ptr) (length (pieces .now))) ∷ [])) ∷ Walk.copied (T-search-piece-line .own line (v-search-piece-line ∷ []))
+        Walk.kept (MutSlice (named 2) (ν2 ∷ []) (UInt w64) .own (record { ptr = (notes .ptr); name = δ2; now = (notes .now) })
+        ((sliceVal (notes .ptr) (length (notes .now))) ∷ [])) ∷ Walk.copied (T-search-piece-line .own line (v-search-piece-line ∷ []))
         (shr-slice-copy 𝓤 H A W (named 3) κ₃ (UInt w8) .twice line _) ∷ Walk.made ((UInt w64) .own end ((vint w64 end) ∷ []))
         (uint-makes 𝓤 H A W w64 end _ (refl, fits-end)) ∷ Walk.made ((UInt w64) .own r1 ((vint w64 r1) ∷ []))
         (uint-makes 𝓤 H A W w64 r1 _ (refl, is1 .1)) ∷ Walk.made ((UInt w64) .own at ((vint w64 at) ∷ []))
@@ -1814,30 +1923,30 @@ module _ {M : Type 1} (𝓤 : URA M) (H : Heap 𝓤) (A : Atoms 𝓤) (W : Given
         Walk.tokens-in W ((κ₀, q₀) ∷ ((ν1 ∷ []), fullShare) ∷ ((ν2 ∷ []), fullShare) ∷ (κ₃, q₃) ∷
         []) _ ! (alive 𝓤 H A f-search.signature (κ₀, ((ν1 ∷ []), ((ν2 ∷ []), (κ₃, tt)))) (q₀, (fullShare, (fullShare, (q₃, tt))))) (id⊢ 𝓤 _) (
         Walk.asksˡ W ! fm f-search.ended (f-search.clauses 𝓤 H A mem run)
-        (((κ₀, ((ν1 ∷ []), ((ν2 ∷ []), (κ₃, tt)))), (q₀, (fullShare, (fullShare, (q₃, tt)))), tt, (left, (right, (nodes, ((record { ptr = (dead .ptr); name = δ1; now = (dead .now) }), ((record { ptr = (pieces .ptr); name = δ2; now = (pieces .now) }), (line, (end, (r1, (at, tt))))))))), ((vint w8 left) ∷ [], ((vint w8 right) ∷ [], (v-search-piece-nodes ∷ [], ((sliceVal (dead .ptr) (length (dead .now))) ∷ [], ((sliceVal (pieces .ptr) (length (pieces .now))) ∷ [], (v-search-piece-line ∷ [], ((vint w64 end) ∷ [], ((vint w64 r1) ∷ [], ((vint w64 at) ∷ [], tt)))))))))), tt) _ (known-search (((κ₀, ((ν1 ∷ []), ((ν2 ∷ []), (κ₃, tt)))), (q₀, (fullShare, (fullShare, (q₃, tt)))), tt, (left, (right, (nodes, ((record { ptr = (dead .ptr); name = δ1; now = (dead .now) }), ((record { ptr = (pieces .ptr); name = δ2; now = (pieces .now) }), (line, (end, (r1, (at, tt))))))))), ((vint w8 left) ∷ [], ((vint w8 right) ∷ [], (v-search-piece-nodes ∷ [], ((sliceVal (dead .ptr) (length (dead .now))) ∷ [], ((sliceVal (pieces .ptr) (length (pieces .now))) ∷ [], (v-search-piece-line ∷ [], ((vint w64 end) ∷ [], ((vint w64 r1) ∷ [], ((vint w64 at) ∷ [], tt)))))))))), tt) (piece-less pre e1 refl (eqb-false r1 0 t1))) (factI 𝓤 _ (emp 𝓤) (asks-piece pre e1 refl (eqb-false r1 0 t1))) (λ r ws. id⊢ 𝓤 _)
+        (((κ₀, ((ν1 ∷ []), ((ν2 ∷ []), (κ₃, tt)))), (q₀, (fullShare, (fullShare, (q₃, tt)))), tt, (left, (right, (nodes, ((record { ptr = (dead .ptr); name = δ1; now = (dead .now) }), ((record { ptr = (notes .ptr); name = δ2; now = (notes .now) }), (line, (end, (r1, (at, tt))))))))), ((vint w8 left) ∷ [], ((vint w8 right) ∷ [], (v-search-piece-nodes ∷ [], ((sliceVal (dead .ptr) (length (dead .now))) ∷ [], ((sliceVal (notes .ptr) (length (notes .now))) ∷ [], (v-search-piece-line ∷ [], ((vint w64 end) ∷ [], ((vint w64 r1) ∷ [], ((vint w64 at) ∷ [], tt)))))))))), tt) _ (known-search (((κ₀, ((ν1 ∷ []), ((ν2 ∷ []), (κ₃, tt)))), (q₀, (fullShare, (fullShare, (q₃, tt)))), tt, (left, (right, (nodes, ((record { ptr = (dead .ptr); name = δ1; now = (dead .now) }), ((record { ptr = (notes .ptr); name = δ2; now = (notes .now) }), (line, (end, (r1, (at, tt))))))))), ((vint w8 left) ∷ [], ((vint w8 right) ∷ [], (v-search-piece-nodes ∷ [], ((sliceVal (dead .ptr) (length (dead .now))) ∷ [], ((sliceVal (notes .ptr) (length (notes .now))) ∷ [], (v-search-piece-line ∷ [], ((vint w64 end) ∷ [], ((vint w64 r1) ∷ [], ((vint w64 at) ∷ [], tt)))))))))), tt) (piece-less pre e1 refl (eqb-false r1 0 t1))) (factI 𝓤 _ (emp 𝓤) (asks-piece pre e1)) (λ r ws. id⊢ 𝓤 _)
         (Run.and-then ! (Walk.local ! 6 refl) (Run.and-then ! (Walk.local ! 7 refl) (Run.and-then ! (Walk.local ! 8 refl)
         (Run.and-then ! (Walk.local ! 20 refl) (Run.and-then ! (Walk.local ! 22 refl) (Run.and-then ! (Walk.local ! 11 refl)
         (Run.and-then ! (Walk.local ! 12 refl) (Run.and-then ! (Walk.local ! 15 refl) (Run.and-then ! (Walk.local ! 14 refl)
         (Run.no-more !)))))))))) (λ u3 r3 ws3 is3′ e3.
         Walk.returned W ((κ₀, q₀) ∷ ((ν1 ∷ []), fullShare) ∷ ((ν2 ∷ []), fullShare) ∷ (κ₃, q₃) ∷ []) (Walk.gone _ ∷ Walk.gone _ ∷ Walk.gone _ ∷
         Walk.final (finally (UInt w8) δ1 (ws3 .1 .1 .1 .0)) (length (ws3 .1 .1 .1 .0)) (length (dead .now)) ∷
-        Walk.final (finally (UInt w8) δ2 (ws3 .1 .1 .1 .1 .0)) (length (ws3 .1 .1 .1 .1 .0)) (length (pieces .now)) ∷ Walk.gone _ ∷ Walk.gone _ ∷
+        Walk.final (finally (UInt w64) δ2 (ws3 .1 .1 .1 .1 .0)) (length (ws3 .1 .1 .1 .1 .0)) (length (notes .now)) ∷ Walk.gone _ ∷ Walk.gone _ ∷
         Walk.gone _ ∷ Walk.gone _ ∷ []) ! (id⊢ 𝓤 _) (λ len1 len2.
         Walk.move ! (3 ∷ 8 ∷ 1 ∷ 11 ∷ []) (
         Again.backs W (UInt w8) κ₁ q₁ dead (named 1) (named 1) (dead .now) ! tt (ws3 .1 .1 .1 .0) (is-dead .0 .1) len1 (
         Walk.move ! (5 ∷ 8 ∷ 3 ∷ 11 ∷ []) (
-        Again.backs W (UInt w8) κ₂ q₂ pieces (named 2) (named 2) (pieces .now) ! tt (ws3 .1 .1 .1 .1 .0) (is-pieces .0 .1) len2 (
+        Again.backs W (UInt w64) κ₂ q₂ notes (named 2) (named 2) (notes .now) ! tt (ws3 .1 .1 .1 .1 .0) (is-notes .0 .1) len2 (
         Walk.lands-in ! (Walk.init-as ! 19 refl (LL.lawful Outcome-T.the-type Outcome-L.the-laws 𝓤 H A W .typed r3 _ is3′ .0)
         (ap only (LL.tells Outcome-T.the-type Outcome-L.the-laws r3 _ is3′))) (
         let is3 : Is Outcome-T.the-row r3 ((Outcome-L.lowered r3) ∷ []) = subst (λ (vs : List Val). Is Outcome-T.the-row r3 vs)
         (LL.tells Outcome-T.the-type Outcome-L.the-laws r3 _ is3′) is3′ in
-        Walk.written-out ! (‵ (T-search-piece-pieces .own (at-last pieces (ws3 .1 .1 .1 .1 .0)) (sliceVal (pieces .ptr)
-        (length (ws3 .1 .1 .1 .1 .0)) ∷ [])) ∷ ‵ (flft κ₂ q₂) ∷ ‵ (fat fullShare Y-search-piece-pieces l₅ 0 (sliceVal (pieces .ptr)
-        (length (ws3 .1 .1 .1 .1 .0)))) ∷ ‵ (T-search-piece-dead .own (at-last dead (ws3 .1 .1 .1 .0)) (sliceVal (dead .ptr)
-        (length (ws3 .1 .1 .1 .0)) ∷ [])) ∷ ‵ (flft κ₁ q₁) ∷ ‵ (fat fullShare Y-search-piece-dead l₄ 0 (sliceVal (dead .ptr)
-        (length (ws3 .1 .1 .1 .0)))) ∷ ‵ (flft κ₀ q₀) ∷ ‵ (flft κ₃ q₃) ∷ ‵ (T-search-piece-nodes .own nodes (sliceVal (nodes .ptr)
-        (length (nodes .now)) ∷ [])) ∷ ‵ (T-search-piece-line .own line (sliceVal (line .ptr) (length (line .now)) ∷ [])) ∷
-        ‵ (froom Outcome-L.mir l₀ 0) ∷ ‵ (fat fullShare (tyInt w8) l₁ 0 (vint w8 left)) ∷ ‵ (fat fullShare (tyInt w8) l₂ 0 (vint w8 right)) ∷
+        Walk.written-out ! (‵ (T-search-piece-notes .own (at-last notes (ws3 .1 .1 .1 .1 .0)) (sliceVal (notes .ptr) (length (ws3 .1 .1 .1 .1 .0)) ∷
+        [])) ∷ ‵ (flft κ₂ q₂) ∷ ‵ (fat fullShare Y-search-piece-notes l₅ 0 (sliceVal (notes .ptr) (length (ws3 .1 .1 .1 .1 .0)))) ∷
+        ‵ (T-search-piece-dead .own (at-last dead (ws3 .1 .1 .1 .0)) (sliceVal (dead .ptr) (length (ws3 .1 .1 .1 .0)) ∷ [])) ∷ ‵ (flft κ₁ q₁) ∷
+        ‵ (fat fullShare Y-search-piece-dead l₄ 0 (sliceVal (dead .ptr) (length (ws3 .1 .1 .1 .0)))) ∷ ‵ (flft κ₀ q₀) ∷ ‵ (flft κ₃ q₃) ∷
+        ‵ (T-search-piece-nodes .own nodes (sliceVal (nodes .ptr) (length (nodes .now)) ∷ [])) ∷
+        ‵ (T-search-piece-line .own line (sliceVal (line .ptr) (length (line .now)) ∷ [])) ∷ ‵ (froom Outcome-L.mir l₀ 0) ∷
+        ‵ (fat fullShare (tyInt w8) l₁ 0 (vint w8 left)) ∷ ‵ (fat fullShare (tyInt w8) l₂ 0 (vint w8 right)) ∷
         ‵ (fat fullShare Y-search-piece-nodes l₃ 0 (sliceVal (nodes .ptr) (length (nodes .now)))) ∷
         ‵ (fat fullShare Y-search-piece-line l₆ 0 (sliceVal (line .ptr) (length (line .now)))) ∷ ‵ (fat fullShare (tyInt w64) l₇ 0 (vint w64 end)) ∷
         ‵ (fat fullShare (tyInt w64) l₈ 0 (vint w64 node)) ∷ ‵ (fat fullShare (tyInt w64) l₉ 0 (vint w64 at)) ∷
@@ -1845,10 +1954,10 @@ module _ {M : Type 1} (𝓤 : URA M) (H : Heap 𝓤) (A : Atoms 𝓤) (W : Given
         ‵ (froom Node-L.mir l₁₂ 0) ∷ ‵ (fat fullShare tyBool l₁₃ 0 (vbool (eqb r1 0))) ∷
         ‵ (fat fullShare (tyRef erased mut (pointee ((UInt w8) .written))) l₁₄ 0 (vptr (dead .ptr .0) (dead .ptr .1))) ∷
         ‵ (fat fullShare (sliceTy (tyRef erased mut (pointee ((UInt w8) .written)))) l₁₅ 0 (sliceVal (dead .ptr) (length (dead .now)))) ∷
-        ‵ (fat fullShare (tyRef erased mut (pointee ((UInt w8) .written))) l₁₆ 0 (vptr (pieces .ptr .0) (pieces .ptr .1))) ∷
-        ‵ (fat fullShare (sliceTy (tyRef erased mut (pointee ((UInt w8) .written)))) l₁₇ 0 (sliceVal (pieces .ptr) (length (pieces .now)))) ∷
-        ‵ (froom (tyRef erased mut (pointee ((UInt w8) .written))) l₁₈ 0) ∷
-        ‵ (froom (sliceTy (tyRef erased mut (pointee ((UInt w8) .written)))) l₁₉ 0) ∷ ‵ (froom (tyInt w64) l₂₀ 0) ∷ ‵ Fd ∷ []) refl (
+        ‵ (fat fullShare (tyRef erased mut (pointee ((UInt w64) .written))) l₁₆ 0 (vptr (notes .ptr .0) (notes .ptr .1))) ∷
+        ‵ (fat fullShare (sliceTy (tyRef erased mut (pointee ((UInt w64) .written)))) l₁₇ 0 (sliceVal (notes .ptr) (length (notes .now)))) ∷
+        ‵ (froom (tyRef erased mut (pointee ((UInt w64) .written))) l₁₈ 0) ∷
+        ‵ (froom (sliceTy (tyRef erased mut (pointee ((UInt w64) .written)))) l₁₉ 0) ∷ ‵ (froom (tyInt w64) l₂₀ 0) ∷ ‵ Fd ∷ []) refl (
         Walk.sets ! (Run.bin ! (Walk.part ! 19 refl refl refl) (Run.lit ! tt) tt) (Run.store ! 21 refl ((tt, tt))) (Walk.first-then ! (
         Run.branches ! (Walk.local ! 21 refl)
         (λ h2. let t2 : (eqb (r3 .node) 0) ≡ true = Walk.is-true _ h2 in
@@ -1859,26 +1968,26 @@ module _ {M : Type 1} (𝓤 : URA M) (H : Heap 𝓤) (A : Atoms 𝓤) (W : Given
         Walk.frees-gathered ! (Walk.full Outcome-L.mir l₀ (Outcome-L.lowered r3) ∷ Walk.full (tyInt w8) l₁ (vint w8 left) ∷
         Walk.full (tyInt w8) l₂ (vint w8 right) ∷ Walk.full Y-search-piece-nodes l₃ (sliceVal (nodes .ptr) (length (nodes .now))) ∷
         Walk.full Y-search-piece-dead l₄ (sliceVal (dead .ptr) (length (ws3 .1 .1 .1 .0))) ∷
-        Walk.full Y-search-piece-pieces l₅ (sliceVal (pieces .ptr) (length (ws3 .1 .1 .1 .1 .0))) ∷
+        Walk.full Y-search-piece-notes l₅ (sliceVal (notes .ptr) (length (ws3 .1 .1 .1 .1 .0))) ∷
         Walk.full Y-search-piece-line l₆ (sliceVal (line .ptr) (length (line .now))) ∷ Walk.full (tyInt w64) l₇ (vint w64 end) ∷
         Walk.full (tyInt w64) l₈ (vint w64 node) ∷ Walk.full (tyInt w64) l₉ (vint w64 at) ∷ Walk.full (tyInt w64) l₁₀ (vint w64 r1) ∷
         Walk.full Outcome-L.mir l₁₁ (Outcome-L.lowered r3) ∷ Walk.bare Node-L.mir l₁₂ ∷ Walk.full tyBool l₁₃ (vbool (eqb (r3 .node) 0)) ∷
         Walk.full (tyRef erased mut (pointee ((UInt w8) .written))) l₁₄ (vptr (dead .ptr .0) (dead .ptr .1)) ∷
         Walk.full (sliceTy (tyRef erased mut (pointee ((UInt w8) .written)))) l₁₅ (sliceVal (dead .ptr) (length (dead .now))) ∷
-        Walk.full (tyRef erased mut (pointee ((UInt w8) .written))) l₁₆ (vptr (pieces .ptr .0) (pieces .ptr .1)) ∷
-        Walk.full (sliceTy (tyRef erased mut (pointee ((UInt w8) .written)))) l₁₇ (sliceVal (pieces .ptr) (length (pieces .now))) ∷
-        Walk.bare (tyRef erased mut (pointee ((UInt w8) .written))) l₁₈ ∷
-        Walk.bare (sliceTy (tyRef erased mut (pointee ((UInt w8) .written)))) l₁₉ ∷ Walk.bare (tyInt w64) l₂₀ ∷
-        []) Fd ed (‵ (T-search-piece-pieces .own (at-last pieces (ws3 .1 .1 .1 .1 .0)) (sliceVal (pieces .ptr) (length (ws3 .1 .1 .1 .1 .0)) ∷
-        [])) ∷ ‵ (flft κ₂ q₂) ∷ ‵ (T-search-piece-dead .own (at-last dead (ws3 .1 .1 .1 .0)) (sliceVal (dead .ptr) (length (ws3 .1 .1 .1 .0)) ∷
-        [])) ∷ ‵ (flft κ₁ q₁) ∷ ‵ (flft κ₀ q₀) ∷ ‵ (flft κ₃ q₃) ∷ ‵ (T-search-piece-nodes .own nodes (sliceVal (nodes .ptr) (length (nodes .now)) ∷
-        [])) ∷ ‵ (T-search-piece-line .own line (sliceVal (line .ptr) (length (line .now)) ∷ [])) ∷ []) (
+        Walk.full (tyRef erased mut (pointee ((UInt w64) .written))) l₁₆ (vptr (notes .ptr .0) (notes .ptr .1)) ∷
+        Walk.full (sliceTy (tyRef erased mut (pointee ((UInt w64) .written)))) l₁₇ (sliceVal (notes .ptr) (length (notes .now))) ∷
+        Walk.bare (tyRef erased mut (pointee ((UInt w64) .written))) l₁₈ ∷
+        Walk.bare (sliceTy (tyRef erased mut (pointee ((UInt w64) .written)))) l₁₉ ∷ Walk.bare (tyInt w64) l₂₀ ∷
+        []) Fd ed (‵ (T-search-piece-notes .own (at-last notes (ws3 .1 .1 .1 .1 .0)) (sliceVal (notes .ptr) (length (ws3 .1 .1 .1 .1 .0)) ∷ [])) ∷
+        ‵ (flft κ₂ q₂) ∷ ‵ (T-search-piece-dead .own (at-last dead (ws3 .1 .1 .1 .0)) (sliceVal (dead .ptr) (length (ws3 .1 .1 .1 .0)) ∷ [])) ∷
+        ‵ (flft κ₁ q₁) ∷ ‵ (flft κ₀ q₀) ∷ ‵ (flft κ₃ q₃) ∷ ‵ (T-search-piece-nodes .own nodes (sliceVal (nodes .ptr) (length (nodes .now)) ∷ [])) ∷
+        ‵ (T-search-piece-line .own line (sliceVal (line .ptr) (length (line .now)) ∷ [])) ∷ []) (
         Walk.move ! (2 ∷ 0 ∷ []) (
         Walk.gives W (Walk.nothing ∷ Walk.nothing ∷ Walk.nothing ∷ Walk.turned (T-search-piece-dead .own (at-last dead (ws3 .1 .1 .1 .0))
         (sliceVal (dead .ptr) (length (ws3 .1 .1 .1 .0)) ∷ [])) (finally (UInt w8) (dead .name) (ws3 .1 .1 .1 .0))
         (Walk.ended-slice 𝓤 H A W (named 1) κ₁ (UInt w8) dead (ws3 .1 .1 .1 .0) _) ∷
-        Walk.turned (T-search-piece-pieces .own (at-last pieces (ws3 .1 .1 .1 .1 .0)) (sliceVal (pieces .ptr) (length (ws3 .1 .1 .1 .1 .0)) ∷ []))
-        (finally (UInt w8) (pieces .name) (ws3 .1 .1 .1 .1 .0)) (Walk.ended-slice 𝓤 H A W (named 2) κ₂ (UInt w8) pieces (ws3 .1 .1 .1 .1 .0) _) ∷
+        Walk.turned (T-search-piece-notes .own (at-last notes (ws3 .1 .1 .1 .1 .0)) (sliceVal (notes .ptr) (length (ws3 .1 .1 .1 .1 .0)) ∷ []))
+        (finally (UInt w64) (notes .name) (ws3 .1 .1 .1 .1 .0)) (Walk.ended-slice 𝓤 H A W (named 2) κ₂ (UInt w64) notes (ws3 .1 .1 .1 .1 .0) _) ∷
         Walk.nothing ∷ Walk.nothing ∷ Walk.nothing ∷ Walk.nothing ∷ []) _ ! (
         Walk.move ! (3 ∷ 2 ∷ 1 ∷ 1 ∷ []) (
         Walk.tokens-in W ((κ₀, q₀) ∷ (κ₁, q₁) ∷ (κ₂, q₂) ∷ (κ₃, q₃) ∷ []) _ ! (alive 𝓤 H A f-search-piece.signature (κ₀, (κ₁, (κ₂, (κ₃, tt))))
@@ -1888,7 +1997,7 @@ module _ {M : Type 1} (𝓤 : URA M) (H : Heap 𝓤) (A : Atoms 𝓤) (W : Given
         Kit.by ! (Walk.leave-by 𝓤 H A W f-search-piece.ended (f-search-piece.clauses 𝓤 H A mem run) stayed-search-piece bound-search-piece (Outcome-L.lowered r3) r3 (tt, (tt, (tt, ((ws3 .1 .1 .1 .0), ((ws3 .1 .1 .1 .1 .0), (tt, (tt, (tt, (tt, tt))))))))) (tt, (tt, (tt, ((len1 ∙ refl), ((len2 ∙ refl), (tt, (tt, (tt, (tt, tt))))))))) (factI 𝓤 _ (emp 𝓤) (piece-nowhere pre e1 (eqb-false r1 0 t1) refl e3 (eqb-true (r3 .node) 0 t2)))))))))))))))
         (λ h2. let t2 : (eqb (r3 .node) 0) ≡ false = Walk.is-false _ h2 in
         Walk.skips-then ! (
-        -- [pieces; κ₂; the locals; dead; κ₁; κ₀; κ₃; nodes; line; their ends]
+        -- [notes; κ₂; the locals; dead; κ₁; κ₀; κ₃; nodes; line; their ends]
         -- call 4: node_at (nodes, node)
         Walk.move ! (8 ∷ []) (
         Walk.gives W (Walk.copied (T-search-piece-nodes .own nodes (v-search-piece-nodes ∷ []))
@@ -1904,8 +2013,8 @@ module _ {M : Type 1} (𝓤 : URA M) (H : Heap 𝓤) (A : Atoms 𝓤) (W : Given
         let is4 : Is Node-T.the-row r4 ((Node-L.lowered r4) ∷ []) = subst (λ (vs : List Val). Is Node-T.the-row r4 vs)
         (LL.tells Node-T.the-type Node-L.the-laws r4 _ is4′) is4′ in
         Walk.written-out ! (‵ (flft κ₀ q₀) ∷ ‵ (T-search-piece-nodes .own nodes (sliceVal (nodes .ptr) (length (nodes .now)) ∷ [])) ∷
-        ‵ (T-search-piece-pieces .own (at-last pieces (ws3 .1 .1 .1 .1 .0)) (sliceVal (pieces .ptr) (length (ws3 .1 .1 .1 .1 .0)) ∷ [])) ∷
-        ‵ (flft κ₂ q₂) ∷ ‵ (fat fullShare Y-search-piece-pieces l₅ 0 (sliceVal (pieces .ptr) (length (ws3 .1 .1 .1 .1 .0)))) ∷
+        ‵ (T-search-piece-notes .own (at-last notes (ws3 .1 .1 .1 .1 .0)) (sliceVal (notes .ptr) (length (ws3 .1 .1 .1 .1 .0)) ∷ [])) ∷
+        ‵ (flft κ₂ q₂) ∷ ‵ (fat fullShare Y-search-piece-notes l₅ 0 (sliceVal (notes .ptr) (length (ws3 .1 .1 .1 .1 .0)))) ∷
         ‵ (T-search-piece-dead .own (at-last dead (ws3 .1 .1 .1 .0)) (sliceVal (dead .ptr) (length (ws3 .1 .1 .1 .0)) ∷ [])) ∷ ‵ (flft κ₁ q₁) ∷
         ‵ (fat fullShare Y-search-piece-dead l₄ 0 (sliceVal (dead .ptr) (length (ws3 .1 .1 .1 .0)))) ∷ ‵ (flft κ₃ q₃) ∷
         ‵ (T-search-piece-line .own line (sliceVal (line .ptr) (length (line .now)) ∷ [])) ∷ ‵ (froom Outcome-L.mir l₀ 0) ∷
@@ -1917,15 +2026,15 @@ module _ {M : Type 1} (𝓤 : URA M) (H : Heap 𝓤) (A : Atoms 𝓤) (W : Given
         ‵ (fat fullShare Node-L.mir l₁₂ 0 (Node-L.lowered r4)) ∷ ‵ (fat fullShare tyBool l₁₃ 0 (vbool (eqb (r3 .node) 0))) ∷
         ‵ (fat fullShare (tyRef erased mut (pointee ((UInt w8) .written))) l₁₄ 0 (vptr (dead .ptr .0) (dead .ptr .1))) ∷
         ‵ (fat fullShare (sliceTy (tyRef erased mut (pointee ((UInt w8) .written)))) l₁₅ 0 (sliceVal (dead .ptr) (length (dead .now)))) ∷
-        ‵ (fat fullShare (tyRef erased mut (pointee ((UInt w8) .written))) l₁₆ 0 (vptr (pieces .ptr .0) (pieces .ptr .1))) ∷
-        ‵ (fat fullShare (sliceTy (tyRef erased mut (pointee ((UInt w8) .written)))) l₁₇ 0 (sliceVal (pieces .ptr) (length (pieces .now)))) ∷
-        ‵ (froom (tyRef erased mut (pointee ((UInt w8) .written))) l₁₈ 0) ∷
-        ‵ (froom (sliceTy (tyRef erased mut (pointee ((UInt w8) .written)))) l₁₉ 0) ∷ ‵ (froom (tyInt w64) l₂₀ 0) ∷ ‵ Fd ∷ []) refl (
+        ‵ (fat fullShare (tyRef erased mut (pointee ((UInt w64) .written))) l₁₆ 0 (vptr (notes .ptr .0) (notes .ptr .1))) ∷
+        ‵ (fat fullShare (sliceTy (tyRef erased mut (pointee ((UInt w64) .written)))) l₁₇ 0 (sliceVal (notes .ptr) (length (notes .now)))) ∷
+        ‵ (froom (tyRef erased mut (pointee ((UInt w64) .written))) l₁₈ 0) ∷
+        ‵ (froom (sliceTy (tyRef erased mut (pointee ((UInt w64) .written)))) l₁₉ 0) ∷ ‵ (froom (tyInt w64) l₂₀ 0) ∷ ‵ Fd ∷ []) refl (
         Walk.sets ! (Run.addr ! (Run.from ! (Run.fld ! refl (Run.hop ! (Part.look-in ! 4 (Part.sub ! 0 refl (Part.whole !))) (Run.stop !)))))
         (Run.init ! 26 refl ((tt, tt))) (
         Walk.sets ! (Part.agg ! (Run.and-then ! (Walk.local ! 26 refl) (Run.and-then ! (Walk.part ! 4 refl refl refl) (Run.no-more !))))
-        (Run.init ! 27 refl ((tt, (tt, (record { fits = (subst (Slice.Room (UInt w8)) (sym len2) (is-pieces .0 .1)) .0 }, tt))))) (
-        -- [κ₀; nodes; pieces; κ₂; the locals; dead; κ₁; κ₃; line; their ends]
+        (Run.init ! 27 refl ((tt, (tt, (record { fits = (subst (Slice.Room (UInt w64)) (sym len2) (is-notes .0 .1)) .0 }, tt))))) (
+        -- [κ₀; nodes; notes; κ₂; the locals; dead; κ₁; κ₃; line; their ends]
         -- call 5: holes_of (r4)
         Walk.gives W (Walk.made (Node-T.the-row .own r4 ((Node-L.lowered r4) ∷ [])) (LL.makes Node-T.the-type Node-L.the-plain 𝓤 H A r4 _ is4) ∷
         []) _ ! (
@@ -1938,8 +2047,8 @@ module _ {M : Type 1} (𝓤 : URA M) (H : Heap 𝓤) (A : Atoms 𝓤) (W : Given
         Walk.lands-in ! (Walk.init-as ! 28 refl (uint-lawful 𝓤 H A W w64 .typed r5 _ is5′ .0) (ap only (uint-tells w64 r5 _ is5′))) (
         let is5 : Is (UInt w64) r5 ((vint w64 r5) ∷ []) = subst (λ (vs : List Val). Is (UInt w64) r5 vs) (uint-tells w64 r5 _ is5′) is5′ in
         Walk.written-out ! (‵ (flft κ₀ q₀) ∷ ‵ (T-search-piece-nodes .own nodes (sliceVal (nodes .ptr) (length (nodes .now)) ∷ [])) ∷
-        ‵ (T-search-piece-pieces .own (at-last pieces (ws3 .1 .1 .1 .1 .0)) (sliceVal (pieces .ptr) (length (ws3 .1 .1 .1 .1 .0)) ∷ [])) ∷
-        ‵ (flft κ₂ q₂) ∷ ‵ (fat fullShare Y-search-piece-pieces l₅ 0 (sliceVal (pieces .ptr) (length (ws3 .1 .1 .1 .1 .0)))) ∷
+        ‵ (T-search-piece-notes .own (at-last notes (ws3 .1 .1 .1 .1 .0)) (sliceVal (notes .ptr) (length (ws3 .1 .1 .1 .1 .0)) ∷ [])) ∷
+        ‵ (flft κ₂ q₂) ∷ ‵ (fat fullShare Y-search-piece-notes l₅ 0 (sliceVal (notes .ptr) (length (ws3 .1 .1 .1 .1 .0)))) ∷
         ‵ (T-search-piece-dead .own (at-last dead (ws3 .1 .1 .1 .0)) (sliceVal (dead .ptr) (length (ws3 .1 .1 .1 .0)) ∷ [])) ∷ ‵ (flft κ₁ q₁) ∷
         ‵ (fat fullShare Y-search-piece-dead l₄ 0 (sliceVal (dead .ptr) (length (ws3 .1 .1 .1 .0)))) ∷ ‵ (flft κ₃ q₃) ∷
         ‵ (T-search-piece-line .own line (sliceVal (line .ptr) (length (line .now)) ∷ [])) ∷ ‵ (froom Outcome-L.mir l₀ 0) ∷
@@ -1951,36 +2060,36 @@ module _ {M : Type 1} (𝓤 : URA M) (H : Heap 𝓤) (A : Atoms 𝓤) (W : Given
         ‵ (fat fullShare Node-L.mir l₁₂ 0 (Node-L.lowered r4)) ∷ ‵ (fat fullShare tyBool l₁₃ 0 (vbool (eqb (r3 .node) 0))) ∷
         ‵ (fat fullShare (tyRef erased mut (pointee ((UInt w8) .written))) l₁₄ 0 (vptr (dead .ptr .0) (dead .ptr .1))) ∷
         ‵ (fat fullShare (sliceTy (tyRef erased mut (pointee ((UInt w8) .written)))) l₁₅ 0 (sliceVal (dead .ptr) (length (dead .now)))) ∷
-        ‵ (fat fullShare (tyRef erased mut (pointee ((UInt w8) .written))) l₁₆ 0 (vptr (pieces .ptr .0) (pieces .ptr .1))) ∷
-        ‵ (fat fullShare (sliceTy (tyRef erased mut (pointee ((UInt w8) .written)))) l₁₇ 0 (sliceVal (pieces .ptr) (length (pieces .now)))) ∷
-        ‵ (fat fullShare (tyRef erased mut (pointee ((UInt w8) .written))) l₁₈ 0 (vptr (pieces .ptr .0) (pieces .ptr .1))) ∷
-        ‵ (fat fullShare (sliceTy (tyRef erased mut (pointee ((UInt w8) .written)))) l₁₉ 0 (sliceVal (pieces .ptr) (length (ws3 .1 .1 .1 .1 .0)))) ∷
+        ‵ (fat fullShare (tyRef erased mut (pointee ((UInt w64) .written))) l₁₆ 0 (vptr (notes .ptr .0) (notes .ptr .1))) ∷
+        ‵ (fat fullShare (sliceTy (tyRef erased mut (pointee ((UInt w64) .written)))) l₁₇ 0 (sliceVal (notes .ptr) (length (notes .now)))) ∷
+        ‵ (fat fullShare (tyRef erased mut (pointee ((UInt w64) .written))) l₁₈ 0 (vptr (notes .ptr .0) (notes .ptr .1))) ∷
+        ‵ (fat fullShare (sliceTy (tyRef erased mut (pointee ((UInt w64) .written)))) l₁₉ 0 (sliceVal (notes .ptr) (length (ws3 .1 .1 .1 .1 .0)))) ∷
         ‵ (fat fullShare (tyInt w64) l₂₀ 0 (vint w64 r5)) ∷ ‵ Fd ∷ []) refl (
-        -- [κ₀; nodes; pieces; κ₂; the locals; dead; κ₁; κ₃; line; their ends]
-        -- call 6: store_piece (pieces, r5, at, r3)
-        Walk.move ! (2 ∷ 2 ∷ []) (Again.lends W (UInt w8) κ₂ q₂ pieces (named 2) (named 0) (ws3 .1 .1 .1 .1 .0) ! tt (λ ν3 δ3.
-        Walk.gives W (Walk.kept (MutSlice (named 0) (ν3 ∷ []) (UInt w8) .own (record { ptr = (pieces .ptr); name = δ3; now = (ws3 .1 .1 .1 .1 .0) })
-        ((sliceVal (pieces .ptr) (length (ws3 .1 .1 .1 .1 .0))) ∷ [])) ∷ Walk.made ((UInt w64) .own r5 ((vint w64 r5) ∷ []))
+        -- [κ₀; nodes; notes; κ₂; the locals; dead; κ₁; κ₃; line; their ends]
+        -- call 6: store_piece (notes, r5, at, r3)
+        Walk.move ! (2 ∷ 2 ∷ []) (Again.lends W (UInt w64) κ₂ q₂ notes (named 2) (named 0) (ws3 .1 .1 .1 .1 .0) ! tt (λ ν3 δ3.
+        Walk.gives W (Walk.kept (MutSlice (named 0) (ν3 ∷ []) (UInt w64) .own (record { ptr = (notes .ptr); name = δ3; now = (ws3 .1 .1 .1 .1 .0) })
+        ((sliceVal (notes .ptr) (length (ws3 .1 .1 .1 .1 .0))) ∷ [])) ∷ Walk.made ((UInt w64) .own r5 ((vint w64 r5) ∷ []))
         (uint-makes 𝓤 H A W w64 r5 _ (refl, is5 .1)) ∷ Walk.made ((UInt w64) .own at ((vint w64 at) ∷ []))
         (uint-makes 𝓤 H A W w64 at _ (refl, fits-at)) ∷ Walk.made (Outcome-T.the-row .own r3 ((Outcome-L.lowered r3) ∷ []))
         (LL.makes Outcome-T.the-type Outcome-L.the-plain 𝓤 H A r3 _ is3) ∷ []) _ ! (
         Walk.move ! (2 ∷ []) (
         Walk.tokens-in W (((ν3 ∷ []), fullShare) ∷ []) _ ! (alive 𝓤 H A g-store-piece.signature ((ν3 ∷ []), tt) (fullShare, tt)) (id⊢ 𝓤 _) (
         Walk.asksˡ W ! fm g-store-piece.ended (g-store-piece.clauses 𝓤 H A mem run)
-        ((((ν3 ∷ []), tt), (fullShare, tt), tt, ((record { ptr = (pieces .ptr); name = δ3; now = (ws3 .1 .1 .1 .1 .0) }), (r5, (at, (r3, tt)))), ((sliceVal (pieces .ptr) (length (ws3 .1 .1 .1 .1 .0))) ∷ [], ((vint w64 r5) ∷ [], ((vint w64 at) ∷ [], ((Outcome-L.lowered r3) ∷ [], tt))))), tt) _ (known-store-piece ((((ν3 ∷ []), tt), (fullShare, tt), tt, ((record { ptr = (pieces .ptr); name = δ3; now = (ws3 .1 .1 .1 .1 .0) }), (r5, (at, (r3, tt)))), ((sliceVal (pieces .ptr) (length (ws3 .1 .1 .1 .1 .0))) ∷ [], ((vint w64 r5) ∷ [], ((vint w64 at) ∷ [], ((Outcome-L.lowered r3) ∷ [], tt))))), tt)) (factI 𝓤 _ (emp 𝓤) (piece-fits pre e1 refl (eqb-false r1 0 t1) e3 len2 e4 e5)) (λ r ws. id⊢ 𝓤 _)
+        ((((ν3 ∷ []), tt), (fullShare, tt), tt, ((record { ptr = (notes .ptr); name = δ3; now = (ws3 .1 .1 .1 .1 .0) }), (r5, (at, (r3, tt)))), ((sliceVal (notes .ptr) (length (ws3 .1 .1 .1 .1 .0))) ∷ [], ((vint w64 r5) ∷ [], ((vint w64 at) ∷ [], ((Outcome-L.lowered r3) ∷ [], tt))))), tt) _ (known-store-piece ((((ν3 ∷ []), tt), (fullShare, tt), tt, ((record { ptr = (notes .ptr); name = δ3; now = (ws3 .1 .1 .1 .1 .0) }), (r5, (at, (r3, tt)))), ((sliceVal (notes .ptr) (length (ws3 .1 .1 .1 .1 .0))) ∷ [], ((vint w64 r5) ∷ [], ((vint w64 at) ∷ [], ((Outcome-L.lowered r3) ∷ [], tt))))), tt)) (factI 𝓤 _ (emp 𝓤) (piece-fits pre e1 refl (eqb-false r1 0 t1) e3 len2 e4 e5)) (λ r ws. id⊢ 𝓤 _)
         (Run.and-then ! (Walk.local ! 27 refl) (Run.and-then ! (Walk.local ! 28 refl) (Run.and-then ! (Walk.local ! 17 refl)
         (Run.and-then ! (Walk.local ! 19 refl) (Run.no-more !))))) (λ u6 r6 ws6 is6′ e6.
-        Walk.returned W (((ν3 ∷ []), fullShare) ∷ []) (Walk.final (finally (UInt w8) δ3 (ws6 .0)) (length (ws6 .0)) (length (ws3 .1 .1 .1 .1 .0)) ∷
+        Walk.returned W (((ν3 ∷ []), fullShare) ∷ []) (Walk.final (finally (UInt w64) δ3 (ws6 .0)) (length (ws6 .0)) (length (ws3 .1 .1 .1 .1 .0)) ∷
         Walk.gone _ ∷ Walk.gone _ ∷ Walk.gone _ ∷ []) ! (id⊢ 𝓤 _) (λ len3.
         Walk.move ! (1 ∷ 1 ∷ 0 ∷ 2 ∷ []) (
-        Again.backs W (UInt w8) κ₂ q₂ pieces (named 2) (named 0) (ws3 .1 .1 .1 .1 .0) ! tt (ws6 .0) ((subst (Slice.Room (UInt w8)) (sym len2)
-        (is-pieces .0 .1))) len3 (
+        Again.backs W (UInt w64) κ₂ q₂ notes (named 2) (named 0) (ws3 .1 .1 .1 .1 .0) ! tt (ws6 .0) ((subst (Slice.Room (UInt w64)) (sym len2)
+        (is-notes .0 .1))) len3 (
         Walk.lands-in ! (Walk.init-as ! 10 refl (LL.lawful Outcome-T.the-type Outcome-L.the-laws 𝓤 H A W .typed r6 _ is6′ .0)
         (ap only (LL.tells Outcome-T.the-type Outcome-L.the-laws r6 _ is6′))) (
         let is6 : Is Outcome-T.the-row r6 ((Outcome-L.lowered r6) ∷ []) = subst (λ (vs : List Val). Is Outcome-T.the-row r6 vs)
         (LL.tells Outcome-T.the-type Outcome-L.the-laws r6 _ is6′) is6′ in
-        Walk.written-out ! (‵ (T-search-piece-pieces .own (at-last pieces (ws6 .0)) (sliceVal (pieces .ptr) (length (ws6 .0)) ∷ [])) ∷
-        ‵ (flft κ₂ q₂) ∷ ‵ (fat fullShare Y-search-piece-pieces l₅ 0 (sliceVal (pieces .ptr) (length (ws6 .0)))) ∷ ‵ (flft κ₀ q₀) ∷
+        Walk.written-out ! (‵ (T-search-piece-notes .own (at-last notes (ws6 .0)) (sliceVal (notes .ptr) (length (ws6 .0)) ∷ [])) ∷ ‵ (flft κ₂ q₂) ∷
+        ‵ (fat fullShare Y-search-piece-notes l₅ 0 (sliceVal (notes .ptr) (length (ws6 .0)))) ∷ ‵ (flft κ₀ q₀) ∷
         ‵ (T-search-piece-nodes .own nodes (sliceVal (nodes .ptr) (length (nodes .now)) ∷ [])) ∷
         ‵ (T-search-piece-dead .own (at-last dead (ws3 .1 .1 .1 .0)) (sliceVal (dead .ptr) (length (ws3 .1 .1 .1 .0)) ∷ [])) ∷ ‵ (flft κ₁ q₁) ∷
         ‵ (fat fullShare Y-search-piece-dead l₄ 0 (sliceVal (dead .ptr) (length (ws3 .1 .1 .1 .0)))) ∷ ‵ (flft κ₃ q₃) ∷
@@ -1994,27 +2103,27 @@ module _ {M : Type 1} (𝓤 : URA M) (H : Heap 𝓤) (A : Atoms 𝓤) (W : Given
         ‵ (fat fullShare tyBool l₁₃ 0 (vbool (eqb (r3 .node) 0))) ∷
         ‵ (fat fullShare (tyRef erased mut (pointee ((UInt w8) .written))) l₁₄ 0 (vptr (dead .ptr .0) (dead .ptr .1))) ∷
         ‵ (fat fullShare (sliceTy (tyRef erased mut (pointee ((UInt w8) .written)))) l₁₅ 0 (sliceVal (dead .ptr) (length (dead .now)))) ∷
-        ‵ (fat fullShare (tyRef erased mut (pointee ((UInt w8) .written))) l₁₆ 0 (vptr (pieces .ptr .0) (pieces .ptr .1))) ∷
-        ‵ (fat fullShare (sliceTy (tyRef erased mut (pointee ((UInt w8) .written)))) l₁₇ 0 (sliceVal (pieces .ptr) (length (pieces .now)))) ∷
-        ‵ (fat fullShare (tyRef erased mut (pointee ((UInt w8) .written))) l₁₈ 0 (vptr (pieces .ptr .0) (pieces .ptr .1))) ∷
-        ‵ (fat fullShare (sliceTy (tyRef erased mut (pointee ((UInt w8) .written)))) l₁₉ 0 (sliceVal (pieces .ptr) (length (ws3 .1 .1 .1 .1 .0)))) ∷
+        ‵ (fat fullShare (tyRef erased mut (pointee ((UInt w64) .written))) l₁₆ 0 (vptr (notes .ptr .0) (notes .ptr .1))) ∷
+        ‵ (fat fullShare (sliceTy (tyRef erased mut (pointee ((UInt w64) .written)))) l₁₇ 0 (sliceVal (notes .ptr) (length (notes .now)))) ∷
+        ‵ (fat fullShare (tyRef erased mut (pointee ((UInt w64) .written))) l₁₈ 0 (vptr (notes .ptr .0) (notes .ptr .1))) ∷
+        ‵ (fat fullShare (sliceTy (tyRef erased mut (pointee ((UInt w64) .written)))) l₁₉ 0 (sliceVal (notes .ptr) (length (ws3 .1 .1 .1 .1 .0)))) ∷
         ‵ (fat fullShare (tyInt w64) l₂₀ 0 (vint w64 r5)) ∷ ‵ Fd ∷ []) refl (
         Walk.returns-by ! Post-search-piece refl (Run.look ! 10 refl) (
         Walk.move ! (10 ∷ 10 ∷ 10 ∷ 10 ∷ 7 ∷ 2 ∷ 8 ∷ 8 ∷ 8 ∷ 8 ∷ 8 ∷ 8 ∷ 8 ∷ 8 ∷ 8 ∷ 8 ∷ 8 ∷ 8 ∷ 8 ∷ 8 ∷ 8 ∷ 8 ∷ []) (
         Walk.frees-gathered ! (Walk.full Outcome-L.mir l₀ (Outcome-L.lowered r6) ∷ Walk.full (tyInt w8) l₁ (vint w8 left) ∷
         Walk.full (tyInt w8) l₂ (vint w8 right) ∷ Walk.full Y-search-piece-nodes l₃ (sliceVal (nodes .ptr) (length (nodes .now))) ∷
         Walk.full Y-search-piece-dead l₄ (sliceVal (dead .ptr) (length (ws3 .1 .1 .1 .0))) ∷
-        Walk.full Y-search-piece-pieces l₅ (sliceVal (pieces .ptr) (length (ws6 .0))) ∷ Walk.full Y-search-piece-line l₆ (sliceVal (line .ptr)
+        Walk.full Y-search-piece-notes l₅ (sliceVal (notes .ptr) (length (ws6 .0))) ∷ Walk.full Y-search-piece-line l₆ (sliceVal (line .ptr)
         (length (line .now))) ∷ Walk.full (tyInt w64) l₇ (vint w64 end) ∷ Walk.full (tyInt w64) l₈ (vint w64 node) ∷
         Walk.full (tyInt w64) l₉ (vint w64 at) ∷ Walk.full (tyInt w64) l₁₀ (vint w64 r1) ∷ Walk.full Outcome-L.mir l₁₁ (Outcome-L.lowered r3) ∷
         Walk.full Node-L.mir l₁₂ (Node-L.lowered r4) ∷ Walk.full tyBool l₁₃ (vbool (eqb (r3 .node) 0)) ∷
         Walk.full (tyRef erased mut (pointee ((UInt w8) .written))) l₁₄ (vptr (dead .ptr .0) (dead .ptr .1)) ∷
         Walk.full (sliceTy (tyRef erased mut (pointee ((UInt w8) .written)))) l₁₅ (sliceVal (dead .ptr) (length (dead .now))) ∷
-        Walk.full (tyRef erased mut (pointee ((UInt w8) .written))) l₁₆ (vptr (pieces .ptr .0) (pieces .ptr .1)) ∷
-        Walk.full (sliceTy (tyRef erased mut (pointee ((UInt w8) .written)))) l₁₇ (sliceVal (pieces .ptr) (length (pieces .now))) ∷
-        Walk.full (tyRef erased mut (pointee ((UInt w8) .written))) l₁₈ (vptr (pieces .ptr .0) (pieces .ptr .1)) ∷
-        Walk.full (sliceTy (tyRef erased mut (pointee ((UInt w8) .written)))) l₁₉ (sliceVal (pieces .ptr) (length (ws3 .1 .1 .1 .1 .0))) ∷
-        Walk.full (tyInt w64) l₂₀ (vint w64 r5) ∷ []) Fd ed (‵ (T-search-piece-pieces .own (at-last pieces (ws6 .0)) (sliceVal (pieces .ptr)
+        Walk.full (tyRef erased mut (pointee ((UInt w64) .written))) l₁₆ (vptr (notes .ptr .0) (notes .ptr .1)) ∷
+        Walk.full (sliceTy (tyRef erased mut (pointee ((UInt w64) .written)))) l₁₇ (sliceVal (notes .ptr) (length (notes .now))) ∷
+        Walk.full (tyRef erased mut (pointee ((UInt w64) .written))) l₁₈ (vptr (notes .ptr .0) (notes .ptr .1)) ∷
+        Walk.full (sliceTy (tyRef erased mut (pointee ((UInt w64) .written)))) l₁₉ (sliceVal (notes .ptr) (length (ws3 .1 .1 .1 .1 .0))) ∷
+        Walk.full (tyInt w64) l₂₀ (vint w64 r5) ∷ []) Fd ed (‵ (T-search-piece-notes .own (at-last notes (ws6 .0)) (sliceVal (notes .ptr)
         (length (ws6 .0)) ∷ [])) ∷ ‵ (flft κ₂ q₂) ∷ ‵ (flft κ₀ q₀) ∷ ‵ (T-search-piece-nodes .own nodes (sliceVal (nodes .ptr)
         (length (nodes .now)) ∷ [])) ∷ ‵ (T-search-piece-dead .own (at-last dead (ws3 .1 .1 .1 .0)) (sliceVal (dead .ptr)
         (length (ws3 .1 .1 .1 .0)) ∷ [])) ∷ ‵ (flft κ₁ q₁) ∷ ‵ (flft κ₃ q₃) ∷ ‵ (T-search-piece-line .own line (sliceVal (line .ptr)
@@ -2022,10 +2131,9 @@ module _ {M : Type 1} (𝓤 : URA M) (H : Heap 𝓤) (A : Atoms 𝓤) (W : Given
         Walk.move ! (4 ∷ 0 ∷ []) (
         Walk.gives W (Walk.nothing ∷ Walk.nothing ∷ Walk.nothing ∷ Walk.turned (T-search-piece-dead .own (at-last dead (ws3 .1 .1 .1 .0))
         (sliceVal (dead .ptr) (length (ws3 .1 .1 .1 .0)) ∷ [])) (finally (UInt w8) (dead .name) (ws3 .1 .1 .1 .0))
-        (Walk.ended-slice 𝓤 H A W (named 1) κ₁ (UInt w8) dead (ws3 .1 .1 .1 .0) _) ∷
-        Walk.turned (T-search-piece-pieces .own (at-last pieces (ws6 .0)) (sliceVal (pieces .ptr) (length (ws6 .0)) ∷ [])) (finally (UInt w8)
-        (pieces .name) (ws6 .0)) (Walk.ended-slice 𝓤 H A W (named 2) κ₂ (UInt w8) pieces (ws6 .0) _) ∷ Walk.nothing ∷ Walk.nothing ∷ Walk.nothing ∷
-        Walk.nothing ∷ []) _ ! (
+        (Walk.ended-slice 𝓤 H A W (named 1) κ₁ (UInt w8) dead (ws3 .1 .1 .1 .0) _) ∷ Walk.turned (T-search-piece-notes .own (at-last notes (ws6 .0))
+        (sliceVal (notes .ptr) (length (ws6 .0)) ∷ [])) (finally (UInt w64) (notes .name) (ws6 .0))
+        (Walk.ended-slice 𝓤 H A W (named 2) κ₂ (UInt w64) notes (ws6 .0) _) ∷ Walk.nothing ∷ Walk.nothing ∷ Walk.nothing ∷ Walk.nothing ∷ []) _ ! (
         Walk.move ! (2 ∷ 3 ∷ 1 ∷ 2 ∷ []) (
         Walk.tokens-in W ((κ₀, q₀) ∷ (κ₁, q₁) ∷ (κ₂, q₂) ∷ (κ₃, q₃) ∷ []) _ ! (alive 𝓤 H A f-search-piece.signature (κ₀, (κ₁, (κ₂, (κ₃, tt))))
         (q₀, (q₁, (q₂, (q₃, tt))))) (id⊢ 𝓤 _) (
@@ -2035,7 +2143,7 @@ module _ {M : Type 1} (𝓤 : URA M) (H : Heap 𝓤) (A : Atoms 𝓤) (W : Given
 
 module _ {M : Type 1} (𝓤 : URA M) (H : Heap 𝓤) (A : Atoms 𝓤) (W : Given 𝓤 H A) (mem : Memory → SProp 𝓤) (run : Routine → Fun 𝓤) (κ₀ : Lft)
     (q₀ : Share) (κ₁ : Lft) (q₁ : Share) (κ₂ : Lft) (q₂ : Share) (κ₃ : Lft) (q₃ : Share) (left : ℕ) (right : ℕ) (nodes : RefT (List Node))
-    (dead : RefT (List ℕ)) (pieces : RefT (List ℕ)) (line : RefT (List ℕ)) (end : ℕ) (node : ℕ) (at : ℕ) where
+    (dead : RefT (List ℕ)) (notes : RefT (List ℕ)) (line : RefT (List ℕ)) (end : ℕ) (node : ℕ) (at : ℕ) where
   abbrev T-take-up-nodes : RattleType
   T-take-up-nodes = ShrSlice (named 0) κ₀ Node-T.the-row
 
@@ -2054,14 +2162,14 @@ module _ {M : Type 1} (𝓤 : URA M) (H : Heap 𝓤) (A : Atoms 𝓤) (W : Given
   abbrev v-take-up-dead : Val
   v-take-up-dead = sliceVal (dead .ptr) (length (dead .now))
 
-  abbrev T-take-up-pieces : RattleType
-  T-take-up-pieces = MutSlice (named 2) κ₂ (UInt w8)
+  abbrev T-take-up-notes : RattleType
+  T-take-up-notes = MutSlice (named 2) κ₂ (UInt w64)
 
-  abbrev Y-take-up-pieces : Ty
-  Y-take-up-pieces = sliceTy (tyRef (named 2) mut (pointee ((UInt w8) .written)))
+  abbrev Y-take-up-notes : Ty
+  Y-take-up-notes = sliceTy (tyRef (named 2) mut (pointee ((UInt w64) .written)))
 
-  abbrev v-take-up-pieces : Val
-  v-take-up-pieces = sliceVal (pieces .ptr) (length (pieces .now))
+  abbrev v-take-up-notes : Val
+  v-take-up-notes = sliceVal (notes .ptr) (length (notes .now))
 
   abbrev T-take-up-line : RattleType
   T-take-up-line = ShrSlice (named 3) κ₃ (UInt w8)
@@ -2073,136 +2181,135 @@ module _ {M : Type 1} (𝓤 : URA M) (H : Heap 𝓤) (A : Atoms 𝓤) (W : Given
   v-take-up-line = sliceVal (line .ptr) (length (line .now))
 
   abbrev bound-take-up : Walk.Of 𝓤 H A f-take-up.ended (f-take-up.clauses 𝓤 H A mem run) .Ghost
-  bound-take-up = (((κ₀, (κ₁, (κ₂, (κ₃, tt)))), (q₀, (q₁, (q₂, (q₃, tt)))), tt, (left, (right, (nodes, (dead, (pieces, (line, (end, (node, (at, tt))))))))), ((vint w8 left) ∷ [], ((vint w8 right) ∷ [], (v-take-up-nodes ∷ [], (v-take-up-dead ∷ [], (v-take-up-pieces ∷ [], (v-take-up-line ∷ [], ((vint w64 end) ∷ [], ((vint w64 node) ∷ [], ((vint w64 at) ∷ [], tt)))))))))), tt)
+  bound-take-up = (((κ₀, (κ₁, (κ₂, (κ₃, tt)))), (q₀, (q₁, (q₂, (q₃, tt)))), tt, (left, (right, (nodes, (dead, (notes, (line, (end, (node, (at, tt))))))))), ((vint w8 left) ∷ [], ((vint w8 right) ∷ [], (v-take-up-nodes ∷ [], (v-take-up-dead ∷ [], (v-take-up-notes ∷ [], (v-take-up-line ∷ [], ((vint w64 end) ∷ [], ((vint w64 node) ∷ [], ((vint w64 at) ∷ [], tt)))))))))), tt)
 
   abbrev Post-take-up : Val → SProp 𝓤
   Post-take-up = walkOf 𝓤 H A f-take-up.ended stayed-take-up (f-take-up.clauses 𝓤 H A mem run) .post bound-take-up
 
-  module _ (C : Calls 𝓤 H) (Λ : Loops 𝓤 H) (fm : FmC 𝓤 H (W .laws) C) (known-count-after : Triple 𝓤 (C #g-count-after)
-      (Walk.Of 𝓤 H A g-count-after.ended (g-count-after.clauses 𝓤 H A mem run)))
+  module _ (C : Calls 𝓤 H) (Λ : Loops 𝓤 H) (fm : FmC 𝓤 H (W .laws) C)
       (known-search : (y : Walk.Of 𝓤 H A f-search.ended (f-search.clauses 𝓤 H A mem run) .Ghost)
-      → μ-search 𝓤 H A mem run y < measure-take-up left right nodes dead pieces line end node at
+      → μ-search 𝓤 H A mem run y < measure-take-up left right nodes dead notes line end node at
       → ent 𝓤 (Walk.Of 𝓤 H A f-search.ended (f-search.clauses 𝓤 H A mem run) .pre y)
       (C #search (Walk.Of 𝓤 H A f-search.ended (f-search.clauses 𝓤 H A mem run) .args y)
       (Walk.Of 𝓤 H A f-search.ended (f-search.clauses 𝓤 H A mem run) .post y)))
       (known-search-atom : (y : Walk.Of 𝓤 H A f-search-atom.ended (f-search-atom.clauses 𝓤 H A mem run) .Ghost)
-      → μ-search-atom 𝓤 H A mem run y < measure-take-up left right nodes dead pieces line end node at
+      → μ-search-atom 𝓤 H A mem run y < measure-take-up left right nodes dead notes line end node at
       → ent 𝓤 (Walk.Of 𝓤 H A f-search-atom.ended (f-search-atom.clauses 𝓤 H A mem run) .pre y)
       (C #search-atom (Walk.Of 𝓤 H A f-search-atom.ended (f-search-atom.clauses 𝓤 H A mem run) .args y)
       (Walk.Of 𝓤 H A f-search-atom.ended (f-search-atom.clauses 𝓤 H A mem run) .post y)))
       (known-search-byte : (y : Walk.Of 𝓤 H A f-search-byte.ended (f-search-byte.clauses 𝓤 H A mem run) .Ghost)
-      → μ-search-byte 𝓤 H A mem run y < measure-take-up left right nodes dead pieces line end node at
+      → μ-search-byte 𝓤 H A mem run y < measure-take-up left right nodes dead notes line end node at
       → ent 𝓤 (Walk.Of 𝓤 H A f-search-byte.ended (f-search-byte.clauses 𝓤 H A mem run) .pre y)
       (C #search-byte (Walk.Of 𝓤 H A f-search-byte.ended (f-search-byte.clauses 𝓤 H A mem run) .args y)
       (Walk.Of 𝓤 H A f-search-byte.ended (f-search-byte.clauses 𝓤 H A mem run) .post y)))
       (known-search-piece : (y : Walk.Of 𝓤 H A f-search-piece.ended (f-search-piece.clauses 𝓤 H A mem run) .Ghost)
-      → μ-search-piece 𝓤 H A mem run y < measure-take-up left right nodes dead pieces line end node at
+      → μ-search-piece 𝓤 H A mem run y < measure-take-up left right nodes dead notes line end node at
       → ent 𝓤 (Walk.Of 𝓤 H A f-search-piece.ended (f-search-piece.clauses 𝓤 H A mem run) .pre y)
       (C #search-piece (Walk.Of 𝓤 H A f-search-piece.ended (f-search-piece.clauses 𝓤 H A mem run) .args y)
       (Walk.Of 𝓤 H A f-search-piece.ended (f-search-piece.clauses 𝓤 H A mem run) .post y)))
       (known-take-up : (y : Walk.Of 𝓤 H A f-take-up.ended (f-take-up.clauses 𝓤 H A mem run) .Ghost)
-      → μ-take-up 𝓤 H A mem run y < measure-take-up left right nodes dead pieces line end node at
+      → μ-take-up 𝓤 H A mem run y < measure-take-up left right nodes dead notes line end node at
       → ent 𝓤 (Walk.Of 𝓤 H A f-take-up.ended (f-take-up.clauses 𝓤 H A mem run) .pre y)
       (C #take-up (Walk.Of 𝓤 H A f-take-up.ended (f-take-up.clauses 𝓤 H A mem run) .args y)
       (Walk.Of 𝓤 H A f-take-up.ended (f-take-up.clauses 𝓤 H A mem run) .post y))) where
     walk-take-up : (fits-left : left < 2 ^ 8) → (fits-right : right < 2 ^ 8) → (is-nodes : Is T-take-up-nodes nodes (v-take-up-nodes ∷ []))
-        → (is-dead : Is T-take-up-dead dead (v-take-up-dead ∷ [])) → (is-pieces : Is T-take-up-pieces pieces (v-take-up-pieces ∷ []))
+        → (is-dead : Is T-take-up-dead dead (v-take-up-dead ∷ [])) → (is-notes : Is T-take-up-notes notes (v-take-up-notes ∷ []))
         → (is-line : Is T-take-up-line line (v-take-up-line ∷ [])) → (fits-end : end < 2 ^ 64) → (fits-node : node < 2 ^ 64)
-        → (fits-at : at < 2 ^ 64) → (pre : Asks (now nodes) (now dead) (now pieces) (now line) end node at)
+        → (fits-at : at < 2 ^ 64) → (pre : Asks (now nodes) (now dead) (now notes) (now line) end node at)
         → ent 𝓤 (onEntry 𝓤 H A f-take-up.signature (κ₀, (κ₁, (κ₂, (κ₃, tt)))) (q₀, (q₁, (q₂, (q₃, tt))))
-        (left, (right, (nodes, (dead, (pieces, (line, (end, (node, (at, tt)))))))))
-        ((vint w8 left) ∷ [], ((vint w8 right) ∷ [], (v-take-up-nodes ∷ [], (v-take-up-dead ∷ [], (v-take-up-pieces ∷ [], (v-take-up-line ∷ [], ((vint w64 end) ∷ [], ((vint w64 node) ∷ [], ((vint w64 at) ∷ [], tt)))))))))) (WpFn 𝓤 H C Λ code.take-up-function ((vint w8 left) ∷ (vint w8 right) ∷ v-take-up-nodes ∷ v-take-up-dead ∷ v-take-up-pieces ∷ v-take-up-line ∷ (vint w64 end) ∷ (vint w64 node) ∷ (vint w64 at) ∷ []) Post-take-up)
-    walk-take-up fits-left fits-right is-nodes is-dead is-pieces is-line fits-end fits-node fits-at pre =
+        (left, (right, (nodes, (dead, (notes, (line, (end, (node, (at, tt)))))))))
+        ((vint w8 left) ∷ [], ((vint w8 right) ∷ [], (v-take-up-nodes ∷ [], (v-take-up-dead ∷ [], (v-take-up-notes ∷ [], (v-take-up-line ∷ [], ((vint w64 end) ∷ [], ((vint w64 node) ∷ [], ((vint w64 at) ∷ [], tt)))))))))) (WpFn 𝓤 H C Λ code.take-up-function ((vint w8 left) ∷ (vint w8 right) ∷ v-take-up-nodes ∷ v-take-up-dead ∷ v-take-up-notes ∷ v-take-up-line ∷ (vint w64 end) ∷ (vint w64 node) ∷ (vint w64 at) ∷ []) Post-take-up)
+    walk-take-up fits-left fits-right is-nodes is-dead is-notes is-line fits-end fits-node fits-at pre =
         Kit.qed W (raw (alive 𝓤 H A f-take-up.signature (κ₀, (κ₁, (κ₂, (κ₃, tt)))) (q₀, (q₁, (q₂, (q₃, tt))))) ∷ ‵ (owns ((UInt w8) ∷ (UInt w8) ∷
-        T-take-up-nodes ∷ T-take-up-dead ∷ T-take-up-pieces ∷ T-take-up-line ∷ (UInt w64) ∷ (UInt w64) ∷ (UInt w64) ∷ [])
-        (left, (right, (nodes, (dead, (pieces, (line, (end, (node, (at, tt)))))))))
-        ((vint w8 left) ∷ [], ((vint w8 right) ∷ [], (v-take-up-nodes ∷ [], (v-take-up-dead ∷ [], (v-take-up-pieces ∷ [], (v-take-up-line ∷ [], ((vint w64 end) ∷ [], ((vint w64 node) ∷ [], ((vint w64 at) ∷ [], tt)))))))))) ∷ []) ∵
+        T-take-up-nodes ∷ T-take-up-dead ∷ T-take-up-notes ∷ T-take-up-line ∷ (UInt w64) ∷ (UInt w64) ∷ (UInt w64) ∷ [])
+        (left, (right, (nodes, (dead, (notes, (line, (end, (node, (at, tt)))))))))
+        ((vint w8 left) ∷ [], ((vint w8 right) ∷ [], (v-take-up-nodes ∷ [], (v-take-up-dead ∷ [], (v-take-up-notes ∷ [], (v-take-up-line ∷ [], ((vint w64 end) ∷ [], ((vint w64 node) ∷ [], ((vint w64 at) ∷ [], tt)))))))))) ∷ []) ∵
         Walk.move ! (1 ∷ []) (
         Walk.hears W (Walk.gone ((UInt w8) .own left ((vint w8 left) ∷ [])) ∷ Walk.gone ((UInt w8) .own right ((vint w8 right) ∷ [])) ∷
         Walk.stays (T-take-up-nodes .own nodes (v-take-up-nodes ∷ [])) ∷ Walk.stays (T-take-up-dead .own dead (v-take-up-dead ∷ [])) ∷
-        Walk.stays (T-take-up-pieces .own pieces (v-take-up-pieces ∷ [])) ∷ Walk.stays (T-take-up-line .own line (v-take-up-line ∷ [])) ∷
+        Walk.stays (T-take-up-notes .own notes (v-take-up-notes ∷ [])) ∷ Walk.stays (T-take-up-line .own line (v-take-up-line ∷ [])) ∷
         Walk.gone ((UInt w64) .own end ((vint w64 end) ∷ [])) ∷ Walk.gone ((UInt w64) .own node ((vint w64 node) ∷ [])) ∷
         Walk.gone ((UInt w64) .own at ((vint w64 at) ∷ [])) ∷ []) ! (
         Walk.move ! (4 ∷ []) (Walk.tokens-out W ((κ₀, q₀) ∷ (κ₁, q₁) ∷ (κ₂, q₂) ∷ (κ₃, q₃) ∷ []) ! (id⊢ 𝓤 _) (
-        Walk.enter ! C Λ code.take-up-function ((vint w8 left) ∷ (vint w8 right) ∷ v-take-up-nodes ∷ v-take-up-dead ∷ v-take-up-pieces ∷
+        Walk.enter ! C Λ code.take-up-function ((vint w8 left) ∷ (vint w8 right) ∷ v-take-up-nodes ∷ v-take-up-dead ∷ v-take-up-notes ∷
         v-take-up-line ∷ (vint w64 end) ∷ (vint w64 node) ∷ (vint w64 at) ∷ []) Post-take-up (
-        Run.alloc1 ! (λ l₀. Run.alloc1 ! (λ l₁. Run.alloc1 ! (λ l₂. Run.alloc1 ! (λ l₃. Run.alloc1 ! (λ l₄. Run.alloc1 ! (λ l₅. Run.alloc1 ! (λ l₆. Run.alloc1 ! (λ l₇. Run.alloc1 ! (λ l₈. Run.alloc1 ! (λ l₉. Run.alloc1 ! (λ l₁₀. Run.alloc1 ! (λ l₁₁. Run.alloc1 ! (λ l₁₂. Run.alloc1 ! (λ l₁₃. Run.alloc1 ! (λ l₁₄. Run.alloc1 ! (λ l₁₅. Run.alloc1 ! (λ l₁₆. Run.alloc1 ! (λ l₁₇. Run.alloc1 ! (λ l₁₈. Run.alloc1 ! (λ l₁₉. Run.alloc1 ! (λ l₂₀. Run.alloc1 ! (λ l₂₁. Run.alloc1 ! (λ l₂₂. Run.alloc1 ! (λ l₂₃. Run.alloc1 ! (λ l₂₄. Run.alloc1 ! (λ l₂₅. Run.alloc1 ! (λ l₂₆.
+        Run.alloc1 ! (λ l₀. Run.alloc1 ! (λ l₁. Run.alloc1 ! (λ l₂. Run.alloc1 ! (λ l₃. Run.alloc1 ! (λ l₄. Run.alloc1 ! (λ l₅. Run.alloc1 ! (λ l₆. Run.alloc1 ! (λ l₇. Run.alloc1 ! (λ l₈. Run.alloc1 ! (λ l₉. Run.alloc1 ! (λ l₁₀. Run.alloc1 ! (λ l₁₁. Run.alloc1 ! (λ l₁₂. Run.alloc1 ! (λ l₁₃. Run.alloc1 ! (λ l₁₄. Run.alloc1 ! (λ l₁₅. Run.alloc1 ! (λ l₁₆. Run.alloc1 ! (λ l₁₇. Run.alloc1 ! (λ l₁₈. Run.alloc1 ! (λ l₁₉. Run.alloc1 ! (λ l₂₀. Run.alloc1 ! (λ l₂₁. Run.alloc1 ! (λ l₂₂. Run.alloc1 ! (λ l₂₃. Run.alloc1 ! (λ l₂₄.
         let E : Env 𝓤 H = Walk.at-addresses (code.take-up-function .locals) (l₀ ∷ l₁ ∷ l₂ ∷ l₃ ∷ l₄ ∷ l₅ ∷ l₆ ∷ l₇ ∷ l₈ ∷ l₉ ∷ l₁₀ ∷ l₁₁ ∷ l₁₂ ∷
-        l₁₃ ∷ l₁₄ ∷ l₁₅ ∷ l₁₆ ∷ l₁₇ ∷ l₁₈ ∷ l₁₉ ∷ l₂₀ ∷ l₂₁ ∷ l₂₂ ∷ l₂₃ ∷ l₂₄ ∷ l₂₅ ∷ l₂₆ ∷ []) in
-        Walk.move ! (52 ∷ 52 ∷ 50 ∷ 50 ∷ 48 ∷ 48 ∷ 46 ∷ 46 ∷ 44 ∷ 44 ∷ 42 ∷ 42 ∷ 40 ∷ 40 ∷ 38 ∷ 38 ∷ 36 ∷ 36 ∷ 34 ∷ 34 ∷ 32 ∷ 32 ∷ 30 ∷ 30 ∷ 28 ∷
-        28 ∷ 26 ∷ 26 ∷ 24 ∷ 24 ∷ 22 ∷ 22 ∷ 20 ∷ 20 ∷ 18 ∷ 18 ∷ 16 ∷ 16 ∷ 14 ∷ 14 ∷ 12 ∷ 12 ∷ 10 ∷ 10 ∷ 8 ∷ 8 ∷ 6 ∷ 6 ∷ 4 ∷ 4 ∷ 2 ∷ 2 ∷ 0 ∷ 0 ∷ []) (
+        l₁₃ ∷ l₁₄ ∷ l₁₅ ∷ l₁₆ ∷ l₁₇ ∷ l₁₈ ∷ l₁₉ ∷ l₂₀ ∷ l₂₁ ∷ l₂₂ ∷ l₂₃ ∷ l₂₄ ∷ []) in
+        Walk.move ! (48 ∷ 48 ∷ 46 ∷ 46 ∷ 44 ∷ 44 ∷ 42 ∷ 42 ∷ 40 ∷ 40 ∷ 38 ∷ 38 ∷ 36 ∷ 36 ∷ 34 ∷ 34 ∷ 32 ∷ 32 ∷ 30 ∷ 30 ∷ 28 ∷ 28 ∷ 26 ∷ 26 ∷ 24 ∷
+        24 ∷ 22 ∷ 22 ∷ 20 ∷ 20 ∷ 18 ∷ 18 ∷ 16 ∷ 16 ∷ 14 ∷ 14 ∷ 12 ∷ 12 ∷ 10 ∷ 10 ∷ 8 ∷ 8 ∷ 6 ∷ 6 ∷ 4 ∷ 4 ∷ 2 ∷ 2 ∷ 0 ∷ 0 ∷ []) (
         Walk.gathers ! (Walk.bare Outcome-L.mir l₀ ∷ Walk.bare (tyInt w8) l₁ ∷ Walk.bare (tyInt w8) l₂ ∷ Walk.bare Y-take-up-nodes l₃ ∷
-        Walk.bare Y-take-up-dead l₄ ∷ Walk.bare Y-take-up-pieces l₅ ∷ Walk.bare Y-take-up-line l₆ ∷ Walk.bare (tyInt w64) l₇ ∷
+        Walk.bare Y-take-up-dead l₄ ∷ Walk.bare Y-take-up-notes l₅ ∷ Walk.bare Y-take-up-line l₆ ∷ Walk.bare (tyInt w64) l₇ ∷
         Walk.bare (tyInt w64) l₈ ∷ Walk.bare (tyInt w64) l₉ ∷ Walk.bare Outcome-L.mir l₁₀ ∷ Walk.bare Outcome-L.mir l₁₁ ∷
-        Walk.bare Outcome-L.mir l₁₂ ∷ Walk.bare (tyRef erased mut (pointee ((UInt w8) .written))) l₁₃ ∷
-        Walk.bare (sliceTy (tyRef erased mut (pointee ((UInt w8) .written)))) l₁₄ ∷
-        Walk.bare (tyRef erased mut (pointee ((UInt w8) .written))) l₁₅ ∷
-        Walk.bare (sliceTy (tyRef erased mut (pointee ((UInt w8) .written)))) l₁₆ ∷ Walk.bare tyBool l₁₇ ∷
-        Walk.bare (tyRef erased mut (pointee ((UInt w8) .written))) l₁₈ ∷
-        Walk.bare (sliceTy (tyRef erased mut (pointee ((UInt w8) .written)))) l₁₉ ∷
-        Walk.bare (tyRef erased mut (pointee ((UInt w8) .written))) l₂₀ ∷
-        Walk.bare (sliceTy (tyRef erased mut (pointee ((UInt w8) .written)))) l₂₁ ∷
-        Walk.bare (tyRef erased mut (pointee ((UInt w8) .written))) l₂₂ ∷
-        Walk.bare (sliceTy (tyRef erased mut (pointee ((UInt w8) .written)))) l₂₃ ∷
-        Walk.bare (tyRef erased mut (pointee ((UInt w8) .written))) l₂₄ ∷
-        Walk.bare (sliceTy (tyRef erased mut (pointee ((UInt w8) .written)))) l₂₅ ∷ Walk.bare Outcome-L.mir l₂₆ ∷ []) (‵ (flft κ₀ q₀) ∷
-        ‵ (flft κ₁ q₁) ∷ ‵ (flft κ₂ q₂) ∷ ‵ (flft κ₃ q₃) ∷ ‵ (T-take-up-line .own line (sliceVal (line .ptr) (length (line .now)) ∷ [])) ∷
-        ‵ (T-take-up-pieces .own pieces (sliceVal (pieces .ptr) (length (pieces .now)) ∷ [])) ∷ ‵ (T-take-up-dead .own dead (sliceVal (dead .ptr)
+        Walk.bare (tyRef erased mut (pointee ((UInt w8) .written))) l₁₂ ∷
+        Walk.bare (sliceTy (tyRef erased mut (pointee ((UInt w8) .written)))) l₁₃ ∷
+        Walk.bare (tyRef erased mut (pointee ((UInt w64) .written))) l₁₄ ∷
+        Walk.bare (sliceTy (tyRef erased mut (pointee ((UInt w64) .written)))) l₁₅ ∷ Walk.bare tyBool l₁₆ ∷
+        Walk.bare (tyRef erased mut (pointee ((UInt w8) .written))) l₁₇ ∷
+        Walk.bare (sliceTy (tyRef erased mut (pointee ((UInt w8) .written)))) l₁₈ ∷
+        Walk.bare (tyRef erased mut (pointee ((UInt w64) .written))) l₁₉ ∷
+        Walk.bare (sliceTy (tyRef erased mut (pointee ((UInt w64) .written)))) l₂₀ ∷
+        Walk.bare (tyRef erased mut (pointee ((UInt w8) .written))) l₂₁ ∷
+        Walk.bare (sliceTy (tyRef erased mut (pointee ((UInt w8) .written)))) l₂₂ ∷
+        Walk.bare (tyRef erased mut (pointee ((UInt w64) .written))) l₂₃ ∷
+        Walk.bare (sliceTy (tyRef erased mut (pointee ((UInt w64) .written)))) l₂₄ ∷ []) (‵ (flft κ₀ q₀) ∷ ‵ (flft κ₁ q₁) ∷ ‵ (flft κ₂ q₂) ∷
+        ‵ (flft κ₃ q₃) ∷ ‵ (T-take-up-line .own line (sliceVal (line .ptr) (length (line .now)) ∷ [])) ∷
+        ‵ (T-take-up-notes .own notes (sliceVal (notes .ptr) (length (notes .now)) ∷ [])) ∷ ‵ (T-take-up-dead .own dead (sliceVal (dead .ptr)
         (length (dead .now)) ∷ [])) ∷ ‵ (T-take-up-nodes .own nodes (sliceVal (nodes .ptr) (length (nodes .now)) ∷ [])) ∷ []) (λ Fd ed.
         Walk.allocated ! (Walk.after-result ! (Walk.pass ! (Run.init ! 1 refl ((tt, record { fits = fits-left }))) (
         Walk.pass ! (Run.init ! 2 refl ((tt, record { fits = fits-right }))) (
         Walk.pass ! (Run.init ! 3 refl (shr-slice-lawful 𝓤 H A W (named 0) κ₀ Node-T.the-row .typed nodes _ is-nodes .0)) (
         Walk.pass ! (Run.init ! 4 refl (mut-slice-lawful 𝓤 H A W (named 1) κ₁ (UInt w8) .typed dead _ is-dead .0)) (
-        Walk.pass ! (Run.init ! 5 refl (mut-slice-lawful 𝓤 H A W (named 2) κ₂ (UInt w8) .typed pieces _ is-pieces .0)) (
+        Walk.pass ! (Run.init ! 5 refl (mut-slice-lawful 𝓤 H A W (named 2) κ₂ (UInt w64) .typed notes _ is-notes .0)) (
         Walk.pass ! (Run.init ! 6 refl (shr-slice-lawful 𝓤 H A W (named 3) κ₃ (UInt w8) .typed line _ is-line .0)) (
         Walk.pass ! (Run.init ! 7 refl ((tt, record { fits = fits-end }))) (Walk.pass ! (Run.init ! 8 refl ((tt, record { fits = fits-node }))) (
         Walk.pass ! (Run.init ! 9 refl ((tt, record { fits = fits-at }))) (Walk.passed ! (
         Walk.sets ! (Run.addr ! (Run.from ! (Run.fld ! refl (Run.hop ! (Part.look-in ! 4 (Part.sub ! 0 refl (Part.whole !))) (Run.stop !)))))
-        (Run.init ! 13 refl ((tt, tt))) (
-        Walk.sets ! (Part.agg ! (Run.and-then ! (Walk.local ! 13 refl) (Run.and-then ! (Walk.part ! 4 refl refl refl) (Run.no-more !))))
-        (Run.init ! 14 refl ((tt, (tt, (record { fits = is-dead .0 .1 .0 }, tt))))) (
+        (Run.init ! 12 refl ((tt, tt))) (
+        Walk.sets ! (Part.agg ! (Run.and-then ! (Walk.local ! 12 refl) (Run.and-then ! (Walk.part ! 4 refl refl refl) (Run.no-more !))))
+        (Run.init ! 13 refl ((tt, (tt, (record { fits = is-dead .0 .1 .0 }, tt))))) (
         Walk.sets ! (Run.addr ! (Run.from ! (Run.fld ! refl (Run.hop ! (Part.look-in ! 5 (Part.sub ! 0 refl (Part.whole !))) (Run.stop !)))))
-        (Run.init ! 15 refl ((tt, tt))) (
-        Walk.sets ! (Part.agg ! (Run.and-then ! (Walk.local ! 15 refl) (Run.and-then ! (Walk.part ! 5 refl refl refl) (Run.no-more !))))
-        (Run.init ! 16 refl ((tt, (tt, (record { fits = is-pieces .0 .1 .0 }, tt))))) (
-        -- [the locals; their ends; κ₀; κ₁; κ₂; κ₃; line; pieces; dead; nodes]
-        -- call 1: search_byte (left, right, nodes, dead, pieces, line, end, node, at)
-        Walk.move ! (34 ∷ 29 ∷ []) (Again.lends W (UInt w8) κ₁ q₁ dead (named 1) (named 1) (dead .now) ! tt (λ ν1 δ1.
-        Walk.move ! (35 ∷ 32 ∷ []) (Again.lends W (UInt w8) κ₂ q₂ pieces (named 2) (named 2) (pieces .now) ! tt (λ ν2 δ2.
-        Walk.move ! (37 ∷ 3 ∷ 0 ∷ 34 ∷ []) (
+        (Run.init ! 14 refl ((tt, tt))) (
+        Walk.sets ! (Part.agg ! (Run.and-then ! (Walk.local ! 14 refl) (Run.and-then ! (Walk.part ! 5 refl refl refl) (Run.no-more !))))
+        (Run.init ! 15 refl ((tt, (tt, (record { fits = is-notes .0 .1 .0 }, tt))))) (
+        -- [the locals; their ends; κ₀; κ₁; κ₂; κ₃; line; notes; dead; nodes]
+        -- call 1: search_byte (left, right, nodes, dead, notes, line, end, node, at)
+        Walk.move ! (32 ∷ 27 ∷ []) (Again.lends W (UInt w8) κ₁ q₁ dead (named 1) (named 1) (dead .now) ! tt (λ ν1 δ1.
+        Walk.move ! (33 ∷ 30 ∷ []) (Again.lends W (UInt w64) κ₂ q₂ notes (named 2) (named 2) (notes .now) ! tt (λ ν2 δ2.
+        Walk.move ! (35 ∷ 3 ∷ 0 ∷ 32 ∷ []) (
         Walk.gives W (Walk.made ((UInt w8) .own left ((vint w8 left) ∷ [])) (uint-makes 𝓤 H A W w8 left _ (refl, fits-left)) ∷
         Walk.made ((UInt w8) .own right ((vint w8 right) ∷ [])) (uint-makes 𝓤 H A W w8 right _ (refl, fits-right)) ∷
         Walk.copied (T-take-up-nodes .own nodes (v-take-up-nodes ∷ [])) (shr-slice-copy 𝓤 H A W (named 0) κ₀ Node-T.the-row .twice nodes _) ∷
         Walk.kept (MutSlice (named 1) (ν1 ∷ []) (UInt w8) .own (record { ptr = (dead .ptr); name = δ1; now = (dead .now) }) ((sliceVal (dead .ptr)
         (length (dead .now))) ∷ [])) ∷ Walk.kept (MutSlice (named 2) (ν2 ∷ [])
-        (UInt w8) .own (record { ptr = (pieces .ptr); name = δ2; now = (pieces .now) }) ((sliceVal (pieces .ptr) (length (pieces .now))) ∷ [])) ∷
+        (UInt w64) .own (record { ptr = (notes .ptr); name = δ2; now = (notes .now) }) ((sliceVal (notes .ptr) (length (notes .now))) ∷ [])) ∷
         Walk.copied (T-take-up-line .own line (v-take-up-line ∷ [])) (shr-slice-copy 𝓤 H A W (named 3) κ₃ (UInt w8) .twice line _) ∷
         Walk.made ((UInt w64) .own end ((vint w64 end) ∷ [])) (uint-makes 𝓤 H A W w64 end _ (refl, fits-end)) ∷
         Walk.made ((UInt w64) .own node ((vint w64 node) ∷ [])) (uint-makes 𝓤 H A W w64 node _ (refl, fits-node)) ∷
         Walk.made ((UInt w64) .own at ((vint w64 at) ∷ [])) (uint-makes 𝓤 H A W w64 at _ (refl, fits-at)) ∷ []) _ ! (
-        Walk.move ! (35 ∷ 6 ∷ 4 ∷ 33 ∷ []) (
+        Walk.move ! (33 ∷ 6 ∷ 4 ∷ 31 ∷ []) (
         Walk.tokens-in W ((κ₀, q₀) ∷ ((ν1 ∷ []), fullShare) ∷ ((ν2 ∷ []), fullShare) ∷ (κ₃, q₃) ∷
         []) _ ! (alive 𝓤 H A f-search-byte.signature (κ₀, ((ν1 ∷ []), ((ν2 ∷ []), (κ₃, tt)))) (q₀, (fullShare, (fullShare, (q₃, tt))))) (id⊢ 𝓤 _) (
         Walk.asksˡ W ! fm f-search-byte.ended (f-search-byte.clauses 𝓤 H A mem run)
-        (((κ₀, ((ν1 ∷ []), ((ν2 ∷ []), (κ₃, tt)))), (q₀, (fullShare, (fullShare, (q₃, tt)))), tt, (left, (right, (nodes, ((record { ptr = (dead .ptr); name = δ1; now = (dead .now) }), ((record { ptr = (pieces .ptr); name = δ2; now = (pieces .now) }), (line, (end, (node, (at, tt))))))))), ((vint w8 left) ∷ [], ((vint w8 right) ∷ [], (v-take-up-nodes ∷ [], ((sliceVal (dead .ptr) (length (dead .now))) ∷ [], ((sliceVal (pieces .ptr) (length (pieces .now))) ∷ [], (v-take-up-line ∷ [], ((vint w64 end) ∷ [], ((vint w64 node) ∷ [], ((vint w64 at) ∷ [], tt)))))))))), tt) _ (known-search-byte (((κ₀, ((ν1 ∷ []), ((ν2 ∷ []), (κ₃, tt)))), (q₀, (fullShare, (fullShare, (q₃, tt)))), tt, (left, (right, (nodes, ((record { ptr = (dead .ptr); name = δ1; now = (dead .now) }), ((record { ptr = (pieces .ptr); name = δ2; now = (pieces .now) }), (line, (end, (node, (at, tt))))))))), ((vint w8 left) ∷ [], ((vint w8 right) ∷ [], (v-take-up-nodes ∷ [], ((sliceVal (dead .ptr) (length (dead .now))) ∷ [], ((sliceVal (pieces .ptr) (length (pieces .now))) ∷ [], (v-take-up-line ∷ [], ((vint w64 end) ∷ [], ((vint w64 node) ∷ [], ((vint w64 at) ∷ [], tt)))))))))), tt) (omega arith)) (factI 𝓤 _ (emp 𝓤) (pre)) (λ r ws. id⊢ 𝓤 _)
+        (((κ₀, ((ν1 ∷ []), ((ν2 ∷ []), (κ₃, tt)))), (q₀, (fullShare, (fullShare, (q₃, tt)))), tt, (left, (right, (nodes, ((record { ptr = (dead .ptr); name = δ1; now = (dead .now) }), ((record { ptr = (notes .ptr); name = δ2; now = (notes .now) }), (line, (end, (node, (at, tt))))))))), ((vint w8 left) ∷ [], ((vint w8 right) ∷ [], (v-take-up-nodes ∷ [], ((sliceVal (dead .ptr) (length (dead .now))) ∷ [], ((sliceVal (notes .ptr) (length (notes .now))) ∷ [], (v-take-up-line ∷ [], ((vint w64 end) ∷ [], ((vint w64 node) ∷ [], ((vint w64 at) ∷ [], tt)))))))))), tt) _ (known-search-byte (((κ₀, ((ν1 ∷ []), ((ν2 ∷ []), (κ₃, tt)))), (q₀, (fullShare, (fullShare, (q₃, tt)))), tt, (left, (right, (nodes, ((record { ptr = (dead .ptr); name = δ1; now = (dead .now) }), ((record { ptr = (notes .ptr); name = δ2; now = (notes .now) }), (line, (end, (node, (at, tt))))))))), ((vint w8 left) ∷ [], ((vint w8 right) ∷ [], (v-take-up-nodes ∷ [], ((sliceVal (dead .ptr) (length (dead .now))) ∷ [], ((sliceVal (notes .ptr) (length (notes .now))) ∷ [], (v-take-up-line ∷ [], ((vint w64 end) ∷ [], ((vint w64 node) ∷ [], ((vint w64 at) ∷ [], tt)))))))))), tt) (omega arith)) (factI 𝓤 _ (emp 𝓤) (pre)) (λ r ws. id⊢ 𝓤 _)
         (Run.and-then ! (Walk.local ! 6 refl) (Run.and-then ! (Walk.local ! 7 refl) (Run.and-then ! (Walk.local ! 8 refl)
-        (Run.and-then ! (Walk.local ! 19 refl) (Run.and-then ! (Walk.local ! 21 refl) (Run.and-then ! (Walk.local ! 11 refl)
+        (Run.and-then ! (Walk.local ! 18 refl) (Run.and-then ! (Walk.local ! 20 refl) (Run.and-then ! (Walk.local ! 11 refl)
         (Run.and-then ! (Walk.local ! 12 refl) (Run.and-then ! (Walk.local ! 13 refl) (Run.and-then ! (Walk.local ! 14 refl)
         (Run.no-more !)))))))))) (λ u1 r1 ws1 is1′ e1.
         Walk.returned W ((κ₀, q₀) ∷ ((ν1 ∷ []), fullShare) ∷ ((ν2 ∷ []), fullShare) ∷ (κ₃, q₃) ∷ []) (Walk.gone _ ∷ Walk.gone _ ∷ Walk.gone _ ∷
         Walk.final (finally (UInt w8) δ1 (ws1 .1 .1 .1 .0)) (length (ws1 .1 .1 .1 .0)) (length (dead .now)) ∷
-        Walk.final (finally (UInt w8) δ2 (ws1 .1 .1 .1 .1 .0)) (length (ws1 .1 .1 .1 .1 .0)) (length (pieces .now)) ∷ Walk.gone _ ∷ Walk.gone _ ∷
+        Walk.final (finally (UInt w64) δ2 (ws1 .1 .1 .1 .1 .0)) (length (ws1 .1 .1 .1 .1 .0)) (length (notes .now)) ∷ Walk.gone _ ∷ Walk.gone _ ∷
         Walk.gone _ ∷ Walk.gone _ ∷ []) ! (id⊢ 𝓤 _) (λ len1 len2.
         Walk.move ! (3 ∷ 8 ∷ 1 ∷ 11 ∷ []) (
         Again.backs W (UInt w8) κ₁ q₁ dead (named 1) (named 1) (dead .now) ! tt (ws1 .1 .1 .1 .0) (is-dead .0 .1) len1 (
         Walk.move ! (5 ∷ 8 ∷ 3 ∷ 11 ∷ []) (
-        Again.backs W (UInt w8) κ₂ q₂ pieces (named 2) (named 2) (pieces .now) ! tt (ws1 .1 .1 .1 .1 .0) (is-pieces .0 .1) len2 (
+        Again.backs W (UInt w64) κ₂ q₂ notes (named 2) (named 2) (notes .now) ! tt (ws1 .1 .1 .1 .1 .0) (is-notes .0 .1) len2 (
         Walk.lands-in ! (Walk.init-as ! 18 refl (LL.lawful Outcome-T.the-type Outcome-L.the-laws 𝓤 H A W .typed r1 _ is1′ .0)
         (ap only (LL.tells Outcome-T.the-type Outcome-L.the-laws r1 _ is1′))) (
         let is1 : Is Outcome-T.the-row r1 ((Outcome-L.lowered r1) ∷ []) = subst (λ (vs : List Val). Is Outcome-T.the-row r1 vs)
         (LL.tells Outcome-T.the-type Outcome-L.the-laws r1 _ is1′) is1′ in
-        Walk.written-out ! (‵ (T-take-up-pieces .own (at-last pieces (ws1 .1 .1 .1 .1 .0)) (sliceVal (pieces .ptr) (length (ws1 .1 .1 .1 .1 .0)) ∷
-        [])) ∷ ‵ (flft κ₂ q₂) ∷ ‵ (fat fullShare Y-take-up-pieces l₅ 0 (sliceVal (pieces .ptr) (length (ws1 .1 .1 .1 .1 .0)))) ∷
+        Walk.written-out ! (‵ (T-take-up-notes .own (at-last notes (ws1 .1 .1 .1 .1 .0)) (sliceVal (notes .ptr) (length (ws1 .1 .1 .1 .1 .0)) ∷
+        [])) ∷ ‵ (flft κ₂ q₂) ∷ ‵ (fat fullShare Y-take-up-notes l₅ 0 (sliceVal (notes .ptr) (length (ws1 .1 .1 .1 .1 .0)))) ∷
         ‵ (T-take-up-dead .own (at-last dead (ws1 .1 .1 .1 .0)) (sliceVal (dead .ptr) (length (ws1 .1 .1 .1 .0)) ∷ [])) ∷ ‵ (flft κ₁ q₁) ∷
         ‵ (fat fullShare Y-take-up-dead l₄ 0 (sliceVal (dead .ptr) (length (ws1 .1 .1 .1 .0)))) ∷ ‵ (flft κ₀ q₀) ∷ ‵ (flft κ₃ q₃) ∷
         ‵ (T-take-up-nodes .own nodes (sliceVal (nodes .ptr) (length (nodes .now)) ∷ [])) ∷ ‵ (T-take-up-line .own line (sliceVal (line .ptr)
@@ -2210,45 +2317,45 @@ module _ {M : Type 1} (𝓤 : URA M) (H : Heap 𝓤) (A : Atoms 𝓤) (W : Given
         ‵ (fat fullShare (tyInt w8) l₂ 0 (vint w8 right)) ∷ ‵ (fat fullShare Y-take-up-nodes l₃ 0 (sliceVal (nodes .ptr) (length (nodes .now)))) ∷
         ‵ (fat fullShare Y-take-up-line l₆ 0 (sliceVal (line .ptr) (length (line .now)))) ∷ ‵ (fat fullShare (tyInt w64) l₇ 0 (vint w64 end)) ∷
         ‵ (fat fullShare (tyInt w64) l₈ 0 (vint w64 node)) ∷ ‵ (fat fullShare (tyInt w64) l₉ 0 (vint w64 at)) ∷
-        ‵ (fat fullShare Outcome-L.mir l₁₀ 0 (Outcome-L.lowered r1)) ∷ ‵ (froom Outcome-L.mir l₁₁ 0) ∷ ‵ (froom Outcome-L.mir l₁₂ 0) ∷
-        ‵ (fat fullShare (tyRef erased mut (pointee ((UInt w8) .written))) l₁₃ 0 (vptr (dead .ptr .0) (dead .ptr .1))) ∷
-        ‵ (fat fullShare (sliceTy (tyRef erased mut (pointee ((UInt w8) .written)))) l₁₄ 0 (sliceVal (dead .ptr) (length (dead .now)))) ∷
-        ‵ (fat fullShare (tyRef erased mut (pointee ((UInt w8) .written))) l₁₅ 0 (vptr (pieces .ptr .0) (pieces .ptr .1))) ∷
-        ‵ (fat fullShare (sliceTy (tyRef erased mut (pointee ((UInt w8) .written)))) l₁₆ 0 (sliceVal (pieces .ptr) (length (pieces .now)))) ∷
-        ‵ (froom tyBool l₁₇ 0) ∷ ‵ (froom (tyRef erased mut (pointee ((UInt w8) .written))) l₁₈ 0) ∷
-        ‵ (froom (sliceTy (tyRef erased mut (pointee ((UInt w8) .written)))) l₁₉ 0) ∷
-        ‵ (froom (tyRef erased mut (pointee ((UInt w8) .written))) l₂₀ 0) ∷
-        ‵ (froom (sliceTy (tyRef erased mut (pointee ((UInt w8) .written)))) l₂₁ 0) ∷
-        ‵ (froom (tyRef erased mut (pointee ((UInt w8) .written))) l₂₂ 0) ∷
-        ‵ (froom (sliceTy (tyRef erased mut (pointee ((UInt w8) .written)))) l₂₃ 0) ∷
-        ‵ (froom (tyRef erased mut (pointee ((UInt w8) .written))) l₂₄ 0) ∷
-        ‵ (froom (sliceTy (tyRef erased mut (pointee ((UInt w8) .written)))) l₂₅ 0) ∷ ‵ (froom Outcome-L.mir l₂₆ 0) ∷ ‵ Fd ∷ []) refl (
-        Walk.sets ! (Run.bin ! (Walk.part ! 18 refl refl refl) (Run.lit ! tt) tt) (Run.init ! 25 refl ((tt, tt))) (Walk.first-then ! (
-        Run.branches ! (Walk.local ! 25 refl)
+        ‵ (fat fullShare Outcome-L.mir l₁₀ 0 (Outcome-L.lowered r1)) ∷ ‵ (froom Outcome-L.mir l₁₁ 0) ∷
+        ‵ (fat fullShare (tyRef erased mut (pointee ((UInt w8) .written))) l₁₂ 0 (vptr (dead .ptr .0) (dead .ptr .1))) ∷
+        ‵ (fat fullShare (sliceTy (tyRef erased mut (pointee ((UInt w8) .written)))) l₁₃ 0 (sliceVal (dead .ptr) (length (dead .now)))) ∷
+        ‵ (fat fullShare (tyRef erased mut (pointee ((UInt w64) .written))) l₁₄ 0 (vptr (notes .ptr .0) (notes .ptr .1))) ∷
+        ‵ (fat fullShare (sliceTy (tyRef erased mut (pointee ((UInt w64) .written)))) l₁₅ 0 (sliceVal (notes .ptr) (length (notes .now)))) ∷
+        ‵ (froom tyBool l₁₆ 0) ∷ ‵ (froom (tyRef erased mut (pointee ((UInt w8) .written))) l₁₇ 0) ∷
+        ‵ (froom (sliceTy (tyRef erased mut (pointee ((UInt w8) .written)))) l₁₈ 0) ∷
+        ‵ (froom (tyRef erased mut (pointee ((UInt w64) .written))) l₁₉ 0) ∷
+        ‵ (froom (sliceTy (tyRef erased mut (pointee ((UInt w64) .written)))) l₂₀ 0) ∷
+        ‵ (froom (tyRef erased mut (pointee ((UInt w8) .written))) l₂₁ 0) ∷
+        ‵ (froom (sliceTy (tyRef erased mut (pointee ((UInt w8) .written)))) l₂₂ 0) ∷
+        ‵ (froom (tyRef erased mut (pointee ((UInt w64) .written))) l₂₃ 0) ∷
+        ‵ (froom (sliceTy (tyRef erased mut (pointee ((UInt w64) .written)))) l₂₄ 0) ∷ ‵ Fd ∷ []) refl (
+        Walk.sets ! (Run.bin ! (Walk.part ! 18 refl refl refl) (Run.lit ! tt) tt) (Run.init ! 24 refl ((tt, tt))) (Walk.first-then ! (
+        Run.branches ! (Walk.local ! 24 refl)
         (λ h1. let t1 : (not (eqb (r1 .node) 0)) ≡ true = Walk.is-true _ h1 in
         Walk.sets ! (Run.of-opd ! (Walk.local ! 18 refl))
         (Run.init ! 10 refl (LL.lawful Outcome-T.the-type Outcome-L.the-laws 𝓤 H A W .typed r1 _ is1 .0)) (
         Walk.returns-by ! Post-take-up (Walk.through 𝓤 H C Λ E _ _ Post-take-up refl) (Run.look ! 10 refl) (
-        Walk.move ! (10 ∷ 10 ∷ 10 ∷ 10 ∷ 5 ∷ 2 ∷ 8 ∷ 8 ∷ 8 ∷ 8 ∷ 8 ∷ 8 ∷ 8 ∷ 8 ∷ 8 ∷ 8 ∷ 8 ∷ 8 ∷ 8 ∷ 8 ∷ 8 ∷ 8 ∷ 8 ∷ 8 ∷ 8 ∷ 8 ∷ 8 ∷ 8 ∷ []) (
+        Walk.move ! (10 ∷ 10 ∷ 10 ∷ 10 ∷ 5 ∷ 2 ∷ 8 ∷ 8 ∷ 8 ∷ 8 ∷ 8 ∷ 8 ∷ 8 ∷ 8 ∷ 8 ∷ 8 ∷ 8 ∷ 8 ∷ 8 ∷ 8 ∷ 8 ∷ 8 ∷ 8 ∷ 8 ∷ 8 ∷ 8 ∷ []) (
         Walk.frees-gathered ! (Walk.full Outcome-L.mir l₀ (Outcome-L.lowered r1) ∷ Walk.full (tyInt w8) l₁ (vint w8 left) ∷
         Walk.full (tyInt w8) l₂ (vint w8 right) ∷ Walk.full Y-take-up-nodes l₃ (sliceVal (nodes .ptr) (length (nodes .now))) ∷
-        Walk.full Y-take-up-dead l₄ (sliceVal (dead .ptr) (length (ws1 .1 .1 .1 .0))) ∷ Walk.full Y-take-up-pieces l₅ (sliceVal (pieces .ptr)
+        Walk.full Y-take-up-dead l₄ (sliceVal (dead .ptr) (length (ws1 .1 .1 .1 .0))) ∷ Walk.full Y-take-up-notes l₅ (sliceVal (notes .ptr)
         (length (ws1 .1 .1 .1 .1 .0))) ∷ Walk.full Y-take-up-line l₆ (sliceVal (line .ptr) (length (line .now))) ∷
         Walk.full (tyInt w64) l₇ (vint w64 end) ∷ Walk.full (tyInt w64) l₈ (vint w64 node) ∷ Walk.full (tyInt w64) l₉ (vint w64 at) ∷
-        Walk.full Outcome-L.mir l₁₀ (Outcome-L.lowered r1) ∷ Walk.bare Outcome-L.mir l₁₁ ∷ Walk.bare Outcome-L.mir l₁₂ ∷
-        Walk.full (tyRef erased mut (pointee ((UInt w8) .written))) l₁₃ (vptr (dead .ptr .0) (dead .ptr .1)) ∷
-        Walk.full (sliceTy (tyRef erased mut (pointee ((UInt w8) .written)))) l₁₄ (sliceVal (dead .ptr) (length (dead .now))) ∷
-        Walk.full (tyRef erased mut (pointee ((UInt w8) .written))) l₁₅ (vptr (pieces .ptr .0) (pieces .ptr .1)) ∷
-        Walk.full (sliceTy (tyRef erased mut (pointee ((UInt w8) .written)))) l₁₆ (sliceVal (pieces .ptr) (length (pieces .now))) ∷
-        Walk.full tyBool l₁₇ (vbool (not (eqb (r1 .node) 0))) ∷ Walk.bare (tyRef erased mut (pointee ((UInt w8) .written))) l₁₈ ∷
-        Walk.bare (sliceTy (tyRef erased mut (pointee ((UInt w8) .written)))) l₁₉ ∷
-        Walk.bare (tyRef erased mut (pointee ((UInt w8) .written))) l₂₀ ∷
-        Walk.bare (sliceTy (tyRef erased mut (pointee ((UInt w8) .written)))) l₂₁ ∷
-        Walk.bare (tyRef erased mut (pointee ((UInt w8) .written))) l₂₂ ∷
-        Walk.bare (sliceTy (tyRef erased mut (pointee ((UInt w8) .written)))) l₂₃ ∷
-        Walk.bare (tyRef erased mut (pointee ((UInt w8) .written))) l₂₄ ∷
-        Walk.bare (sliceTy (tyRef erased mut (pointee ((UInt w8) .written)))) l₂₅ ∷ Walk.bare Outcome-L.mir l₂₆ ∷
-        []) Fd ed (‵ (T-take-up-pieces .own (at-last pieces (ws1 .1 .1 .1 .1 .0)) (sliceVal (pieces .ptr) (length (ws1 .1 .1 .1 .1 .0)) ∷ [])) ∷
+        Walk.full Outcome-L.mir l₁₀ (Outcome-L.lowered r1) ∷ Walk.bare Outcome-L.mir l₁₁ ∷
+        Walk.full (tyRef erased mut (pointee ((UInt w8) .written))) l₁₂ (vptr (dead .ptr .0) (dead .ptr .1)) ∷
+        Walk.full (sliceTy (tyRef erased mut (pointee ((UInt w8) .written)))) l₁₃ (sliceVal (dead .ptr) (length (dead .now))) ∷
+        Walk.full (tyRef erased mut (pointee ((UInt w64) .written))) l₁₄ (vptr (notes .ptr .0) (notes .ptr .1)) ∷
+        Walk.full (sliceTy (tyRef erased mut (pointee ((UInt w64) .written)))) l₁₅ (sliceVal (notes .ptr) (length (notes .now))) ∷
+        Walk.full tyBool l₁₆ (vbool (not (eqb (r1 .node) 0))) ∷ Walk.bare (tyRef erased mut (pointee ((UInt w8) .written))) l₁₇ ∷
+        Walk.bare (sliceTy (tyRef erased mut (pointee ((UInt w8) .written)))) l₁₈ ∷
+        Walk.bare (tyRef erased mut (pointee ((UInt w64) .written))) l₁₉ ∷
+        Walk.bare (sliceTy (tyRef erased mut (pointee ((UInt w64) .written)))) l₂₀ ∷
+        Walk.bare (tyRef erased mut (pointee ((UInt w8) .written))) l₂₁ ∷
+        Walk.bare (sliceTy (tyRef erased mut (pointee ((UInt w8) .written)))) l₂₂ ∷
+        Walk.bare (tyRef erased mut (pointee ((UInt w64) .written))) l₂₃ ∷
+        Walk.bare (sliceTy (tyRef erased mut (pointee ((UInt w64) .written)))) l₂₄ ∷
+        []) Fd ed (‵ (T-take-up-notes .own (at-last notes (ws1 .1 .1 .1 .1 .0)) (sliceVal (notes .ptr) (length (ws1 .1 .1 .1 .1 .0)) ∷ [])) ∷
         ‵ (flft κ₂ q₂) ∷ ‵ (T-take-up-dead .own (at-last dead (ws1 .1 .1 .1 .0)) (sliceVal (dead .ptr) (length (ws1 .1 .1 .1 .0)) ∷ [])) ∷
         ‵ (flft κ₁ q₁) ∷ ‵ (flft κ₀ q₀) ∷ ‵ (flft κ₃ q₃) ∷ ‵ (T-take-up-nodes .own nodes (sliceVal (nodes .ptr) (length (nodes .now)) ∷ [])) ∷
         ‵ (T-take-up-line .own line (sliceVal (line .ptr) (length (line .now)) ∷ [])) ∷ []) (
@@ -2256,8 +2363,8 @@ module _ {M : Type 1} (𝓤 : URA M) (H : Heap 𝓤) (A : Atoms 𝓤) (W : Given
         Walk.gives W (Walk.nothing ∷ Walk.nothing ∷ Walk.nothing ∷ Walk.turned (T-take-up-dead .own (at-last dead (ws1 .1 .1 .1 .0))
         (sliceVal (dead .ptr) (length (ws1 .1 .1 .1 .0)) ∷ [])) (finally (UInt w8) (dead .name) (ws1 .1 .1 .1 .0))
         (Walk.ended-slice 𝓤 H A W (named 1) κ₁ (UInt w8) dead (ws1 .1 .1 .1 .0) _) ∷
-        Walk.turned (T-take-up-pieces .own (at-last pieces (ws1 .1 .1 .1 .1 .0)) (sliceVal (pieces .ptr) (length (ws1 .1 .1 .1 .1 .0)) ∷ []))
-        (finally (UInt w8) (pieces .name) (ws1 .1 .1 .1 .1 .0)) (Walk.ended-slice 𝓤 H A W (named 2) κ₂ (UInt w8) pieces (ws1 .1 .1 .1 .1 .0) _) ∷
+        Walk.turned (T-take-up-notes .own (at-last notes (ws1 .1 .1 .1 .1 .0)) (sliceVal (notes .ptr) (length (ws1 .1 .1 .1 .1 .0)) ∷ []))
+        (finally (UInt w64) (notes .name) (ws1 .1 .1 .1 .1 .0)) (Walk.ended-slice 𝓤 H A W (named 2) κ₂ (UInt w64) notes (ws1 .1 .1 .1 .1 .0) _) ∷
         Walk.nothing ∷ Walk.nothing ∷ Walk.nothing ∷ Walk.nothing ∷ []) _ ! (
         Walk.move ! (3 ∷ 2 ∷ 1 ∷ 1 ∷ []) (
         Walk.tokens-in W ((κ₀, q₀) ∷ (κ₁, q₁) ∷ (κ₂, q₂) ∷ (κ₃, q₃) ∷ []) _ ! (alive 𝓤 H A f-take-up.signature (κ₀, (κ₁, (κ₂, (κ₃, tt))))
@@ -2268,24 +2375,24 @@ module _ {M : Type 1} (𝓤 : URA M) (H : Heap 𝓤) (A : Atoms 𝓤) (W : Given
         (λ h1. let t1 : (not (eqb (r1 .node) 0)) ≡ false = Walk.is-false _ h1 in
         Walk.skips-then ! (
         Walk.sets ! (Run.addr ! (Run.from ! (Run.fld ! refl (Run.hop ! (Part.look-in ! 5 (Part.sub ! 0 refl (Part.whole !))) (Run.stop !)))))
-        (Run.init ! 26 refl ((tt, tt))) (
-        Walk.sets ! (Part.agg ! (Run.and-then ! (Walk.local ! 26 refl) (Run.and-then ! (Walk.part ! 5 refl refl refl) (Run.no-more !))))
-        (Run.init ! 27 refl ((tt, (tt, (record { fits = (subst (Slice.Room (UInt w8)) (sym len1) (is-dead .0 .1)) .0 }, tt))))) (
+        (Run.init ! 25 refl ((tt, tt))) (
+        Walk.sets ! (Part.agg ! (Run.and-then ! (Walk.local ! 25 refl) (Run.and-then ! (Walk.part ! 5 refl refl refl) (Run.no-more !))))
+        (Run.init ! 26 refl ((tt, (tt, (record { fits = (subst (Slice.Room (UInt w8)) (sym len1) (is-dead .0 .1)) .0 }, tt))))) (
         Walk.sets ! (Run.addr ! (Run.from ! (Run.fld ! refl (Run.hop ! (Part.look-in ! 2 (Part.sub ! 0 refl (Part.whole !))) (Run.stop !)))))
-        (Run.init ! 28 refl ((tt, tt))) (
-        Walk.sets ! (Part.agg ! (Run.and-then ! (Walk.local ! 28 refl) (Run.and-then ! (Walk.part ! 2 refl refl refl) (Run.no-more !))))
-        (Run.init ! 29 refl ((tt, (tt, (record { fits = (subst (Slice.Room (UInt w8)) (sym len2) (is-pieces .0 .1)) .0 }, tt))))) (
-        -- [pieces; κ₂; the locals; dead; κ₁; κ₀; κ₃; nodes; line; their ends]
-        -- call 2: search_piece (left, right, nodes, dead, pieces, line, end, node, at)
+        (Run.init ! 27 refl ((tt, tt))) (
+        Walk.sets ! (Part.agg ! (Run.and-then ! (Walk.local ! 27 refl) (Run.and-then ! (Walk.part ! 2 refl refl refl) (Run.no-more !))))
+        (Run.init ! 28 refl ((tt, (tt, (record { fits = (subst (Slice.Room (UInt w64)) (sym len2) (is-notes .0 .1)) .0 }, tt))))) (
+        -- [notes; κ₂; the locals; dead; κ₁; κ₀; κ₃; nodes; line; their ends]
+        -- call 2: search_piece (left, right, nodes, dead, notes, line, end, node, at)
         Walk.move ! (3 ∷ 3 ∷ []) (Again.lends W (UInt w8) κ₁ q₁ dead (named 1) (named 1) (ws1 .1 .1 .1 .0) ! tt (λ ν3 δ3.
-        Walk.move ! (3 ∷ 3 ∷ []) (Again.lends W (UInt w8) κ₂ q₂ pieces (named 2) (named 2) (ws1 .1 .1 .1 .1 .0) ! tt (λ ν4 δ4.
+        Walk.move ! (3 ∷ 3 ∷ []) (Again.lends W (UInt w64) κ₂ q₂ notes (named 2) (named 2) (ws1 .1 .1 .1 .1 .0) ! tt (λ ν4 δ4.
         Walk.move ! (10 ∷ 3 ∷ 0 ∷ 8 ∷ []) (
         Walk.gives W (Walk.made ((UInt w8) .own left ((vint w8 left) ∷ [])) (uint-makes 𝓤 H A W w8 left _ (refl, fits-left)) ∷
         Walk.made ((UInt w8) .own right ((vint w8 right) ∷ [])) (uint-makes 𝓤 H A W w8 right _ (refl, fits-right)) ∷
         Walk.copied (T-take-up-nodes .own nodes (v-take-up-nodes ∷ [])) (shr-slice-copy 𝓤 H A W (named 0) κ₀ Node-T.the-row .twice nodes _) ∷
         Walk.kept (MutSlice (named 1) (ν3 ∷ []) (UInt w8) .own (record { ptr = (dead .ptr); name = δ3; now = (ws1 .1 .1 .1 .0) })
         ((sliceVal (dead .ptr) (length (ws1 .1 .1 .1 .0))) ∷ [])) ∷ Walk.kept (MutSlice (named 2) (ν4 ∷ [])
-        (UInt w8) .own (record { ptr = (pieces .ptr); name = δ4; now = (ws1 .1 .1 .1 .1 .0) }) ((sliceVal (pieces .ptr)
+        (UInt w64) .own (record { ptr = (notes .ptr); name = δ4; now = (ws1 .1 .1 .1 .1 .0) }) ((sliceVal (notes .ptr)
         (length (ws1 .1 .1 .1 .1 .0))) ∷ [])) ∷ Walk.copied (T-take-up-line .own line (v-take-up-line ∷ []))
         (shr-slice-copy 𝓤 H A W (named 3) κ₃ (UInt w8) .twice line _) ∷ Walk.made ((UInt w64) .own end ((vint w64 end) ∷ []))
         (uint-makes 𝓤 H A W w64 end _ (refl, fits-end)) ∷ Walk.made ((UInt w64) .own node ((vint w64 node) ∷ []))
@@ -2295,27 +2402,27 @@ module _ {M : Type 1} (𝓤 : URA M) (H : Heap 𝓤) (A : Atoms 𝓤) (W : Given
         Walk.tokens-in W ((κ₀, q₀) ∷ ((ν3 ∷ []), fullShare) ∷ ((ν4 ∷ []), fullShare) ∷ (κ₃, q₃) ∷
         []) _ ! (alive 𝓤 H A f-search-piece.signature (κ₀, ((ν3 ∷ []), ((ν4 ∷ []), (κ₃, tt)))) (q₀, (fullShare, (fullShare, (q₃, tt))))) (id⊢ 𝓤 _) (
         Walk.asksˡ W ! fm f-search-piece.ended (f-search-piece.clauses 𝓤 H A mem run)
-        (((κ₀, ((ν3 ∷ []), ((ν4 ∷ []), (κ₃, tt)))), (q₀, (fullShare, (fullShare, (q₃, tt)))), tt, (left, (right, (nodes, ((record { ptr = (dead .ptr); name = δ3; now = (ws1 .1 .1 .1 .0) }), ((record { ptr = (pieces .ptr); name = δ4; now = (ws1 .1 .1 .1 .1 .0) }), (line, (end, (node, (at, tt))))))))), ((vint w8 left) ∷ [], ((vint w8 right) ∷ [], (v-take-up-nodes ∷ [], ((sliceVal (dead .ptr) (length (ws1 .1 .1 .1 .0))) ∷ [], ((sliceVal (pieces .ptr) (length (ws1 .1 .1 .1 .1 .0))) ∷ [], (v-take-up-line ∷ [], ((vint w64 end) ∷ [], ((vint w64 node) ∷ [], ((vint w64 at) ∷ [], tt)))))))))), tt) _ (known-search-piece (((κ₀, ((ν3 ∷ []), ((ν4 ∷ []), (κ₃, tt)))), (q₀, (fullShare, (fullShare, (q₃, tt)))), tt, (left, (right, (nodes, ((record { ptr = (dead .ptr); name = δ3; now = (ws1 .1 .1 .1 .0) }), ((record { ptr = (pieces .ptr); name = δ4; now = (ws1 .1 .1 .1 .1 .0) }), (line, (end, (node, (at, tt))))))))), ((vint w8 left) ∷ [], ((vint w8 right) ∷ [], (v-take-up-nodes ∷ [], ((sliceVal (dead .ptr) (length (ws1 .1 .1 .1 .0))) ∷ [], ((sliceVal (pieces .ptr) (length (ws1 .1 .1 .1 .1 .0))) ∷ [], (v-take-up-line ∷ [], ((vint w64 end) ∷ [], ((vint w64 node) ∷ [], ((vint w64 at) ∷ [], tt)))))))))), tt) (omega arith)) (factI 𝓤 _ (emp 𝓤) ((asks-second pre e1 len1 len2))) (λ r ws. id⊢ 𝓤 _)
+        (((κ₀, ((ν3 ∷ []), ((ν4 ∷ []), (κ₃, tt)))), (q₀, (fullShare, (fullShare, (q₃, tt)))), tt, (left, (right, (nodes, ((record { ptr = (dead .ptr); name = δ3; now = (ws1 .1 .1 .1 .0) }), ((record { ptr = (notes .ptr); name = δ4; now = (ws1 .1 .1 .1 .1 .0) }), (line, (end, (node, (at, tt))))))))), ((vint w8 left) ∷ [], ((vint w8 right) ∷ [], (v-take-up-nodes ∷ [], ((sliceVal (dead .ptr) (length (ws1 .1 .1 .1 .0))) ∷ [], ((sliceVal (notes .ptr) (length (ws1 .1 .1 .1 .1 .0))) ∷ [], (v-take-up-line ∷ [], ((vint w64 end) ∷ [], ((vint w64 node) ∷ [], ((vint w64 at) ∷ [], tt)))))))))), tt) _ (known-search-piece (((κ₀, ((ν3 ∷ []), ((ν4 ∷ []), (κ₃, tt)))), (q₀, (fullShare, (fullShare, (q₃, tt)))), tt, (left, (right, (nodes, ((record { ptr = (dead .ptr); name = δ3; now = (ws1 .1 .1 .1 .0) }), ((record { ptr = (notes .ptr); name = δ4; now = (ws1 .1 .1 .1 .1 .0) }), (line, (end, (node, (at, tt))))))))), ((vint w8 left) ∷ [], ((vint w8 right) ∷ [], (v-take-up-nodes ∷ [], ((sliceVal (dead .ptr) (length (ws1 .1 .1 .1 .0))) ∷ [], ((sliceVal (notes .ptr) (length (ws1 .1 .1 .1 .1 .0))) ∷ [], (v-take-up-line ∷ [], ((vint w64 end) ∷ [], ((vint w64 node) ∷ [], ((vint w64 at) ∷ [], tt)))))))))), tt) (omega arith)) (factI 𝓤 _ (emp 𝓤) ((asks-second pre e1 len1 len2))) (λ r ws. id⊢ 𝓤 _)
         (Run.and-then ! (Walk.local ! 8 refl) (Run.and-then ! (Walk.local ! 9 refl) (Run.and-then ! (Walk.local ! 10 refl)
-        (Run.and-then ! (Walk.local ! 24 refl) (Run.and-then ! (Walk.local ! 26 refl) (Run.and-then ! (Walk.local ! 11 refl)
+        (Run.and-then ! (Walk.local ! 23 refl) (Run.and-then ! (Walk.local ! 25 refl) (Run.and-then ! (Walk.local ! 11 refl)
         (Run.and-then ! (Walk.local ! 12 refl) (Run.and-then ! (Walk.local ! 13 refl) (Run.and-then ! (Walk.local ! 14 refl)
         (Run.no-more !)))))))))) (λ u2 r2 ws2 is2′ e2.
         Walk.returned W ((κ₀, q₀) ∷ ((ν3 ∷ []), fullShare) ∷ ((ν4 ∷ []), fullShare) ∷ (κ₃, q₃) ∷ []) (Walk.gone _ ∷ Walk.gone _ ∷ Walk.gone _ ∷
         Walk.final (finally (UInt w8) δ3 (ws2 .1 .1 .1 .0)) (length (ws2 .1 .1 .1 .0)) (length (ws1 .1 .1 .1 .0)) ∷
-        Walk.final (finally (UInt w8) δ4 (ws2 .1 .1 .1 .1 .0)) (length (ws2 .1 .1 .1 .1 .0)) (length (ws1 .1 .1 .1 .1 .0)) ∷ Walk.gone _ ∷
+        Walk.final (finally (UInt w64) δ4 (ws2 .1 .1 .1 .1 .0)) (length (ws2 .1 .1 .1 .1 .0)) (length (ws1 .1 .1 .1 .1 .0)) ∷ Walk.gone _ ∷
         Walk.gone _ ∷ Walk.gone _ ∷ Walk.gone _ ∷ []) ! (id⊢ 𝓤 _) (λ len3 len4.
         Walk.move ! (3 ∷ 8 ∷ 1 ∷ 8 ∷ []) (
         Again.backs W (UInt w8) κ₁ q₁ dead (named 1) (named 1) (ws1 .1 .1 .1 .0) ! tt (ws2 .1 .1 .1 .0) ((subst (Slice.Room (UInt w8)) (sym len1)
         (is-dead .0 .1))) len3 (
         Walk.move ! (5 ∷ 8 ∷ 3 ∷ 7 ∷ []) (
-        Again.backs W (UInt w8) κ₂ q₂ pieces (named 2) (named 2) (ws1 .1 .1 .1 .1 .0) ! tt (ws2 .1 .1 .1 .1 .0) ((subst (Slice.Room (UInt w8))
-        (sym len2) (is-pieces .0 .1))) len4 (
+        Again.backs W (UInt w64) κ₂ q₂ notes (named 2) (named 2) (ws1 .1 .1 .1 .1 .0) ! tt (ws2 .1 .1 .1 .1 .0) ((subst (Slice.Room (UInt w64))
+        (sym len2) (is-notes .0 .1))) len4 (
         Walk.lands-in ! (Walk.init-as ! 19 refl (LL.lawful Outcome-T.the-type Outcome-L.the-laws 𝓤 H A W .typed r2 _ is2′ .0)
         (ap only (LL.tells Outcome-T.the-type Outcome-L.the-laws r2 _ is2′))) (
         let is2 : Is Outcome-T.the-row r2 ((Outcome-L.lowered r2) ∷ []) = subst (λ (vs : List Val). Is Outcome-T.the-row r2 vs)
         (LL.tells Outcome-T.the-type Outcome-L.the-laws r2 _ is2′) is2′ in
-        Walk.written-out ! (‵ (T-take-up-pieces .own (at-last pieces (ws2 .1 .1 .1 .1 .0)) (sliceVal (pieces .ptr) (length (ws2 .1 .1 .1 .1 .0)) ∷
-        [])) ∷ ‵ (flft κ₂ q₂) ∷ ‵ (fat fullShare Y-take-up-pieces l₅ 0 (sliceVal (pieces .ptr) (length (ws2 .1 .1 .1 .1 .0)))) ∷
+        Walk.written-out ! (‵ (T-take-up-notes .own (at-last notes (ws2 .1 .1 .1 .1 .0)) (sliceVal (notes .ptr) (length (ws2 .1 .1 .1 .1 .0)) ∷
+        [])) ∷ ‵ (flft κ₂ q₂) ∷ ‵ (fat fullShare Y-take-up-notes l₅ 0 (sliceVal (notes .ptr) (length (ws2 .1 .1 .1 .1 .0)))) ∷
         ‵ (T-take-up-dead .own (at-last dead (ws2 .1 .1 .1 .0)) (sliceVal (dead .ptr) (length (ws2 .1 .1 .1 .0)) ∷ [])) ∷ ‵ (flft κ₁ q₁) ∷
         ‵ (fat fullShare Y-take-up-dead l₄ 0 (sliceVal (dead .ptr) (length (ws2 .1 .1 .1 .0)))) ∷ ‵ (flft κ₀ q₀) ∷ ‵ (flft κ₃ q₃) ∷
         ‵ (T-take-up-nodes .own nodes (sliceVal (nodes .ptr) (length (nodes .now)) ∷ [])) ∷ ‵ (T-take-up-line .own line (sliceVal (line .ptr)
@@ -2324,81 +2431,45 @@ module _ {M : Type 1} (𝓤 : URA M) (H : Heap 𝓤) (A : Atoms 𝓤) (W : Given
         ‵ (fat fullShare Y-take-up-line l₆ 0 (sliceVal (line .ptr) (length (line .now)))) ∷ ‵ (fat fullShare (tyInt w64) l₇ 0 (vint w64 end)) ∷
         ‵ (fat fullShare (tyInt w64) l₈ 0 (vint w64 node)) ∷ ‵ (fat fullShare (tyInt w64) l₉ 0 (vint w64 at)) ∷
         ‵ (fat fullShare Outcome-L.mir l₁₀ 0 (Outcome-L.lowered r1)) ∷ ‵ (fat fullShare Outcome-L.mir l₁₁ 0 (Outcome-L.lowered r2)) ∷
-        ‵ (froom Outcome-L.mir l₁₂ 0) ∷ ‵ (fat fullShare (tyRef erased mut (pointee ((UInt w8) .written))) l₁₃ 0 (vptr (dead .ptr .0)
-        (dead .ptr .1))) ∷ ‵ (fat fullShare (sliceTy (tyRef erased mut (pointee ((UInt w8) .written)))) l₁₄ 0 (sliceVal (dead .ptr)
-        (length (dead .now)))) ∷ ‵ (fat fullShare (tyRef erased mut (pointee ((UInt w8) .written))) l₁₅ 0 (vptr (pieces .ptr .0)
-        (pieces .ptr .1))) ∷ ‵ (fat fullShare (sliceTy (tyRef erased mut (pointee ((UInt w8) .written)))) l₁₆ 0 (sliceVal (pieces .ptr)
-        (length (pieces .now)))) ∷ ‵ (fat fullShare tyBool l₁₇ 0 (vbool (not (eqb (r1 .node) 0)))) ∷
-        ‵ (fat fullShare (tyRef erased mut (pointee ((UInt w8) .written))) l₁₈ 0 (vptr (dead .ptr .0) (dead .ptr .1))) ∷
-        ‵ (fat fullShare (sliceTy (tyRef erased mut (pointee ((UInt w8) .written)))) l₁₉ 0 (sliceVal (dead .ptr) (length (ws1 .1 .1 .1 .0)))) ∷
-        ‵ (fat fullShare (tyRef erased mut (pointee ((UInt w8) .written))) l₂₀ 0 (vptr (pieces .ptr .0) (pieces .ptr .1))) ∷
-        ‵ (fat fullShare (sliceTy (tyRef erased mut (pointee ((UInt w8) .written)))) l₂₁ 0 (sliceVal (pieces .ptr) (length (ws1 .1 .1 .1 .1 .0)))) ∷
-        ‵ (froom (tyRef erased mut (pointee ((UInt w8) .written))) l₂₂ 0) ∷
-        ‵ (froom (sliceTy (tyRef erased mut (pointee ((UInt w8) .written)))) l₂₃ 0) ∷
-        ‵ (froom (tyRef erased mut (pointee ((UInt w8) .written))) l₂₄ 0) ∷
-        ‵ (froom (sliceTy (tyRef erased mut (pointee ((UInt w8) .written)))) l₂₅ 0) ∷ ‵ (froom Outcome-L.mir l₂₆ 0) ∷ ‵ Fd ∷ []) refl (
-        Walk.sets ! (Run.bin ! (Walk.part ! 19 refl refl refl) (Run.lit ! tt) tt) (Run.store ! 25 refl ((tt, tt))) (Walk.first-then ! (
-        Run.branches ! (Walk.local ! 25 refl)
+        ‵ (fat fullShare (tyRef erased mut (pointee ((UInt w8) .written))) l₁₂ 0 (vptr (dead .ptr .0) (dead .ptr .1))) ∷
+        ‵ (fat fullShare (sliceTy (tyRef erased mut (pointee ((UInt w8) .written)))) l₁₃ 0 (sliceVal (dead .ptr) (length (dead .now)))) ∷
+        ‵ (fat fullShare (tyRef erased mut (pointee ((UInt w64) .written))) l₁₄ 0 (vptr (notes .ptr .0) (notes .ptr .1))) ∷
+        ‵ (fat fullShare (sliceTy (tyRef erased mut (pointee ((UInt w64) .written)))) l₁₅ 0 (sliceVal (notes .ptr) (length (notes .now)))) ∷
+        ‵ (fat fullShare tyBool l₁₆ 0 (vbool (not (eqb (r1 .node) 0)))) ∷
+        ‵ (fat fullShare (tyRef erased mut (pointee ((UInt w8) .written))) l₁₇ 0 (vptr (dead .ptr .0) (dead .ptr .1))) ∷
+        ‵ (fat fullShare (sliceTy (tyRef erased mut (pointee ((UInt w8) .written)))) l₁₈ 0 (sliceVal (dead .ptr) (length (ws1 .1 .1 .1 .0)))) ∷
+        ‵ (fat fullShare (tyRef erased mut (pointee ((UInt w64) .written))) l₁₉ 0 (vptr (notes .ptr .0) (notes .ptr .1))) ∷
+        ‵ (fat fullShare (sliceTy (tyRef erased mut (pointee ((UInt w64) .written)))) l₂₀ 0 (sliceVal (notes .ptr) (length (ws1 .1 .1 .1 .1 .0)))) ∷
+        ‵ (froom (tyRef erased mut (pointee ((UInt w8) .written))) l₂₁ 0) ∷
+        ‵ (froom (sliceTy (tyRef erased mut (pointee ((UInt w8) .written)))) l₂₂ 0) ∷
+        ‵ (froom (tyRef erased mut (pointee ((UInt w64) .written))) l₂₃ 0) ∷
+        ‵ (froom (sliceTy (tyRef erased mut (pointee ((UInt w64) .written)))) l₂₄ 0) ∷ ‵ Fd ∷ []) refl (
+        Walk.sets ! (Run.bin ! (Walk.part ! 19 refl refl refl) (Run.lit ! tt) tt) (Run.store ! 24 refl ((tt, tt))) (Walk.first-then ! (
+        Run.branches ! (Walk.local ! 24 refl)
         (λ h2. let t2 : (not (eqb (r2 .node) 0)) ≡ true = Walk.is-true _ h2 in
-        -- [pieces; κ₂; the locals; dead; κ₁; κ₀; κ₃; nodes; line; their ends]
-        -- call 3: count_after (r1, r2)
-        Walk.gives W (Walk.made (Outcome-T.the-row .own r1 ((Outcome-L.lowered r1) ∷ []))
-        (LL.makes Outcome-T.the-type Outcome-L.the-plain 𝓤 H A r1 _ is1) ∷ Walk.made (Outcome-T.the-row .own r2 ((Outcome-L.lowered r2) ∷ []))
-        (LL.makes Outcome-T.the-type Outcome-L.the-plain 𝓤 H A r2 _ is2) ∷ []) _ ! (
-        Walk.tokens-in W ([]) _ ! (alive 𝓤 H A g-count-after.signature tt tt) (id⊢ 𝓤 _) (
-        Walk.asks W ! fm g-count-after.ended (g-count-after.clauses 𝓤 H A mem run)
-        ((tt, tt, tt, (r1, (r2, tt)), ((Outcome-L.lowered r1) ∷ [], ((Outcome-L.lowered r2) ∷ [], tt))), tt) _ (known-count-after ((tt, tt, tt, (r1, (r2, tt)), ((Outcome-L.lowered r1) ∷ [], ((Outcome-L.lowered r2) ∷ [], tt))), tt)) (factI 𝓤 _ (emp 𝓤) (sum-fits e1 (eqb-true (r1 .node) 0 (not-false _ t1)) e2)) (λ r ws. id⊢ 𝓤 _)
-        (Run.and-then ! (Walk.local ! 19 refl) (Run.and-then ! (Walk.local ! 20 refl) (Run.no-more !))) (λ u3 r3 is3′ e3.
-        Walk.tokens-out W ([]) ! (id⊢ 𝓤 _) (
-        Walk.lands-in ! (Walk.init-as ! 10 refl (LL.lawful Outcome-T.the-type Outcome-L.the-laws 𝓤 H A W .typed r3 _ is3′ .0)
-        (ap only (LL.tells Outcome-T.the-type Outcome-L.the-laws r3 _ is3′))) (
-        let is3 : Is Outcome-T.the-row r3 ((Outcome-L.lowered r3) ∷ []) = subst (λ (vs : List Val). Is Outcome-T.the-row r3 vs)
-        (LL.tells Outcome-T.the-type Outcome-L.the-laws r3 _ is3′) is3′ in
-        Walk.written-out ! (‵ (T-take-up-pieces .own (at-last pieces (ws2 .1 .1 .1 .1 .0)) (sliceVal (pieces .ptr) (length (ws2 .1 .1 .1 .1 .0)) ∷
-        [])) ∷ ‵ (flft κ₂ q₂) ∷ ‵ (fat fullShare Y-take-up-pieces l₅ 0 (sliceVal (pieces .ptr) (length (ws2 .1 .1 .1 .1 .0)))) ∷
-        ‵ (T-take-up-dead .own (at-last dead (ws2 .1 .1 .1 .0)) (sliceVal (dead .ptr) (length (ws2 .1 .1 .1 .0)) ∷ [])) ∷ ‵ (flft κ₁ q₁) ∷
-        ‵ (fat fullShare Y-take-up-dead l₄ 0 (sliceVal (dead .ptr) (length (ws2 .1 .1 .1 .0)))) ∷ ‵ (flft κ₀ q₀) ∷ ‵ (flft κ₃ q₃) ∷
-        ‵ (T-take-up-nodes .own nodes (sliceVal (nodes .ptr) (length (nodes .now)) ∷ [])) ∷ ‵ (T-take-up-line .own line (sliceVal (line .ptr)
-        (length (line .now)) ∷ [])) ∷ ‵ (fat fullShare Outcome-L.mir l₀ 0 (Outcome-L.lowered r3)) ∷
-        ‵ (fat fullShare (tyInt w8) l₁ 0 (vint w8 left)) ∷ ‵ (fat fullShare (tyInt w8) l₂ 0 (vint w8 right)) ∷
-        ‵ (fat fullShare Y-take-up-nodes l₃ 0 (sliceVal (nodes .ptr) (length (nodes .now)))) ∷
-        ‵ (fat fullShare Y-take-up-line l₆ 0 (sliceVal (line .ptr) (length (line .now)))) ∷ ‵ (fat fullShare (tyInt w64) l₇ 0 (vint w64 end)) ∷
-        ‵ (fat fullShare (tyInt w64) l₈ 0 (vint w64 node)) ∷ ‵ (fat fullShare (tyInt w64) l₉ 0 (vint w64 at)) ∷
-        ‵ (fat fullShare Outcome-L.mir l₁₀ 0 (Outcome-L.lowered r1)) ∷ ‵ (fat fullShare Outcome-L.mir l₁₁ 0 (Outcome-L.lowered r2)) ∷
-        ‵ (froom Outcome-L.mir l₁₂ 0) ∷ ‵ (fat fullShare (tyRef erased mut (pointee ((UInt w8) .written))) l₁₃ 0 (vptr (dead .ptr .0)
-        (dead .ptr .1))) ∷ ‵ (fat fullShare (sliceTy (tyRef erased mut (pointee ((UInt w8) .written)))) l₁₄ 0 (sliceVal (dead .ptr)
-        (length (dead .now)))) ∷ ‵ (fat fullShare (tyRef erased mut (pointee ((UInt w8) .written))) l₁₅ 0 (vptr (pieces .ptr .0)
-        (pieces .ptr .1))) ∷ ‵ (fat fullShare (sliceTy (tyRef erased mut (pointee ((UInt w8) .written)))) l₁₆ 0 (sliceVal (pieces .ptr)
-        (length (pieces .now)))) ∷ ‵ (fat fullShare tyBool l₁₇ 0 (vbool (not (eqb (r2 .node) 0)))) ∷
-        ‵ (fat fullShare (tyRef erased mut (pointee ((UInt w8) .written))) l₁₈ 0 (vptr (dead .ptr .0) (dead .ptr .1))) ∷
-        ‵ (fat fullShare (sliceTy (tyRef erased mut (pointee ((UInt w8) .written)))) l₁₉ 0 (sliceVal (dead .ptr) (length (ws1 .1 .1 .1 .0)))) ∷
-        ‵ (fat fullShare (tyRef erased mut (pointee ((UInt w8) .written))) l₂₀ 0 (vptr (pieces .ptr .0) (pieces .ptr .1))) ∷
-        ‵ (fat fullShare (sliceTy (tyRef erased mut (pointee ((UInt w8) .written)))) l₂₁ 0 (sliceVal (pieces .ptr) (length (ws1 .1 .1 .1 .1 .0)))) ∷
-        ‵ (froom (tyRef erased mut (pointee ((UInt w8) .written))) l₂₂ 0) ∷
-        ‵ (froom (sliceTy (tyRef erased mut (pointee ((UInt w8) .written)))) l₂₃ 0) ∷
-        ‵ (froom (tyRef erased mut (pointee ((UInt w8) .written))) l₂₄ 0) ∷
-        ‵ (froom (sliceTy (tyRef erased mut (pointee ((UInt w8) .written)))) l₂₅ 0) ∷ ‵ (froom Outcome-L.mir l₂₆ 0) ∷ ‵ Fd ∷ []) refl (
+        Walk.sets ! (Run.of-opd ! (Walk.local ! 19 refl))
+        (Run.init ! 10 refl (LL.lawful Outcome-T.the-type Outcome-L.the-laws 𝓤 H A W .typed r2 _ is2 .0)) (
         Walk.returns-by ! Post-take-up (Walk.through 𝓤 H C Λ E _ _ Post-take-up refl) (Run.look ! 10 refl) (
-        Walk.move ! (10 ∷ 10 ∷ 10 ∷ 10 ∷ 5 ∷ 2 ∷ 8 ∷ 8 ∷ 8 ∷ 8 ∷ 8 ∷ 8 ∷ 8 ∷ 8 ∷ 8 ∷ 8 ∷ 8 ∷ 8 ∷ 8 ∷ 8 ∷ 8 ∷ 8 ∷ 8 ∷ 8 ∷ 8 ∷ 8 ∷ 8 ∷ 8 ∷ []) (
-        Walk.frees-gathered ! (Walk.full Outcome-L.mir l₀ (Outcome-L.lowered r3) ∷ Walk.full (tyInt w8) l₁ (vint w8 left) ∷
+        Walk.move ! (10 ∷ 10 ∷ 10 ∷ 10 ∷ 5 ∷ 2 ∷ 8 ∷ 8 ∷ 8 ∷ 8 ∷ 8 ∷ 8 ∷ 8 ∷ 8 ∷ 8 ∷ 8 ∷ 8 ∷ 8 ∷ 8 ∷ 8 ∷ 8 ∷ 8 ∷ 8 ∷ 8 ∷ 8 ∷ 8 ∷ []) (
+        Walk.frees-gathered ! (Walk.full Outcome-L.mir l₀ (Outcome-L.lowered r2) ∷ Walk.full (tyInt w8) l₁ (vint w8 left) ∷
         Walk.full (tyInt w8) l₂ (vint w8 right) ∷ Walk.full Y-take-up-nodes l₃ (sliceVal (nodes .ptr) (length (nodes .now))) ∷
-        Walk.full Y-take-up-dead l₄ (sliceVal (dead .ptr) (length (ws2 .1 .1 .1 .0))) ∷ Walk.full Y-take-up-pieces l₅ (sliceVal (pieces .ptr)
+        Walk.full Y-take-up-dead l₄ (sliceVal (dead .ptr) (length (ws2 .1 .1 .1 .0))) ∷ Walk.full Y-take-up-notes l₅ (sliceVal (notes .ptr)
         (length (ws2 .1 .1 .1 .1 .0))) ∷ Walk.full Y-take-up-line l₆ (sliceVal (line .ptr) (length (line .now))) ∷
         Walk.full (tyInt w64) l₇ (vint w64 end) ∷ Walk.full (tyInt w64) l₈ (vint w64 node) ∷ Walk.full (tyInt w64) l₉ (vint w64 at) ∷
-        Walk.full Outcome-L.mir l₁₀ (Outcome-L.lowered r1) ∷ Walk.full Outcome-L.mir l₁₁ (Outcome-L.lowered r2) ∷ Walk.bare Outcome-L.mir l₁₂ ∷
-        Walk.full (tyRef erased mut (pointee ((UInt w8) .written))) l₁₃ (vptr (dead .ptr .0) (dead .ptr .1)) ∷
-        Walk.full (sliceTy (tyRef erased mut (pointee ((UInt w8) .written)))) l₁₄ (sliceVal (dead .ptr) (length (dead .now))) ∷
-        Walk.full (tyRef erased mut (pointee ((UInt w8) .written))) l₁₅ (vptr (pieces .ptr .0) (pieces .ptr .1)) ∷
-        Walk.full (sliceTy (tyRef erased mut (pointee ((UInt w8) .written)))) l₁₆ (sliceVal (pieces .ptr) (length (pieces .now))) ∷
-        Walk.full tyBool l₁₇ (vbool (not (eqb (r2 .node) 0))) ∷ Walk.full (tyRef erased mut (pointee ((UInt w8) .written))) l₁₈ (vptr (dead .ptr .0)
-        (dead .ptr .1)) ∷ Walk.full (sliceTy (tyRef erased mut (pointee ((UInt w8) .written)))) l₁₉ (sliceVal (dead .ptr)
-        (length (ws1 .1 .1 .1 .0))) ∷ Walk.full (tyRef erased mut (pointee ((UInt w8) .written))) l₂₀ (vptr (pieces .ptr .0) (pieces .ptr .1)) ∷
-        Walk.full (sliceTy (tyRef erased mut (pointee ((UInt w8) .written)))) l₂₁ (sliceVal (pieces .ptr) (length (ws1 .1 .1 .1 .1 .0))) ∷
-        Walk.bare (tyRef erased mut (pointee ((UInt w8) .written))) l₂₂ ∷
-        Walk.bare (sliceTy (tyRef erased mut (pointee ((UInt w8) .written)))) l₂₃ ∷
-        Walk.bare (tyRef erased mut (pointee ((UInt w8) .written))) l₂₄ ∷
-        Walk.bare (sliceTy (tyRef erased mut (pointee ((UInt w8) .written)))) l₂₅ ∷ Walk.bare Outcome-L.mir l₂₆ ∷
-        []) Fd ed (‵ (T-take-up-pieces .own (at-last pieces (ws2 .1 .1 .1 .1 .0)) (sliceVal (pieces .ptr) (length (ws2 .1 .1 .1 .1 .0)) ∷ [])) ∷
+        Walk.full Outcome-L.mir l₁₀ (Outcome-L.lowered r1) ∷ Walk.full Outcome-L.mir l₁₁ (Outcome-L.lowered r2) ∷
+        Walk.full (tyRef erased mut (pointee ((UInt w8) .written))) l₁₂ (vptr (dead .ptr .0) (dead .ptr .1)) ∷
+        Walk.full (sliceTy (tyRef erased mut (pointee ((UInt w8) .written)))) l₁₃ (sliceVal (dead .ptr) (length (dead .now))) ∷
+        Walk.full (tyRef erased mut (pointee ((UInt w64) .written))) l₁₄ (vptr (notes .ptr .0) (notes .ptr .1)) ∷
+        Walk.full (sliceTy (tyRef erased mut (pointee ((UInt w64) .written)))) l₁₅ (sliceVal (notes .ptr) (length (notes .now))) ∷
+        Walk.full tyBool l₁₆ (vbool (not (eqb (r2 .node) 0))) ∷ Walk.full (tyRef erased mut (pointee ((UInt w8) .written))) l₁₇ (vptr (dead .ptr .0)
+        (dead .ptr .1)) ∷ Walk.full (sliceTy (tyRef erased mut (pointee ((UInt w8) .written)))) l₁₈ (sliceVal (dead .ptr)
+        (length (ws1 .1 .1 .1 .0))) ∷ Walk.full (tyRef erased mut (pointee ((UInt w64) .written))) l₁₉ (vptr (notes .ptr .0) (notes .ptr .1)) ∷
+        Walk.full (sliceTy (tyRef erased mut (pointee ((UInt w64) .written)))) l₂₀ (sliceVal (notes .ptr) (length (ws1 .1 .1 .1 .1 .0))) ∷
+        Walk.bare (tyRef erased mut (pointee ((UInt w8) .written))) l₂₁ ∷
+        Walk.bare (sliceTy (tyRef erased mut (pointee ((UInt w8) .written)))) l₂₂ ∷
+        Walk.bare (tyRef erased mut (pointee ((UInt w64) .written))) l₂₃ ∷
+        Walk.bare (sliceTy (tyRef erased mut (pointee ((UInt w64) .written)))) l₂₄ ∷
+        []) Fd ed (‵ (T-take-up-notes .own (at-last notes (ws2 .1 .1 .1 .1 .0)) (sliceVal (notes .ptr) (length (ws2 .1 .1 .1 .1 .0)) ∷ [])) ∷
         ‵ (flft κ₂ q₂) ∷ ‵ (T-take-up-dead .own (at-last dead (ws2 .1 .1 .1 .0)) (sliceVal (dead .ptr) (length (ws2 .1 .1 .1 .0)) ∷ [])) ∷
         ‵ (flft κ₁ q₁) ∷ ‵ (flft κ₀ q₀) ∷ ‵ (flft κ₃ q₃) ∷ ‵ (T-take-up-nodes .own nodes (sliceVal (nodes .ptr) (length (nodes .now)) ∷ [])) ∷
         ‵ (T-take-up-line .own line (sliceVal (line .ptr) (length (line .now)) ∷ [])) ∷ []) (
@@ -2406,36 +2477,36 @@ module _ {M : Type 1} (𝓤 : URA M) (H : Heap 𝓤) (A : Atoms 𝓤) (W : Given
         Walk.gives W (Walk.nothing ∷ Walk.nothing ∷ Walk.nothing ∷ Walk.turned (T-take-up-dead .own (at-last dead (ws2 .1 .1 .1 .0))
         (sliceVal (dead .ptr) (length (ws2 .1 .1 .1 .0)) ∷ [])) (finally (UInt w8) (dead .name) (ws2 .1 .1 .1 .0))
         (Walk.ended-slice 𝓤 H A W (named 1) κ₁ (UInt w8) dead (ws2 .1 .1 .1 .0) _) ∷
-        Walk.turned (T-take-up-pieces .own (at-last pieces (ws2 .1 .1 .1 .1 .0)) (sliceVal (pieces .ptr) (length (ws2 .1 .1 .1 .1 .0)) ∷ []))
-        (finally (UInt w8) (pieces .name) (ws2 .1 .1 .1 .1 .0)) (Walk.ended-slice 𝓤 H A W (named 2) κ₂ (UInt w8) pieces (ws2 .1 .1 .1 .1 .0) _) ∷
+        Walk.turned (T-take-up-notes .own (at-last notes (ws2 .1 .1 .1 .1 .0)) (sliceVal (notes .ptr) (length (ws2 .1 .1 .1 .1 .0)) ∷ []))
+        (finally (UInt w64) (notes .name) (ws2 .1 .1 .1 .1 .0)) (Walk.ended-slice 𝓤 H A W (named 2) κ₂ (UInt w64) notes (ws2 .1 .1 .1 .1 .0) _) ∷
         Walk.nothing ∷ Walk.nothing ∷ Walk.nothing ∷ Walk.nothing ∷ []) _ ! (
         Walk.move ! (3 ∷ 2 ∷ 1 ∷ 1 ∷ []) (
         Walk.tokens-in W ((κ₀, q₀) ∷ (κ₁, q₁) ∷ (κ₂, q₂) ∷ (κ₃, q₃) ∷ []) _ ! (alive 𝓤 H A f-take-up.signature (κ₀, (κ₁, (κ₂, (κ₃, tt))))
         (q₀, (q₁, (q₂, (q₃, tt))))) (id⊢ 𝓤 _) (
-        Walk.use0 W ! (‵ (Outcome-T.the-row .own r3 ((Outcome-L.lowered r3) ∷ []))) (LL.makes Outcome-T.the-type Outcome-L.the-plain 𝓤 H A r3 _ is3) (
+        Walk.use0 W ! (‵ (Outcome-T.the-row .own r2 ((Outcome-L.lowered r2) ∷ []))) (LL.makes Outcome-T.the-type Outcome-L.the-plain 𝓤 H A r2 _ is2) (
         Walk.keep ! (1 ∷ 1 ∷ 0 ∷ []) (
-        Kit.by ! (Walk.leave-by 𝓤 H A W f-take-up.ended (f-take-up.clauses 𝓤 H A mem run) stayed-take-up bound-take-up (Outcome-L.lowered r3) r3 (tt, (tt, (tt, ((ws2 .1 .1 .1 .0), ((ws2 .1 .1 .1 .1 .0), (tt, (tt, (tt, (tt, tt))))))))) (tt, (tt, (tt, ((len3 ∙ (len1 ∙ refl)), ((len4 ∙ (len2 ∙ refl)), (tt, (tt, (tt, (tt, tt))))))))) (factI 𝓤 _ (emp 𝓤) (second-found e1 (eqb-true (r1 .node) 0 (not-false _ t1)) e2 (eqb-false (r2 .node) 0 (not-true _ t2)) e3)))))))))))))))))))
+        Kit.by ! (Walk.leave-by 𝓤 H A W f-take-up.ended (f-take-up.clauses 𝓤 H A mem run) stayed-take-up bound-take-up (Outcome-L.lowered r2) r2 (tt, (tt, (tt, ((ws2 .1 .1 .1 .0), ((ws2 .1 .1 .1 .1 .0), (tt, (tt, (tt, (tt, tt))))))))) (tt, (tt, (tt, ((len3 ∙ (len1 ∙ refl)), ((len4 ∙ (len2 ∙ refl)), (tt, (tt, (tt, (tt, tt))))))))) (factI 𝓤 _ (emp 𝓤) (second-found e1 (eqb-true (r1 .node) 0 (not-false _ t1)) e2 (eqb-false (r2 .node) 0 (not-true _ t2))))))))))))))))
         (λ h2. let t2 : (not (eqb (r2 .node) 0)) ≡ false = Walk.is-false _ h2 in
         Walk.skips-then ! (
         Walk.sets ! (Run.addr ! (Run.from ! (Run.fld ! refl (Run.hop ! (Part.look-in ! 5 (Part.sub ! 0 refl (Part.whole !))) (Run.stop !)))))
-        (Run.init ! 30 refl ((tt, tt))) (
-        Walk.sets ! (Part.agg ! (Run.and-then ! (Walk.local ! 30 refl) (Run.and-then ! (Walk.part ! 5 refl refl refl) (Run.no-more !))))
-        (Run.init ! 31 refl ((tt, (tt, (record { fits = (subst (Slice.Room (UInt w8)) (sym len3) ((subst (Slice.Room (UInt w8)) (sym len1) (is-dead .0 .1)))) .0 }, tt))))) (
+        (Run.init ! 29 refl ((tt, tt))) (
+        Walk.sets ! (Part.agg ! (Run.and-then ! (Walk.local ! 29 refl) (Run.and-then ! (Walk.part ! 5 refl refl refl) (Run.no-more !))))
+        (Run.init ! 30 refl ((tt, (tt, (record { fits = (subst (Slice.Room (UInt w8)) (sym len3) ((subst (Slice.Room (UInt w8)) (sym len1) (is-dead .0 .1)))) .0 }, tt))))) (
         Walk.sets ! (Run.addr ! (Run.from ! (Run.fld ! refl (Run.hop ! (Part.look-in ! 2 (Part.sub ! 0 refl (Part.whole !))) (Run.stop !)))))
-        (Run.init ! 32 refl ((tt, tt))) (
-        Walk.sets ! (Part.agg ! (Run.and-then ! (Walk.local ! 32 refl) (Run.and-then ! (Walk.part ! 2 refl refl refl) (Run.no-more !))))
-        (Run.init ! 33 refl ((tt, (tt, (record { fits = (subst (Slice.Room (UInt w8)) (sym len4) ((subst (Slice.Room (UInt w8)) (sym len2) (is-pieces .0 .1)))) .0 }, tt))))) (
-        -- [pieces; κ₂; the locals; dead; κ₁; κ₀; κ₃; nodes; line; their ends]
-        -- call 4: search_atom (left, right, nodes, dead, pieces, line, end, node, at)
+        (Run.init ! 31 refl ((tt, tt))) (
+        Walk.sets ! (Part.agg ! (Run.and-then ! (Walk.local ! 31 refl) (Run.and-then ! (Walk.part ! 2 refl refl refl) (Run.no-more !))))
+        (Run.init ! 32 refl ((tt, (tt, (record { fits = (subst (Slice.Room (UInt w64)) (sym len4) ((subst (Slice.Room (UInt w64)) (sym len2) (is-notes .0 .1)))) .0 }, tt))))) (
+        -- [notes; κ₂; the locals; dead; κ₁; κ₀; κ₃; nodes; line; their ends]
+        -- call 3: search_atom (left, right, nodes, dead, notes, line, end, node, at)
         Walk.move ! (3 ∷ 3 ∷ []) (Again.lends W (UInt w8) κ₁ q₁ dead (named 1) (named 1) (ws2 .1 .1 .1 .0) ! tt (λ ν5 δ5.
-        Walk.move ! (3 ∷ 3 ∷ []) (Again.lends W (UInt w8) κ₂ q₂ pieces (named 2) (named 2) (ws2 .1 .1 .1 .1 .0) ! tt (λ ν6 δ6.
+        Walk.move ! (3 ∷ 3 ∷ []) (Again.lends W (UInt w64) κ₂ q₂ notes (named 2) (named 2) (ws2 .1 .1 .1 .1 .0) ! tt (λ ν6 δ6.
         Walk.move ! (10 ∷ 3 ∷ 0 ∷ 8 ∷ []) (
         Walk.gives W (Walk.made ((UInt w8) .own left ((vint w8 left) ∷ [])) (uint-makes 𝓤 H A W w8 left _ (refl, fits-left)) ∷
         Walk.made ((UInt w8) .own right ((vint w8 right) ∷ [])) (uint-makes 𝓤 H A W w8 right _ (refl, fits-right)) ∷
         Walk.copied (T-take-up-nodes .own nodes (v-take-up-nodes ∷ [])) (shr-slice-copy 𝓤 H A W (named 0) κ₀ Node-T.the-row .twice nodes _) ∷
         Walk.kept (MutSlice (named 1) (ν5 ∷ []) (UInt w8) .own (record { ptr = (dead .ptr); name = δ5; now = (ws2 .1 .1 .1 .0) })
         ((sliceVal (dead .ptr) (length (ws2 .1 .1 .1 .0))) ∷ [])) ∷ Walk.kept (MutSlice (named 2) (ν6 ∷ [])
-        (UInt w8) .own (record { ptr = (pieces .ptr); name = δ6; now = (ws2 .1 .1 .1 .1 .0) }) ((sliceVal (pieces .ptr)
+        (UInt w64) .own (record { ptr = (notes .ptr); name = δ6; now = (ws2 .1 .1 .1 .1 .0) }) ((sliceVal (notes .ptr)
         (length (ws2 .1 .1 .1 .1 .0))) ∷ [])) ∷ Walk.copied (T-take-up-line .own line (v-take-up-line ∷ []))
         (shr-slice-copy 𝓤 H A W (named 3) κ₃ (UInt w8) .twice line _) ∷ Walk.made ((UInt w64) .own end ((vint w64 end) ∷ []))
         (uint-makes 𝓤 H A W w64 end _ (refl, fits-end)) ∷ Walk.made ((UInt w64) .own node ((vint w64 node) ∷ []))
@@ -2445,167 +2516,87 @@ module _ {M : Type 1} (𝓤 : URA M) (H : Heap 𝓤) (A : Atoms 𝓤) (W : Given
         Walk.tokens-in W ((κ₀, q₀) ∷ ((ν5 ∷ []), fullShare) ∷ ((ν6 ∷ []), fullShare) ∷ (κ₃, q₃) ∷
         []) _ ! (alive 𝓤 H A f-search-atom.signature (κ₀, ((ν5 ∷ []), ((ν6 ∷ []), (κ₃, tt)))) (q₀, (fullShare, (fullShare, (q₃, tt))))) (id⊢ 𝓤 _) (
         Walk.asksˡ W ! fm f-search-atom.ended (f-search-atom.clauses 𝓤 H A mem run)
-        (((κ₀, ((ν5 ∷ []), ((ν6 ∷ []), (κ₃, tt)))), (q₀, (fullShare, (fullShare, (q₃, tt)))), tt, (left, (right, (nodes, ((record { ptr = (dead .ptr); name = δ5; now = (ws2 .1 .1 .1 .0) }), ((record { ptr = (pieces .ptr); name = δ6; now = (ws2 .1 .1 .1 .1 .0) }), (line, (end, (node, (at, tt))))))))), ((vint w8 left) ∷ [], ((vint w8 right) ∷ [], (v-take-up-nodes ∷ [], ((sliceVal (dead .ptr) (length (ws2 .1 .1 .1 .0))) ∷ [], ((sliceVal (pieces .ptr) (length (ws2 .1 .1 .1 .1 .0))) ∷ [], (v-take-up-line ∷ [], ((vint w64 end) ∷ [], ((vint w64 node) ∷ [], ((vint w64 at) ∷ [], tt)))))))))), tt) _ (known-search-atom (((κ₀, ((ν5 ∷ []), ((ν6 ∷ []), (κ₃, tt)))), (q₀, (fullShare, (fullShare, (q₃, tt)))), tt, (left, (right, (nodes, ((record { ptr = (dead .ptr); name = δ5; now = (ws2 .1 .1 .1 .0) }), ((record { ptr = (pieces .ptr); name = δ6; now = (ws2 .1 .1 .1 .1 .0) }), (line, (end, (node, (at, tt))))))))), ((vint w8 left) ∷ [], ((vint w8 right) ∷ [], (v-take-up-nodes ∷ [], ((sliceVal (dead .ptr) (length (ws2 .1 .1 .1 .0))) ∷ [], ((sliceVal (pieces .ptr) (length (ws2 .1 .1 .1 .1 .0))) ∷ [], (v-take-up-line ∷ [], ((vint w64 end) ∷ [], ((vint w64 node) ∷ [], ((vint w64 at) ∷ [], tt)))))))))), tt) (omega arith)) (factI 𝓤 _ (emp 𝓤) (asks-third (asks-second pre e1 len1 len2) e2 len3 len4)) (λ r ws. id⊢ 𝓤 _)
+        (((κ₀, ((ν5 ∷ []), ((ν6 ∷ []), (κ₃, tt)))), (q₀, (fullShare, (fullShare, (q₃, tt)))), tt, (left, (right, (nodes, ((record { ptr = (dead .ptr); name = δ5; now = (ws2 .1 .1 .1 .0) }), ((record { ptr = (notes .ptr); name = δ6; now = (ws2 .1 .1 .1 .1 .0) }), (line, (end, (node, (at, tt))))))))), ((vint w8 left) ∷ [], ((vint w8 right) ∷ [], (v-take-up-nodes ∷ [], ((sliceVal (dead .ptr) (length (ws2 .1 .1 .1 .0))) ∷ [], ((sliceVal (notes .ptr) (length (ws2 .1 .1 .1 .1 .0))) ∷ [], (v-take-up-line ∷ [], ((vint w64 end) ∷ [], ((vint w64 node) ∷ [], ((vint w64 at) ∷ [], tt)))))))))), tt) _ (known-search-atom (((κ₀, ((ν5 ∷ []), ((ν6 ∷ []), (κ₃, tt)))), (q₀, (fullShare, (fullShare, (q₃, tt)))), tt, (left, (right, (nodes, ((record { ptr = (dead .ptr); name = δ5; now = (ws2 .1 .1 .1 .0) }), ((record { ptr = (notes .ptr); name = δ6; now = (ws2 .1 .1 .1 .1 .0) }), (line, (end, (node, (at, tt))))))))), ((vint w8 left) ∷ [], ((vint w8 right) ∷ [], (v-take-up-nodes ∷ [], ((sliceVal (dead .ptr) (length (ws2 .1 .1 .1 .0))) ∷ [], ((sliceVal (notes .ptr) (length (ws2 .1 .1 .1 .1 .0))) ∷ [], (v-take-up-line ∷ [], ((vint w64 end) ∷ [], ((vint w64 node) ∷ [], ((vint w64 at) ∷ [], tt)))))))))), tt) (omega arith)) (factI 𝓤 _ (emp 𝓤) (asks-again (asks-second pre e1 len1 len2) len3 len4)) (λ r ws. id⊢ 𝓤 _)
         (Run.and-then ! (Walk.local ! 8 refl) (Run.and-then ! (Walk.local ! 9 refl) (Run.and-then ! (Walk.local ! 10 refl)
-        (Run.and-then ! (Walk.local ! 28 refl) (Run.and-then ! (Walk.local ! 30 refl) (Run.and-then ! (Walk.local ! 11 refl)
+        (Run.and-then ! (Walk.local ! 27 refl) (Run.and-then ! (Walk.local ! 29 refl) (Run.and-then ! (Walk.local ! 11 refl)
         (Run.and-then ! (Walk.local ! 12 refl) (Run.and-then ! (Walk.local ! 13 refl) (Run.and-then ! (Walk.local ! 14 refl)
-        (Run.no-more !)))))))))) (λ u4 r4 ws4 is4′ e4.
+        (Run.no-more !)))))))))) (λ u3 r3 ws3 is3′ e3.
         Walk.returned W ((κ₀, q₀) ∷ ((ν5 ∷ []), fullShare) ∷ ((ν6 ∷ []), fullShare) ∷ (κ₃, q₃) ∷ []) (Walk.gone _ ∷ Walk.gone _ ∷ Walk.gone _ ∷
-        Walk.final (finally (UInt w8) δ5 (ws4 .1 .1 .1 .0)) (length (ws4 .1 .1 .1 .0)) (length (ws2 .1 .1 .1 .0)) ∷
-        Walk.final (finally (UInt w8) δ6 (ws4 .1 .1 .1 .1 .0)) (length (ws4 .1 .1 .1 .1 .0)) (length (ws2 .1 .1 .1 .1 .0)) ∷ Walk.gone _ ∷
+        Walk.final (finally (UInt w8) δ5 (ws3 .1 .1 .1 .0)) (length (ws3 .1 .1 .1 .0)) (length (ws2 .1 .1 .1 .0)) ∷
+        Walk.final (finally (UInt w64) δ6 (ws3 .1 .1 .1 .1 .0)) (length (ws3 .1 .1 .1 .1 .0)) (length (ws2 .1 .1 .1 .1 .0)) ∷ Walk.gone _ ∷
         Walk.gone _ ∷ Walk.gone _ ∷ Walk.gone _ ∷ []) ! (id⊢ 𝓤 _) (λ len5 len6.
         Walk.move ! (3 ∷ 8 ∷ 1 ∷ 8 ∷ []) (
-        Again.backs W (UInt w8) κ₁ q₁ dead (named 1) (named 1) (ws2 .1 .1 .1 .0) ! tt (ws4 .1 .1 .1 .0) ((subst (Slice.Room (UInt w8)) (sym len3)
+        Again.backs W (UInt w8) κ₁ q₁ dead (named 1) (named 1) (ws2 .1 .1 .1 .0) ! tt (ws3 .1 .1 .1 .0) ((subst (Slice.Room (UInt w8)) (sym len3)
         ((subst (Slice.Room (UInt w8)) (sym len1) (is-dead .0 .1))))) len5 (
         Walk.move ! (5 ∷ 8 ∷ 3 ∷ 7 ∷ []) (
-        Again.backs W (UInt w8) κ₂ q₂ pieces (named 2) (named 2) (ws2 .1 .1 .1 .1 .0) ! tt (ws4 .1 .1 .1 .1 .0) ((subst (Slice.Room (UInt w8))
-        (sym len4) ((subst (Slice.Room (UInt w8)) (sym len2) (is-pieces .0 .1))))) len6 (
-        Walk.lands-in ! (Walk.init-as ! 20 refl (LL.lawful Outcome-T.the-type Outcome-L.the-laws 𝓤 H A W .typed r4 _ is4′ .0)
-        (ap only (LL.tells Outcome-T.the-type Outcome-L.the-laws r4 _ is4′))) (
-        let is4 : Is Outcome-T.the-row r4 ((Outcome-L.lowered r4) ∷ []) = subst (λ (vs : List Val). Is Outcome-T.the-row r4 vs)
-        (LL.tells Outcome-T.the-type Outcome-L.the-laws r4 _ is4′) is4′ in
-        Walk.written-out ! (‵ (T-take-up-pieces .own (at-last pieces (ws4 .1 .1 .1 .1 .0)) (sliceVal (pieces .ptr) (length (ws4 .1 .1 .1 .1 .0)) ∷
-        [])) ∷ ‵ (flft κ₂ q₂) ∷ ‵ (fat fullShare Y-take-up-pieces l₅ 0 (sliceVal (pieces .ptr) (length (ws4 .1 .1 .1 .1 .0)))) ∷
-        ‵ (T-take-up-dead .own (at-last dead (ws4 .1 .1 .1 .0)) (sliceVal (dead .ptr) (length (ws4 .1 .1 .1 .0)) ∷ [])) ∷ ‵ (flft κ₁ q₁) ∷
-        ‵ (fat fullShare Y-take-up-dead l₄ 0 (sliceVal (dead .ptr) (length (ws4 .1 .1 .1 .0)))) ∷ ‵ (flft κ₀ q₀) ∷ ‵ (flft κ₃ q₃) ∷
+        Again.backs W (UInt w64) κ₂ q₂ notes (named 2) (named 2) (ws2 .1 .1 .1 .1 .0) ! tt (ws3 .1 .1 .1 .1 .0) ((subst (Slice.Room (UInt w64))
+        (sym len4) ((subst (Slice.Room (UInt w64)) (sym len2) (is-notes .0 .1))))) len6 (
+        Walk.lands-in ! (Walk.init-as ! 10 refl (LL.lawful Outcome-T.the-type Outcome-L.the-laws 𝓤 H A W .typed r3 _ is3′ .0)
+        (ap only (LL.tells Outcome-T.the-type Outcome-L.the-laws r3 _ is3′))) (
+        let is3 : Is Outcome-T.the-row r3 ((Outcome-L.lowered r3) ∷ []) = subst (λ (vs : List Val). Is Outcome-T.the-row r3 vs)
+        (LL.tells Outcome-T.the-type Outcome-L.the-laws r3 _ is3′) is3′ in
+        Walk.written-out ! (‵ (T-take-up-notes .own (at-last notes (ws3 .1 .1 .1 .1 .0)) (sliceVal (notes .ptr) (length (ws3 .1 .1 .1 .1 .0)) ∷
+        [])) ∷ ‵ (flft κ₂ q₂) ∷ ‵ (fat fullShare Y-take-up-notes l₅ 0 (sliceVal (notes .ptr) (length (ws3 .1 .1 .1 .1 .0)))) ∷
+        ‵ (T-take-up-dead .own (at-last dead (ws3 .1 .1 .1 .0)) (sliceVal (dead .ptr) (length (ws3 .1 .1 .1 .0)) ∷ [])) ∷ ‵ (flft κ₁ q₁) ∷
+        ‵ (fat fullShare Y-take-up-dead l₄ 0 (sliceVal (dead .ptr) (length (ws3 .1 .1 .1 .0)))) ∷ ‵ (flft κ₀ q₀) ∷ ‵ (flft κ₃ q₃) ∷
         ‵ (T-take-up-nodes .own nodes (sliceVal (nodes .ptr) (length (nodes .now)) ∷ [])) ∷ ‵ (T-take-up-line .own line (sliceVal (line .ptr)
-        (length (line .now)) ∷ [])) ∷ ‵ (froom Outcome-L.mir l₀ 0) ∷ ‵ (fat fullShare (tyInt w8) l₁ 0 (vint w8 left)) ∷
-        ‵ (fat fullShare (tyInt w8) l₂ 0 (vint w8 right)) ∷ ‵ (fat fullShare Y-take-up-nodes l₃ 0 (sliceVal (nodes .ptr) (length (nodes .now)))) ∷
-        ‵ (fat fullShare Y-take-up-line l₆ 0 (sliceVal (line .ptr) (length (line .now)))) ∷ ‵ (fat fullShare (tyInt w64) l₇ 0 (vint w64 end)) ∷
-        ‵ (fat fullShare (tyInt w64) l₈ 0 (vint w64 node)) ∷ ‵ (fat fullShare (tyInt w64) l₉ 0 (vint w64 at)) ∷
-        ‵ (fat fullShare Outcome-L.mir l₁₀ 0 (Outcome-L.lowered r1)) ∷ ‵ (fat fullShare Outcome-L.mir l₁₁ 0 (Outcome-L.lowered r2)) ∷
-        ‵ (fat fullShare Outcome-L.mir l₁₂ 0 (Outcome-L.lowered r4)) ∷
-        ‵ (fat fullShare (tyRef erased mut (pointee ((UInt w8) .written))) l₁₃ 0 (vptr (dead .ptr .0) (dead .ptr .1))) ∷
-        ‵ (fat fullShare (sliceTy (tyRef erased mut (pointee ((UInt w8) .written)))) l₁₄ 0 (sliceVal (dead .ptr) (length (dead .now)))) ∷
-        ‵ (fat fullShare (tyRef erased mut (pointee ((UInt w8) .written))) l₁₅ 0 (vptr (pieces .ptr .0) (pieces .ptr .1))) ∷
-        ‵ (fat fullShare (sliceTy (tyRef erased mut (pointee ((UInt w8) .written)))) l₁₆ 0 (sliceVal (pieces .ptr) (length (pieces .now)))) ∷
-        ‵ (fat fullShare tyBool l₁₇ 0 (vbool (not (eqb (r2 .node) 0)))) ∷
-        ‵ (fat fullShare (tyRef erased mut (pointee ((UInt w8) .written))) l₁₈ 0 (vptr (dead .ptr .0) (dead .ptr .1))) ∷
-        ‵ (fat fullShare (sliceTy (tyRef erased mut (pointee ((UInt w8) .written)))) l₁₉ 0 (sliceVal (dead .ptr) (length (ws1 .1 .1 .1 .0)))) ∷
-        ‵ (fat fullShare (tyRef erased mut (pointee ((UInt w8) .written))) l₂₀ 0 (vptr (pieces .ptr .0) (pieces .ptr .1))) ∷
-        ‵ (fat fullShare (sliceTy (tyRef erased mut (pointee ((UInt w8) .written)))) l₂₁ 0 (sliceVal (pieces .ptr) (length (ws1 .1 .1 .1 .1 .0)))) ∷
-        ‵ (fat fullShare (tyRef erased mut (pointee ((UInt w8) .written))) l₂₂ 0 (vptr (dead .ptr .0) (dead .ptr .1))) ∷
-        ‵ (fat fullShare (sliceTy (tyRef erased mut (pointee ((UInt w8) .written)))) l₂₃ 0 (sliceVal (dead .ptr) (length (ws2 .1 .1 .1 .0)))) ∷
-        ‵ (fat fullShare (tyRef erased mut (pointee ((UInt w8) .written))) l₂₄ 0 (vptr (pieces .ptr .0) (pieces .ptr .1))) ∷
-        ‵ (fat fullShare (sliceTy (tyRef erased mut (pointee ((UInt w8) .written)))) l₂₅ 0 (sliceVal (pieces .ptr) (length (ws2 .1 .1 .1 .1 .0)))) ∷
-        ‵ (froom Outcome-L.mir l₂₆ 0) ∷ ‵ Fd ∷ []) refl (
-        -- [pieces; κ₂; the locals; dead; κ₁; κ₀; κ₃; nodes; line; their ends]
-        -- call 5: count_after (r2, r4)
-        Walk.gives W (Walk.made (Outcome-T.the-row .own r2 ((Outcome-L.lowered r2) ∷ []))
-        (LL.makes Outcome-T.the-type Outcome-L.the-plain 𝓤 H A r2 _ is2) ∷ Walk.made (Outcome-T.the-row .own r4 ((Outcome-L.lowered r4) ∷ []))
-        (LL.makes Outcome-T.the-type Outcome-L.the-plain 𝓤 H A r4 _ is4) ∷ []) _ ! (
-        Walk.tokens-in W ([]) _ ! (alive 𝓤 H A g-count-after.signature tt tt) (id⊢ 𝓤 _) (
-        Walk.asks W ! fm g-count-after.ended (g-count-after.clauses 𝓤 H A mem run)
-        ((tt, tt, tt, (r2, (r4, tt)), ((Outcome-L.lowered r2) ∷ [], ((Outcome-L.lowered r4) ∷ [], tt))), tt) _ (known-count-after ((tt, tt, tt, (r2, (r4, tt)), ((Outcome-L.lowered r2) ∷ [], ((Outcome-L.lowered r4) ∷ [], tt))), tt)) (factI 𝓤 _ (emp 𝓤) (last-fits e1 (eqb-true (r1 .node) 0 (not-false _ t1)) e2 (eqb-true (r2 .node) 0 (not-false _ t2)) e4)) (λ r ws. id⊢ 𝓤 _)
-        (Run.and-then ! (Walk.local ! 20 refl) (Run.and-then ! (Walk.local ! 21 refl) (Run.no-more !))) (λ u5 r5 is5′ e5.
-        Walk.tokens-out W ([]) ! (id⊢ 𝓤 _) (
-        Walk.lands-in ! (Walk.init-as ! 34 refl (LL.lawful Outcome-T.the-type Outcome-L.the-laws 𝓤 H A W .typed r5 _ is5′ .0)
-        (ap only (LL.tells Outcome-T.the-type Outcome-L.the-laws r5 _ is5′))) (
-        let is5 : Is Outcome-T.the-row r5 ((Outcome-L.lowered r5) ∷ []) = subst (λ (vs : List Val). Is Outcome-T.the-row r5 vs)
-        (LL.tells Outcome-T.the-type Outcome-L.the-laws r5 _ is5′) is5′ in
-        Walk.written-out ! (‵ (T-take-up-pieces .own (at-last pieces (ws4 .1 .1 .1 .1 .0)) (sliceVal (pieces .ptr) (length (ws4 .1 .1 .1 .1 .0)) ∷
-        [])) ∷ ‵ (flft κ₂ q₂) ∷ ‵ (fat fullShare Y-take-up-pieces l₅ 0 (sliceVal (pieces .ptr) (length (ws4 .1 .1 .1 .1 .0)))) ∷
-        ‵ (T-take-up-dead .own (at-last dead (ws4 .1 .1 .1 .0)) (sliceVal (dead .ptr) (length (ws4 .1 .1 .1 .0)) ∷ [])) ∷ ‵ (flft κ₁ q₁) ∷
-        ‵ (fat fullShare Y-take-up-dead l₄ 0 (sliceVal (dead .ptr) (length (ws4 .1 .1 .1 .0)))) ∷ ‵ (flft κ₀ q₀) ∷ ‵ (flft κ₃ q₃) ∷
-        ‵ (T-take-up-nodes .own nodes (sliceVal (nodes .ptr) (length (nodes .now)) ∷ [])) ∷ ‵ (T-take-up-line .own line (sliceVal (line .ptr)
-        (length (line .now)) ∷ [])) ∷ ‵ (froom Outcome-L.mir l₀ 0) ∷ ‵ (fat fullShare (tyInt w8) l₁ 0 (vint w8 left)) ∷
-        ‵ (fat fullShare (tyInt w8) l₂ 0 (vint w8 right)) ∷ ‵ (fat fullShare Y-take-up-nodes l₃ 0 (sliceVal (nodes .ptr) (length (nodes .now)))) ∷
-        ‵ (fat fullShare Y-take-up-line l₆ 0 (sliceVal (line .ptr) (length (line .now)))) ∷ ‵ (fat fullShare (tyInt w64) l₇ 0 (vint w64 end)) ∷
-        ‵ (fat fullShare (tyInt w64) l₈ 0 (vint w64 node)) ∷ ‵ (fat fullShare (tyInt w64) l₉ 0 (vint w64 at)) ∷
-        ‵ (fat fullShare Outcome-L.mir l₁₀ 0 (Outcome-L.lowered r1)) ∷ ‵ (fat fullShare Outcome-L.mir l₁₁ 0 (Outcome-L.lowered r2)) ∷
-        ‵ (fat fullShare Outcome-L.mir l₁₂ 0 (Outcome-L.lowered r4)) ∷
-        ‵ (fat fullShare (tyRef erased mut (pointee ((UInt w8) .written))) l₁₃ 0 (vptr (dead .ptr .0) (dead .ptr .1))) ∷
-        ‵ (fat fullShare (sliceTy (tyRef erased mut (pointee ((UInt w8) .written)))) l₁₄ 0 (sliceVal (dead .ptr) (length (dead .now)))) ∷
-        ‵ (fat fullShare (tyRef erased mut (pointee ((UInt w8) .written))) l₁₅ 0 (vptr (pieces .ptr .0) (pieces .ptr .1))) ∷
-        ‵ (fat fullShare (sliceTy (tyRef erased mut (pointee ((UInt w8) .written)))) l₁₆ 0 (sliceVal (pieces .ptr) (length (pieces .now)))) ∷
-        ‵ (fat fullShare tyBool l₁₇ 0 (vbool (not (eqb (r2 .node) 0)))) ∷
-        ‵ (fat fullShare (tyRef erased mut (pointee ((UInt w8) .written))) l₁₈ 0 (vptr (dead .ptr .0) (dead .ptr .1))) ∷
-        ‵ (fat fullShare (sliceTy (tyRef erased mut (pointee ((UInt w8) .written)))) l₁₉ 0 (sliceVal (dead .ptr) (length (ws1 .1 .1 .1 .0)))) ∷
-        ‵ (fat fullShare (tyRef erased mut (pointee ((UInt w8) .written))) l₂₀ 0 (vptr (pieces .ptr .0) (pieces .ptr .1))) ∷
-        ‵ (fat fullShare (sliceTy (tyRef erased mut (pointee ((UInt w8) .written)))) l₂₁ 0 (sliceVal (pieces .ptr) (length (ws1 .1 .1 .1 .1 .0)))) ∷
-        ‵ (fat fullShare (tyRef erased mut (pointee ((UInt w8) .written))) l₂₂ 0 (vptr (dead .ptr .0) (dead .ptr .1))) ∷
-        ‵ (fat fullShare (sliceTy (tyRef erased mut (pointee ((UInt w8) .written)))) l₂₃ 0 (sliceVal (dead .ptr) (length (ws2 .1 .1 .1 .0)))) ∷
-        ‵ (fat fullShare (tyRef erased mut (pointee ((UInt w8) .written))) l₂₄ 0 (vptr (pieces .ptr .0) (pieces .ptr .1))) ∷
-        ‵ (fat fullShare (sliceTy (tyRef erased mut (pointee ((UInt w8) .written)))) l₂₅ 0 (sliceVal (pieces .ptr) (length (ws2 .1 .1 .1 .1 .0)))) ∷
-        ‵ (fat fullShare Outcome-L.mir l₂₆ 0 (Outcome-L.lowered r5)) ∷ ‵ Fd ∷ []) refl (
-        -- [pieces; κ₂; the locals; dead; κ₁; κ₀; κ₃; nodes; line; their ends]
-        -- call 6: count_after (r1, r5)
-        Walk.gives W (Walk.made (Outcome-T.the-row .own r1 ((Outcome-L.lowered r1) ∷ []))
-        (LL.makes Outcome-T.the-type Outcome-L.the-plain 𝓤 H A r1 _ is1) ∷ Walk.made (Outcome-T.the-row .own r5 ((Outcome-L.lowered r5) ∷ []))
-        (LL.makes Outcome-T.the-type Outcome-L.the-plain 𝓤 H A r5 _ is5) ∷ []) _ ! (
-        Walk.tokens-in W ([]) _ ! (alive 𝓤 H A g-count-after.signature tt tt) (id⊢ 𝓤 _) (
-        Walk.asks W ! fm g-count-after.ended (g-count-after.clauses 𝓤 H A mem run)
-        ((tt, tt, tt, (r1, (r5, tt)), ((Outcome-L.lowered r1) ∷ [], ((Outcome-L.lowered r5) ∷ [], tt))), tt) _ (known-count-after ((tt, tt, tt, (r1, (r5, tt)), ((Outcome-L.lowered r1) ∷ [], ((Outcome-L.lowered r5) ∷ [], tt))), tt)) (factI 𝓤 _ (emp 𝓤) (all-fit e1 (eqb-true (r1 .node) 0 (not-false _ t1)) e2 (eqb-true (r2 .node) 0 (not-false _ t2)) e4 e5)) (λ r ws. id⊢ 𝓤 _)
-        (Run.and-then ! (Walk.local ! 19 refl) (Run.and-then ! (Walk.local ! 35 refl) (Run.no-more !))) (λ u6 r6 is6′ e6.
-        Walk.tokens-out W ([]) ! (id⊢ 𝓤 _) (
-        Walk.lands-in ! (Walk.init-as ! 10 refl (LL.lawful Outcome-T.the-type Outcome-L.the-laws 𝓤 H A W .typed r6 _ is6′ .0)
-        (ap only (LL.tells Outcome-T.the-type Outcome-L.the-laws r6 _ is6′))) (
-        let is6 : Is Outcome-T.the-row r6 ((Outcome-L.lowered r6) ∷ []) = subst (λ (vs : List Val). Is Outcome-T.the-row r6 vs)
-        (LL.tells Outcome-T.the-type Outcome-L.the-laws r6 _ is6′) is6′ in
-        Walk.written-out ! (‵ (T-take-up-pieces .own (at-last pieces (ws4 .1 .1 .1 .1 .0)) (sliceVal (pieces .ptr) (length (ws4 .1 .1 .1 .1 .0)) ∷
-        [])) ∷ ‵ (flft κ₂ q₂) ∷ ‵ (fat fullShare Y-take-up-pieces l₅ 0 (sliceVal (pieces .ptr) (length (ws4 .1 .1 .1 .1 .0)))) ∷
-        ‵ (T-take-up-dead .own (at-last dead (ws4 .1 .1 .1 .0)) (sliceVal (dead .ptr) (length (ws4 .1 .1 .1 .0)) ∷ [])) ∷ ‵ (flft κ₁ q₁) ∷
-        ‵ (fat fullShare Y-take-up-dead l₄ 0 (sliceVal (dead .ptr) (length (ws4 .1 .1 .1 .0)))) ∷ ‵ (flft κ₀ q₀) ∷ ‵ (flft κ₃ q₃) ∷
-        ‵ (T-take-up-nodes .own nodes (sliceVal (nodes .ptr) (length (nodes .now)) ∷ [])) ∷ ‵ (T-take-up-line .own line (sliceVal (line .ptr)
-        (length (line .now)) ∷ [])) ∷ ‵ (fat fullShare Outcome-L.mir l₀ 0 (Outcome-L.lowered r6)) ∷
+        (length (line .now)) ∷ [])) ∷ ‵ (fat fullShare Outcome-L.mir l₀ 0 (Outcome-L.lowered r3)) ∷
         ‵ (fat fullShare (tyInt w8) l₁ 0 (vint w8 left)) ∷ ‵ (fat fullShare (tyInt w8) l₂ 0 (vint w8 right)) ∷
         ‵ (fat fullShare Y-take-up-nodes l₃ 0 (sliceVal (nodes .ptr) (length (nodes .now)))) ∷
         ‵ (fat fullShare Y-take-up-line l₆ 0 (sliceVal (line .ptr) (length (line .now)))) ∷ ‵ (fat fullShare (tyInt w64) l₇ 0 (vint w64 end)) ∷
         ‵ (fat fullShare (tyInt w64) l₈ 0 (vint w64 node)) ∷ ‵ (fat fullShare (tyInt w64) l₉ 0 (vint w64 at)) ∷
         ‵ (fat fullShare Outcome-L.mir l₁₀ 0 (Outcome-L.lowered r1)) ∷ ‵ (fat fullShare Outcome-L.mir l₁₁ 0 (Outcome-L.lowered r2)) ∷
-        ‵ (fat fullShare Outcome-L.mir l₁₂ 0 (Outcome-L.lowered r4)) ∷
-        ‵ (fat fullShare (tyRef erased mut (pointee ((UInt w8) .written))) l₁₃ 0 (vptr (dead .ptr .0) (dead .ptr .1))) ∷
-        ‵ (fat fullShare (sliceTy (tyRef erased mut (pointee ((UInt w8) .written)))) l₁₄ 0 (sliceVal (dead .ptr) (length (dead .now)))) ∷
-        ‵ (fat fullShare (tyRef erased mut (pointee ((UInt w8) .written))) l₁₅ 0 (vptr (pieces .ptr .0) (pieces .ptr .1))) ∷
-        ‵ (fat fullShare (sliceTy (tyRef erased mut (pointee ((UInt w8) .written)))) l₁₆ 0 (sliceVal (pieces .ptr) (length (pieces .now)))) ∷
-        ‵ (fat fullShare tyBool l₁₇ 0 (vbool (not (eqb (r2 .node) 0)))) ∷
-        ‵ (fat fullShare (tyRef erased mut (pointee ((UInt w8) .written))) l₁₈ 0 (vptr (dead .ptr .0) (dead .ptr .1))) ∷
-        ‵ (fat fullShare (sliceTy (tyRef erased mut (pointee ((UInt w8) .written)))) l₁₉ 0 (sliceVal (dead .ptr) (length (ws1 .1 .1 .1 .0)))) ∷
-        ‵ (fat fullShare (tyRef erased mut (pointee ((UInt w8) .written))) l₂₀ 0 (vptr (pieces .ptr .0) (pieces .ptr .1))) ∷
-        ‵ (fat fullShare (sliceTy (tyRef erased mut (pointee ((UInt w8) .written)))) l₂₁ 0 (sliceVal (pieces .ptr) (length (ws1 .1 .1 .1 .1 .0)))) ∷
-        ‵ (fat fullShare (tyRef erased mut (pointee ((UInt w8) .written))) l₂₂ 0 (vptr (dead .ptr .0) (dead .ptr .1))) ∷
-        ‵ (fat fullShare (sliceTy (tyRef erased mut (pointee ((UInt w8) .written)))) l₂₃ 0 (sliceVal (dead .ptr) (length (ws2 .1 .1 .1 .0)))) ∷
-        ‵ (fat fullShare (tyRef erased mut (pointee ((UInt w8) .written))) l₂₄ 0 (vptr (pieces .ptr .0) (pieces .ptr .1))) ∷
-        ‵ (fat fullShare (sliceTy (tyRef erased mut (pointee ((UInt w8) .written)))) l₂₅ 0 (sliceVal (pieces .ptr) (length (ws2 .1 .1 .1 .1 .0)))) ∷
-        ‵ (fat fullShare Outcome-L.mir l₂₆ 0 (Outcome-L.lowered r5)) ∷ ‵ Fd ∷ []) refl (
+        ‵ (fat fullShare (tyRef erased mut (pointee ((UInt w8) .written))) l₁₂ 0 (vptr (dead .ptr .0) (dead .ptr .1))) ∷
+        ‵ (fat fullShare (sliceTy (tyRef erased mut (pointee ((UInt w8) .written)))) l₁₃ 0 (sliceVal (dead .ptr) (length (dead .now)))) ∷
+        ‵ (fat fullShare (tyRef erased mut (pointee ((UInt w64) .written))) l₁₄ 0 (vptr (notes .ptr .0) (notes .ptr .1))) ∷
+        ‵ (fat fullShare (sliceTy (tyRef erased mut (pointee ((UInt w64) .written)))) l₁₅ 0 (sliceVal (notes .ptr) (length (notes .now)))) ∷
+        ‵ (fat fullShare tyBool l₁₆ 0 (vbool (not (eqb (r2 .node) 0)))) ∷
+        ‵ (fat fullShare (tyRef erased mut (pointee ((UInt w8) .written))) l₁₇ 0 (vptr (dead .ptr .0) (dead .ptr .1))) ∷
+        ‵ (fat fullShare (sliceTy (tyRef erased mut (pointee ((UInt w8) .written)))) l₁₈ 0 (sliceVal (dead .ptr) (length (ws1 .1 .1 .1 .0)))) ∷
+        ‵ (fat fullShare (tyRef erased mut (pointee ((UInt w64) .written))) l₁₉ 0 (vptr (notes .ptr .0) (notes .ptr .1))) ∷
+        ‵ (fat fullShare (sliceTy (tyRef erased mut (pointee ((UInt w64) .written)))) l₂₀ 0 (sliceVal (notes .ptr) (length (ws1 .1 .1 .1 .1 .0)))) ∷
+        ‵ (fat fullShare (tyRef erased mut (pointee ((UInt w8) .written))) l₂₁ 0 (vptr (dead .ptr .0) (dead .ptr .1))) ∷
+        ‵ (fat fullShare (sliceTy (tyRef erased mut (pointee ((UInt w8) .written)))) l₂₂ 0 (sliceVal (dead .ptr) (length (ws2 .1 .1 .1 .0)))) ∷
+        ‵ (fat fullShare (tyRef erased mut (pointee ((UInt w64) .written))) l₂₃ 0 (vptr (notes .ptr .0) (notes .ptr .1))) ∷
+        ‵ (fat fullShare (sliceTy (tyRef erased mut (pointee ((UInt w64) .written)))) l₂₄ 0 (sliceVal (notes .ptr) (length (ws2 .1 .1 .1 .1 .0)))) ∷
+        ‵ Fd ∷ []) refl (
         Walk.returns-by ! Post-take-up refl (Run.look ! 10 refl) (
-        Walk.move ! (10 ∷ 10 ∷ 10 ∷ 10 ∷ 5 ∷ 2 ∷ 8 ∷ 8 ∷ 8 ∷ 8 ∷ 8 ∷ 8 ∷ 8 ∷ 8 ∷ 8 ∷ 8 ∷ 8 ∷ 8 ∷ 8 ∷ 8 ∷ 8 ∷ 8 ∷ 8 ∷ 8 ∷ 8 ∷ 8 ∷ 8 ∷ 8 ∷ []) (
-        Walk.frees-gathered ! (Walk.full Outcome-L.mir l₀ (Outcome-L.lowered r6) ∷ Walk.full (tyInt w8) l₁ (vint w8 left) ∷
+        Walk.move ! (10 ∷ 10 ∷ 10 ∷ 10 ∷ 5 ∷ 2 ∷ 8 ∷ 8 ∷ 8 ∷ 8 ∷ 8 ∷ 8 ∷ 8 ∷ 8 ∷ 8 ∷ 8 ∷ 8 ∷ 8 ∷ 8 ∷ 8 ∷ 8 ∷ 8 ∷ 8 ∷ 8 ∷ 8 ∷ 8 ∷ []) (
+        Walk.frees-gathered ! (Walk.full Outcome-L.mir l₀ (Outcome-L.lowered r3) ∷ Walk.full (tyInt w8) l₁ (vint w8 left) ∷
         Walk.full (tyInt w8) l₂ (vint w8 right) ∷ Walk.full Y-take-up-nodes l₃ (sliceVal (nodes .ptr) (length (nodes .now))) ∷
-        Walk.full Y-take-up-dead l₄ (sliceVal (dead .ptr) (length (ws4 .1 .1 .1 .0))) ∷ Walk.full Y-take-up-pieces l₅ (sliceVal (pieces .ptr)
-        (length (ws4 .1 .1 .1 .1 .0))) ∷ Walk.full Y-take-up-line l₆ (sliceVal (line .ptr) (length (line .now))) ∷
+        Walk.full Y-take-up-dead l₄ (sliceVal (dead .ptr) (length (ws3 .1 .1 .1 .0))) ∷ Walk.full Y-take-up-notes l₅ (sliceVal (notes .ptr)
+        (length (ws3 .1 .1 .1 .1 .0))) ∷ Walk.full Y-take-up-line l₆ (sliceVal (line .ptr) (length (line .now))) ∷
         Walk.full (tyInt w64) l₇ (vint w64 end) ∷ Walk.full (tyInt w64) l₈ (vint w64 node) ∷ Walk.full (tyInt w64) l₉ (vint w64 at) ∷
         Walk.full Outcome-L.mir l₁₀ (Outcome-L.lowered r1) ∷ Walk.full Outcome-L.mir l₁₁ (Outcome-L.lowered r2) ∷
-        Walk.full Outcome-L.mir l₁₂ (Outcome-L.lowered r4) ∷ Walk.full (tyRef erased mut (pointee ((UInt w8) .written))) l₁₃ (vptr (dead .ptr .0)
-        (dead .ptr .1)) ∷ Walk.full (sliceTy (tyRef erased mut (pointee ((UInt w8) .written)))) l₁₄ (sliceVal (dead .ptr) (length (dead .now))) ∷
-        Walk.full (tyRef erased mut (pointee ((UInt w8) .written))) l₁₅ (vptr (pieces .ptr .0) (pieces .ptr .1)) ∷
-        Walk.full (sliceTy (tyRef erased mut (pointee ((UInt w8) .written)))) l₁₆ (sliceVal (pieces .ptr) (length (pieces .now))) ∷
-        Walk.full tyBool l₁₇ (vbool (not (eqb (r2 .node) 0))) ∷ Walk.full (tyRef erased mut (pointee ((UInt w8) .written))) l₁₈ (vptr (dead .ptr .0)
-        (dead .ptr .1)) ∷ Walk.full (sliceTy (tyRef erased mut (pointee ((UInt w8) .written)))) l₁₉ (sliceVal (dead .ptr)
-        (length (ws1 .1 .1 .1 .0))) ∷ Walk.full (tyRef erased mut (pointee ((UInt w8) .written))) l₂₀ (vptr (pieces .ptr .0) (pieces .ptr .1)) ∷
-        Walk.full (sliceTy (tyRef erased mut (pointee ((UInt w8) .written)))) l₂₁ (sliceVal (pieces .ptr) (length (ws1 .1 .1 .1 .1 .0))) ∷
-        Walk.full (tyRef erased mut (pointee ((UInt w8) .written))) l₂₂ (vptr (dead .ptr .0) (dead .ptr .1)) ∷
-        Walk.full (sliceTy (tyRef erased mut (pointee ((UInt w8) .written)))) l₂₃ (sliceVal (dead .ptr) (length (ws2 .1 .1 .1 .0))) ∷
-        Walk.full (tyRef erased mut (pointee ((UInt w8) .written))) l₂₄ (vptr (pieces .ptr .0) (pieces .ptr .1)) ∷
-        Walk.full (sliceTy (tyRef erased mut (pointee ((UInt w8) .written)))) l₂₅ (sliceVal (pieces .ptr) (length (ws2 .1 .1 .1 .1 .0))) ∷
-        Walk.full Outcome-L.mir l₂₆ (Outcome-L.lowered r5) ∷ []) Fd ed (‵ (T-take-up-pieces .own (at-last pieces (ws4 .1 .1 .1 .1 .0))
-        (sliceVal (pieces .ptr) (length (ws4 .1 .1 .1 .1 .0)) ∷ [])) ∷ ‵ (flft κ₂ q₂) ∷ ‵ (T-take-up-dead .own (at-last dead (ws4 .1 .1 .1 .0))
-        (sliceVal (dead .ptr) (length (ws4 .1 .1 .1 .0)) ∷ [])) ∷ ‵ (flft κ₁ q₁) ∷ ‵ (flft κ₀ q₀) ∷ ‵ (flft κ₃ q₃) ∷
-        ‵ (T-take-up-nodes .own nodes (sliceVal (nodes .ptr) (length (nodes .now)) ∷ [])) ∷ ‵ (T-take-up-line .own line (sliceVal (line .ptr)
-        (length (line .now)) ∷ [])) ∷ []) (
+        Walk.full (tyRef erased mut (pointee ((UInt w8) .written))) l₁₂ (vptr (dead .ptr .0) (dead .ptr .1)) ∷
+        Walk.full (sliceTy (tyRef erased mut (pointee ((UInt w8) .written)))) l₁₃ (sliceVal (dead .ptr) (length (dead .now))) ∷
+        Walk.full (tyRef erased mut (pointee ((UInt w64) .written))) l₁₄ (vptr (notes .ptr .0) (notes .ptr .1)) ∷
+        Walk.full (sliceTy (tyRef erased mut (pointee ((UInt w64) .written)))) l₁₅ (sliceVal (notes .ptr) (length (notes .now))) ∷
+        Walk.full tyBool l₁₆ (vbool (not (eqb (r2 .node) 0))) ∷ Walk.full (tyRef erased mut (pointee ((UInt w8) .written))) l₁₇ (vptr (dead .ptr .0)
+        (dead .ptr .1)) ∷ Walk.full (sliceTy (tyRef erased mut (pointee ((UInt w8) .written)))) l₁₈ (sliceVal (dead .ptr)
+        (length (ws1 .1 .1 .1 .0))) ∷ Walk.full (tyRef erased mut (pointee ((UInt w64) .written))) l₁₉ (vptr (notes .ptr .0) (notes .ptr .1)) ∷
+        Walk.full (sliceTy (tyRef erased mut (pointee ((UInt w64) .written)))) l₂₀ (sliceVal (notes .ptr) (length (ws1 .1 .1 .1 .1 .0))) ∷
+        Walk.full (tyRef erased mut (pointee ((UInt w8) .written))) l₂₁ (vptr (dead .ptr .0) (dead .ptr .1)) ∷
+        Walk.full (sliceTy (tyRef erased mut (pointee ((UInt w8) .written)))) l₂₂ (sliceVal (dead .ptr) (length (ws2 .1 .1 .1 .0))) ∷
+        Walk.full (tyRef erased mut (pointee ((UInt w64) .written))) l₂₃ (vptr (notes .ptr .0) (notes .ptr .1)) ∷
+        Walk.full (sliceTy (tyRef erased mut (pointee ((UInt w64) .written)))) l₂₄ (sliceVal (notes .ptr) (length (ws2 .1 .1 .1 .1 .0))) ∷
+        []) Fd ed (‵ (T-take-up-notes .own (at-last notes (ws3 .1 .1 .1 .1 .0)) (sliceVal (notes .ptr) (length (ws3 .1 .1 .1 .1 .0)) ∷ [])) ∷
+        ‵ (flft κ₂ q₂) ∷ ‵ (T-take-up-dead .own (at-last dead (ws3 .1 .1 .1 .0)) (sliceVal (dead .ptr) (length (ws3 .1 .1 .1 .0)) ∷ [])) ∷
+        ‵ (flft κ₁ q₁) ∷ ‵ (flft κ₀ q₀) ∷ ‵ (flft κ₃ q₃) ∷ ‵ (T-take-up-nodes .own nodes (sliceVal (nodes .ptr) (length (nodes .now)) ∷ [])) ∷
+        ‵ (T-take-up-line .own line (sliceVal (line .ptr) (length (line .now)) ∷ [])) ∷ []) (
         Walk.move ! (2 ∷ 0 ∷ []) (
-        Walk.gives W (Walk.nothing ∷ Walk.nothing ∷ Walk.nothing ∷ Walk.turned (T-take-up-dead .own (at-last dead (ws4 .1 .1 .1 .0))
-        (sliceVal (dead .ptr) (length (ws4 .1 .1 .1 .0)) ∷ [])) (finally (UInt w8) (dead .name) (ws4 .1 .1 .1 .0))
-        (Walk.ended-slice 𝓤 H A W (named 1) κ₁ (UInt w8) dead (ws4 .1 .1 .1 .0) _) ∷
-        Walk.turned (T-take-up-pieces .own (at-last pieces (ws4 .1 .1 .1 .1 .0)) (sliceVal (pieces .ptr) (length (ws4 .1 .1 .1 .1 .0)) ∷ []))
-        (finally (UInt w8) (pieces .name) (ws4 .1 .1 .1 .1 .0)) (Walk.ended-slice 𝓤 H A W (named 2) κ₂ (UInt w8) pieces (ws4 .1 .1 .1 .1 .0) _) ∷
+        Walk.gives W (Walk.nothing ∷ Walk.nothing ∷ Walk.nothing ∷ Walk.turned (T-take-up-dead .own (at-last dead (ws3 .1 .1 .1 .0))
+        (sliceVal (dead .ptr) (length (ws3 .1 .1 .1 .0)) ∷ [])) (finally (UInt w8) (dead .name) (ws3 .1 .1 .1 .0))
+        (Walk.ended-slice 𝓤 H A W (named 1) κ₁ (UInt w8) dead (ws3 .1 .1 .1 .0) _) ∷
+        Walk.turned (T-take-up-notes .own (at-last notes (ws3 .1 .1 .1 .1 .0)) (sliceVal (notes .ptr) (length (ws3 .1 .1 .1 .1 .0)) ∷ []))
+        (finally (UInt w64) (notes .name) (ws3 .1 .1 .1 .1 .0)) (Walk.ended-slice 𝓤 H A W (named 2) κ₂ (UInt w64) notes (ws3 .1 .1 .1 .1 .0) _) ∷
         Walk.nothing ∷ Walk.nothing ∷ Walk.nothing ∷ Walk.nothing ∷ []) _ ! (
         Walk.move ! (3 ∷ 2 ∷ 1 ∷ 1 ∷ []) (
         Walk.tokens-in W ((κ₀, q₀) ∷ (κ₁, q₁) ∷ (κ₂, q₂) ∷ (κ₃, q₃) ∷ []) _ ! (alive 𝓤 H A f-take-up.signature (κ₀, (κ₁, (κ₂, (κ₃, tt))))
         (q₀, (q₁, (q₂, (q₃, tt))))) (id⊢ 𝓤 _) (
-        Walk.use0 W ! (‵ (Outcome-T.the-row .own r6 ((Outcome-L.lowered r6) ∷ []))) (LL.makes Outcome-T.the-type Outcome-L.the-plain 𝓤 H A r6 _ is6) (
+        Walk.use0 W ! (‵ (Outcome-T.the-row .own r3 ((Outcome-L.lowered r3) ∷ []))) (LL.makes Outcome-T.the-type Outcome-L.the-plain 𝓤 H A r3 _ is3) (
         Walk.keep ! (1 ∷ 1 ∷ 0 ∷ []) (
-        Kit.by ! (Walk.leave-by 𝓤 H A W f-take-up.ended (f-take-up.clauses 𝓤 H A mem run) stayed-take-up bound-take-up (Outcome-L.lowered r6) r6 (tt, (tt, (tt, ((ws4 .1 .1 .1 .0), ((ws4 .1 .1 .1 .1 .0), (tt, (tt, (tt, (tt, tt))))))))) (tt, (tt, (tt, ((len5 ∙ (len3 ∙ (len1 ∙ refl))), ((len6 ∙ (len4 ∙ (len2 ∙ refl))), (tt, (tt, (tt, (tt, tt))))))))) (factI 𝓤 _ (emp 𝓤) (third-found e1 (eqb-true (r1 .node) 0 (not-false _ t1)) e2 (eqb-true (r2 .node) 0 (not-false _ t2)) e4 e5 e6))))))))))))))))))))))))))))))))))))))))))))))))))))))))))))))))))))))))))))))))))))))))))))))))))))))))))))))))))))))))))))))))))))))))))
+        Kit.by ! (Walk.leave-by 𝓤 H A W f-take-up.ended (f-take-up.clauses 𝓤 H A mem run) stayed-take-up bound-take-up (Outcome-L.lowered r3) r3 (tt, (tt, (tt, ((ws3 .1 .1 .1 .0), ((ws3 .1 .1 .1 .1 .0), (tt, (tt, (tt, (tt, tt))))))))) (tt, (tt, (tt, ((len5 ∙ (len3 ∙ (len1 ∙ refl))), ((len6 ∙ (len4 ∙ (len2 ∙ refl))), (tt, (tt, (tt, (tt, tt))))))))) (factI 𝓤 _ (emp 𝓤) (third-found e1 (eqb-true (r1 .node) 0 (not-false _ t1)) e2 (eqb-true (r2 .node) 0 (not-false _ t2)) e3))))))))))))))))))))))))))))))))))))))))))))))))))))))))))))))))))))))))))))))))))))))))))))))))))))))))))))))))))))))))))))
 
 pub +search+search-atom+search-byte+search-piece+take-up-spec : {M : Type 1} → cycle.statement M
 unfolding code.search-routine code.search-atom-routine code.search-byte-routine code.search-piece-routine code.take-up-routine tablesOf
@@ -2617,8 +2608,8 @@ unfolding code.search-routine code.search-atom-routine code.search-byte-routine 
     (λ t smaller. at-on 𝓤 H (𝓖 .A) f-search.signature (f-search.spec 𝓤 H (𝓖 .A) (𝓜 .mem) (𝓡 .run)) (WpFn 𝓤 H (𝓣 .C) (𝓣 .Λ) code.search-function)
     (𝓣 .C #search) (code.search-unfolded 𝓤 H 𝓜 𝓡) (μ-search 𝓤 H (𝓖 .A) (𝓜 .mem) (𝓡 .run)) t
     (λ y e. Walk.thick-at 𝓤 H (𝓖 .A) W f-search.ended (f-search.clauses 𝓤 H (𝓖 .A) (𝓜 .mem)
-    (𝓡 .run)) stayed-search (goes-dropped 𝓤 H (𝓖 .A) W 4 (plain (λ _. (UInt w8))) yes (λ κs x f. refl), (goes-dropped 𝓤 H (𝓖 .A) W 4 (plain (λ _. (UInt w8))) yes (λ κs x f. refl), (goes-dropped 𝓤 H (𝓖 .A) W 4 (shrSliceOf (0 ∷ []) tt (plain (λ _. Node-T.the-row))) yes (λ κs x f. refl), (goes-gave-slice 𝓤 H (𝓖 .A) W 4 1 tt (plain (λ _. (UInt w8))), (goes-gave-slice 𝓤 H (𝓖 .A) W 4 2 tt (plain (λ _. (UInt w8))), (goes-dropped 𝓤 H (𝓖 .A) W 4 (shrSliceOf (3 ∷ []) tt (plain (λ _. (UInt w8)))) yes (λ κs x f. refl), (goes-dropped 𝓤 H (𝓖 .A) W 4 (plain (λ _. (UInt w64))) yes (λ κs x f. refl), (goes-dropped 𝓤 H (𝓖 .A) W 4 (plain (λ _. (UInt w64))) yes (λ κs x f. refl), (goes-dropped 𝓤 H (𝓖 .A) W 4 (plain (λ _. (UInt w64))) yes (λ κs x f. refl), tt)))))))))
-    (λ κs. (uint-vals w8, (uint-vals w8, (slice-vals, (slice-vals, (slice-vals, (slice-vals, (uint-vals w64, (uint-vals w64, (uint-vals w64, tt)))))))))) (λ κs. (uint-tells w8, (uint-tells w8, (shr-slice-tells (named 0) (κs .0) Node-T.the-row, (mut-slice-tells (named 1) (κs .1 .0) (UInt w8), (mut-slice-tells (named 2) (κs .1 .1 .0) (UInt w8), (shr-slice-tells (named 3) (κs .1 .1 .1 .0) (UInt w8), (uint-tells w64, (uint-tells w64, (uint-tells w64, tt)))))))))) code.search-function 𝓣 y
+    (𝓡 .run)) stayed-search (goes-dropped 𝓤 H (𝓖 .A) W 4 (plain (λ _. (UInt w8))) yes (λ κs x f. refl), (goes-dropped 𝓤 H (𝓖 .A) W 4 (plain (λ _. (UInt w8))) yes (λ κs x f. refl), (goes-dropped 𝓤 H (𝓖 .A) W 4 (shrSliceOf (0 ∷ []) tt (plain (λ _. Node-T.the-row))) yes (λ κs x f. refl), (goes-gave-slice 𝓤 H (𝓖 .A) W 4 1 tt (plain (λ _. (UInt w8))), (goes-gave-slice 𝓤 H (𝓖 .A) W 4 2 tt (plain (λ _. (UInt w64))), (goes-dropped 𝓤 H (𝓖 .A) W 4 (shrSliceOf (3 ∷ []) tt (plain (λ _. (UInt w8)))) yes (λ κs x f. refl), (goes-dropped 𝓤 H (𝓖 .A) W 4 (plain (λ _. (UInt w64))) yes (λ κs x f. refl), (goes-dropped 𝓤 H (𝓖 .A) W 4 (plain (λ _. (UInt w64))) yes (λ κs x f. refl), (goes-dropped 𝓤 H (𝓖 .A) W 4 (plain (λ _. (UInt w64))) yes (λ κs x f. refl), tt)))))))))
+    (λ κs. (uint-vals w8, (uint-vals w8, (slice-vals, (slice-vals, (slice-vals, (slice-vals, (uint-vals w64, (uint-vals w64, (uint-vals w64, tt)))))))))) (λ κs. (uint-tells w8, (uint-tells w8, (shr-slice-tells (named 0) (κs .0) Node-T.the-row, (mut-slice-tells (named 1) (κs .1 .0) (UInt w8), (mut-slice-tells (named 2) (κs .1 .1 .0) (UInt w64), (shr-slice-tells (named 3) (κs .1 .1 .1 .0) (UInt w8), (uint-tells w64, (uint-tells w64, (uint-tells w64, tt)))))))))) code.search-function 𝓣 y
     (λ are. needs 𝓤 _ _ (walk-search 𝓤 H (𝓖 .A) W (𝓜 .mem) (𝓡 .run) (y .0 .0 .0) (y .0 .1 .0) (y .0 .0 .1 .0) (y .0 .1 .1 .0) (y .0 .0 .1 .1 .0)
     (y .0 .1 .1 .1 .0) (y .0 .0 .1 .1 .1 .0) (y .0 .1 .1 .1 .1 .0) (y .0 .3 .0) (y .0 .3 .1 .0) (y .0 .3 .1 .1 .0) (y .0 .3 .1 .1 .1 .0)
     (y .0 .3 .1 .1 .1 .1 .0) (y .0 .3 .1 .1 .1 .1 .1 .0) (y .0 .3 .1 .1 .1 .1 .1 .1 .0) (y .0 .3 .1 .1 .1 .1 .1 .1 .1 .0)
@@ -2629,10 +2620,10 @@ unfolding code.search-routine code.search-atom-routine code.search-byte-routine 
     (𝓡 .run))) 𝓜 𝓡 code.env #g-is-dead g-is-dead-def.routine code.calls-places·is-dead (g-is-dead-thm.met 𝓤 H 𝓜 𝓖 𝓡))
     (cited 𝓤 H (Walk.Of 𝓤 H (𝓖 .A) g-no-piece.ended (g-no-piece.clauses 𝓤 H (𝓖 .A) (𝓜 .mem)
     (𝓡 .run))) 𝓜 𝓡 code.env #g-no-piece g-no-piece-def.routine code.calls-fit·no-piece (g-no-piece-thm.met 𝓤 H 𝓜 𝓖 𝓡))
-    (cited 𝓤 H (Walk.Of 𝓤 H (𝓖 .A) g-set-dead.ended (g-set-dead.clauses 𝓤 H (𝓖 .A) (𝓜 .mem)
-    (𝓡 .run))) 𝓜 𝓡 code.env #g-set-dead g-set-dead-def.routine code.calls-places·set-dead (g-set-dead-thm.met 𝓤 H 𝓜 𝓖 𝓡))
     (cited 𝓤 H (Walk.Of 𝓤 H (𝓖 .A) g-count-place.ended (g-count-place.clauses 𝓤 H (𝓖 .A) (𝓜 .mem)
     (𝓡 .run))) 𝓜 𝓡 code.env #g-count-place g-count-place-def.routine code.calls-fit·count-place (g-count-place-thm.met 𝓤 H 𝓜 𝓖 𝓡))
+    (cited 𝓤 H (Walk.Of 𝓤 H (𝓖 .A) g-set-dead.ended (g-set-dead.clauses 𝓤 H (𝓖 .A) (𝓜 .mem)
+    (𝓡 .run))) 𝓜 𝓡 code.env #g-set-dead g-set-dead-def.routine code.calls-places·set-dead (g-set-dead-thm.met 𝓤 H 𝓜 𝓖 𝓡))
     (λ z lt. smaller .0 (μ-search 𝓤 H (𝓖 .A) (𝓜 .mem) (𝓡 .run) z) (subst (λ (m : ℕ). μ-search 𝓤 H (𝓖 .A) (𝓜 .mem) (𝓡 .run) z < m) e lt) z refl)
     (λ z lt. smaller .1 .0 (μ-search-atom 𝓤 H (𝓖 .A) (𝓜 .mem) (𝓡 .run) z) (subst (λ (m : ℕ). μ-search-atom 𝓤 H (𝓖 .A) (𝓜 .mem)
     (𝓡 .run) z < m) e lt) z refl) (λ z lt. smaller .1 .1 .0 (μ-search-byte 𝓤 H (𝓖 .A) (𝓜 .mem) (𝓡 .run) z)
@@ -2644,8 +2635,8 @@ unfolding code.search-routine code.search-atom-routine code.search-byte-routine 
     (λ t smaller. at-on 𝓤 H (𝓖 .A) f-search-atom.signature (f-search-atom.spec 𝓤 H (𝓖 .A) (𝓜 .mem) (𝓡 .run)) (WpFn 𝓤 H (𝓣 .C)
     (𝓣 .Λ) code.search-atom-function) (𝓣 .C #search-atom) (code.search-atom-unfolded 𝓤 H 𝓜 𝓡) (μ-search-atom 𝓤 H (𝓖 .A) (𝓜 .mem) (𝓡 .run)) t
     (λ y e. Walk.thick-at 𝓤 H (𝓖 .A) W f-search-atom.ended (f-search-atom.clauses 𝓤 H (𝓖 .A) (𝓜 .mem)
-    (𝓡 .run)) stayed-search-atom (goes-dropped 𝓤 H (𝓖 .A) W 4 (plain (λ _. (UInt w8))) yes (λ κs x f. refl), (goes-dropped 𝓤 H (𝓖 .A) W 4 (plain (λ _. (UInt w8))) yes (λ κs x f. refl), (goes-dropped 𝓤 H (𝓖 .A) W 4 (shrSliceOf (0 ∷ []) tt (plain (λ _. Node-T.the-row))) yes (λ κs x f. refl), (goes-gave-slice 𝓤 H (𝓖 .A) W 4 1 tt (plain (λ _. (UInt w8))), (goes-gave-slice 𝓤 H (𝓖 .A) W 4 2 tt (plain (λ _. (UInt w8))), (goes-dropped 𝓤 H (𝓖 .A) W 4 (shrSliceOf (3 ∷ []) tt (plain (λ _. (UInt w8)))) yes (λ κs x f. refl), (goes-dropped 𝓤 H (𝓖 .A) W 4 (plain (λ _. (UInt w64))) yes (λ κs x f. refl), (goes-dropped 𝓤 H (𝓖 .A) W 4 (plain (λ _. (UInt w64))) yes (λ κs x f. refl), (goes-dropped 𝓤 H (𝓖 .A) W 4 (plain (λ _. (UInt w64))) yes (λ κs x f. refl), tt)))))))))
-    (λ κs. (uint-vals w8, (uint-vals w8, (slice-vals, (slice-vals, (slice-vals, (slice-vals, (uint-vals w64, (uint-vals w64, (uint-vals w64, tt)))))))))) (λ κs. (uint-tells w8, (uint-tells w8, (shr-slice-tells (named 0) (κs .0) Node-T.the-row, (mut-slice-tells (named 1) (κs .1 .0) (UInt w8), (mut-slice-tells (named 2) (κs .1 .1 .0) (UInt w8), (shr-slice-tells (named 3) (κs .1 .1 .1 .0) (UInt w8), (uint-tells w64, (uint-tells w64, (uint-tells w64, tt)))))))))) code.search-atom-function 𝓣 y
+    (𝓡 .run)) stayed-search-atom (goes-dropped 𝓤 H (𝓖 .A) W 4 (plain (λ _. (UInt w8))) yes (λ κs x f. refl), (goes-dropped 𝓤 H (𝓖 .A) W 4 (plain (λ _. (UInt w8))) yes (λ κs x f. refl), (goes-dropped 𝓤 H (𝓖 .A) W 4 (shrSliceOf (0 ∷ []) tt (plain (λ _. Node-T.the-row))) yes (λ κs x f. refl), (goes-gave-slice 𝓤 H (𝓖 .A) W 4 1 tt (plain (λ _. (UInt w8))), (goes-gave-slice 𝓤 H (𝓖 .A) W 4 2 tt (plain (λ _. (UInt w64))), (goes-dropped 𝓤 H (𝓖 .A) W 4 (shrSliceOf (3 ∷ []) tt (plain (λ _. (UInt w8)))) yes (λ κs x f. refl), (goes-dropped 𝓤 H (𝓖 .A) W 4 (plain (λ _. (UInt w64))) yes (λ κs x f. refl), (goes-dropped 𝓤 H (𝓖 .A) W 4 (plain (λ _. (UInt w64))) yes (λ κs x f. refl), (goes-dropped 𝓤 H (𝓖 .A) W 4 (plain (λ _. (UInt w64))) yes (λ κs x f. refl), tt)))))))))
+    (λ κs. (uint-vals w8, (uint-vals w8, (slice-vals, (slice-vals, (slice-vals, (slice-vals, (uint-vals w64, (uint-vals w64, (uint-vals w64, tt)))))))))) (λ κs. (uint-tells w8, (uint-tells w8, (shr-slice-tells (named 0) (κs .0) Node-T.the-row, (mut-slice-tells (named 1) (κs .1 .0) (UInt w8), (mut-slice-tells (named 2) (κs .1 .1 .0) (UInt w64), (shr-slice-tells (named 3) (κs .1 .1 .1 .0) (UInt w8), (uint-tells w64, (uint-tells w64, (uint-tells w64, tt)))))))))) code.search-atom-function 𝓣 y
     (λ are. needs 𝓤 _ _ (walk-search-atom 𝓤 H (𝓖 .A) W (𝓜 .mem) (𝓡 .run) (y .0 .0 .0) (y .0 .1 .0) (y .0 .0 .1 .0) (y .0 .1 .1 .0)
     (y .0 .0 .1 .1 .0) (y .0 .1 .1 .1 .0) (y .0 .0 .1 .1 .1 .0) (y .0 .1 .1 .1 .1 .0) (y .0 .3 .0) (y .0 .3 .1 .0) (y .0 .3 .1 .1 .0)
     (y .0 .3 .1 .1 .1 .0) (y .0 .3 .1 .1 .1 .1 .0) (y .0 .3 .1 .1 .1 .1 .1 .0) (y .0 .3 .1 .1 .1 .1 .1 .1 .0) (y .0 .3 .1 .1 .1 .1 .1 .1 .1 .0)
@@ -2658,8 +2649,8 @@ unfolding code.search-routine code.search-atom-routine code.search-byte-routine 
     (𝓡 .run))) 𝓜 𝓡 code.env #g-no-piece g-no-piece-def.routine code.calls-fit·no-piece (g-no-piece-thm.met 𝓤 H 𝓜 𝓖 𝓡))
     (cited 𝓤 H (Walk.Of 𝓤 H (𝓖 .A) g-find-atom.ended (g-find-atom.clauses 𝓤 H (𝓖 .A) (𝓜 .mem)
     (𝓡 .run))) 𝓜 𝓡 code.env #g-find-atom g-find-atom-def.routine code.calls-fit·find-atom (g-find-atom-thm.met 𝓤 H 𝓜 𝓖 𝓡))
-    (cited 𝓤 H (Walk.Of 𝓤 H (𝓖 .A) g-only-read.ended (g-only-read.clauses 𝓤 H (𝓖 .A) (𝓜 .mem)
-    (𝓡 .run))) 𝓜 𝓡 code.env #g-only-read g-only-read-def.routine code.calls-fit·only-read (g-only-read-thm.met 𝓤 H 𝓜 𝓖 𝓡))
+    (cited 𝓤 H (Walk.Of 𝓤 H (𝓖 .A) g-count-bytes.ended (g-count-bytes.clauses 𝓤 H (𝓖 .A) (𝓜 .mem)
+    (𝓡 .run))) 𝓜 𝓡 code.env #g-count-bytes g-count-bytes-def.routine code.calls-fit·count-bytes (g-count-bytes-thm.met 𝓤 H 𝓜 𝓖 𝓡))
     (cited 𝓤 H (Walk.Of 𝓤 H (𝓖 .A) g-pass-atom.ended (g-pass-atom.clauses 𝓤 H (𝓖 .A) (𝓜 .mem)
     (𝓡 .run))) 𝓜 𝓡 code.env #g-pass-atom g-pass-atom-def.routine code.calls-fit·pass-atom (g-pass-atom-thm.met 𝓤 H 𝓜 𝓖 𝓡))
     (λ z lt. smaller .0 (μ-search 𝓤 H (𝓖 .A) (𝓜 .mem) (𝓡 .run) z) (subst (λ (m : ℕ). μ-search 𝓤 H (𝓖 .A) (𝓜 .mem) (𝓡 .run) z < m) e lt) z refl)
@@ -2673,8 +2664,8 @@ unfolding code.search-routine code.search-atom-routine code.search-byte-routine 
     (λ t smaller. at-on 𝓤 H (𝓖 .A) f-search-byte.signature (f-search-byte.spec 𝓤 H (𝓖 .A) (𝓜 .mem) (𝓡 .run)) (WpFn 𝓤 H (𝓣 .C)
     (𝓣 .Λ) code.search-byte-function) (𝓣 .C #search-byte) (code.search-byte-unfolded 𝓤 H 𝓜 𝓡) (μ-search-byte 𝓤 H (𝓖 .A) (𝓜 .mem) (𝓡 .run)) t
     (λ y e. Walk.thick-at 𝓤 H (𝓖 .A) W f-search-byte.ended (f-search-byte.clauses 𝓤 H (𝓖 .A) (𝓜 .mem)
-    (𝓡 .run)) stayed-search-byte (goes-dropped 𝓤 H (𝓖 .A) W 4 (plain (λ _. (UInt w8))) yes (λ κs x f. refl), (goes-dropped 𝓤 H (𝓖 .A) W 4 (plain (λ _. (UInt w8))) yes (λ κs x f. refl), (goes-dropped 𝓤 H (𝓖 .A) W 4 (shrSliceOf (0 ∷ []) tt (plain (λ _. Node-T.the-row))) yes (λ κs x f. refl), (goes-gave-slice 𝓤 H (𝓖 .A) W 4 1 tt (plain (λ _. (UInt w8))), (goes-gave-slice 𝓤 H (𝓖 .A) W 4 2 tt (plain (λ _. (UInt w8))), (goes-dropped 𝓤 H (𝓖 .A) W 4 (shrSliceOf (3 ∷ []) tt (plain (λ _. (UInt w8)))) yes (λ κs x f. refl), (goes-dropped 𝓤 H (𝓖 .A) W 4 (plain (λ _. (UInt w64))) yes (λ κs x f. refl), (goes-dropped 𝓤 H (𝓖 .A) W 4 (plain (λ _. (UInt w64))) yes (λ κs x f. refl), (goes-dropped 𝓤 H (𝓖 .A) W 4 (plain (λ _. (UInt w64))) yes (λ κs x f. refl), tt)))))))))
-    (λ κs. (uint-vals w8, (uint-vals w8, (slice-vals, (slice-vals, (slice-vals, (slice-vals, (uint-vals w64, (uint-vals w64, (uint-vals w64, tt)))))))))) (λ κs. (uint-tells w8, (uint-tells w8, (shr-slice-tells (named 0) (κs .0) Node-T.the-row, (mut-slice-tells (named 1) (κs .1 .0) (UInt w8), (mut-slice-tells (named 2) (κs .1 .1 .0) (UInt w8), (shr-slice-tells (named 3) (κs .1 .1 .1 .0) (UInt w8), (uint-tells w64, (uint-tells w64, (uint-tells w64, tt)))))))))) code.search-byte-function 𝓣 y
+    (𝓡 .run)) stayed-search-byte (goes-dropped 𝓤 H (𝓖 .A) W 4 (plain (λ _. (UInt w8))) yes (λ κs x f. refl), (goes-dropped 𝓤 H (𝓖 .A) W 4 (plain (λ _. (UInt w8))) yes (λ κs x f. refl), (goes-dropped 𝓤 H (𝓖 .A) W 4 (shrSliceOf (0 ∷ []) tt (plain (λ _. Node-T.the-row))) yes (λ κs x f. refl), (goes-gave-slice 𝓤 H (𝓖 .A) W 4 1 tt (plain (λ _. (UInt w8))), (goes-gave-slice 𝓤 H (𝓖 .A) W 4 2 tt (plain (λ _. (UInt w64))), (goes-dropped 𝓤 H (𝓖 .A) W 4 (shrSliceOf (3 ∷ []) tt (plain (λ _. (UInt w8)))) yes (λ κs x f. refl), (goes-dropped 𝓤 H (𝓖 .A) W 4 (plain (λ _. (UInt w64))) yes (λ κs x f. refl), (goes-dropped 𝓤 H (𝓖 .A) W 4 (plain (λ _. (UInt w64))) yes (λ κs x f. refl), (goes-dropped 𝓤 H (𝓖 .A) W 4 (plain (λ _. (UInt w64))) yes (λ κs x f. refl), tt)))))))))
+    (λ κs. (uint-vals w8, (uint-vals w8, (slice-vals, (slice-vals, (slice-vals, (slice-vals, (uint-vals w64, (uint-vals w64, (uint-vals w64, tt)))))))))) (λ κs. (uint-tells w8, (uint-tells w8, (shr-slice-tells (named 0) (κs .0) Node-T.the-row, (mut-slice-tells (named 1) (κs .1 .0) (UInt w8), (mut-slice-tells (named 2) (κs .1 .1 .0) (UInt w64), (shr-slice-tells (named 3) (κs .1 .1 .1 .0) (UInt w8), (uint-tells w64, (uint-tells w64, (uint-tells w64, tt)))))))))) code.search-byte-function 𝓣 y
     (λ are. needs 𝓤 _ _ (walk-search-byte 𝓤 H (𝓖 .A) W (𝓜 .mem) (𝓡 .run) (y .0 .0 .0) (y .0 .1 .0) (y .0 .0 .1 .0) (y .0 .1 .1 .0)
     (y .0 .0 .1 .1 .0) (y .0 .1 .1 .1 .0) (y .0 .0 .1 .1 .1 .0) (y .0 .1 .1 .1 .1 .0) (y .0 .3 .0) (y .0 .3 .1 .0) (y .0 .3 .1 .1 .0)
     (y .0 .3 .1 .1 .1 .0) (y .0 .3 .1 .1 .1 .1 .0) (y .0 .3 .1 .1 .1 .1 .1 .0) (y .0 .3 .1 .1 .1 .1 .1 .1 .0) (y .0 .3 .1 .1 .1 .1 .1 .1 .1 .0)
@@ -2685,6 +2676,8 @@ unfolding code.search-routine code.search-atom-routine code.search-byte-routine 
     (𝓡 .run))) 𝓜 𝓡 code.env #g-child g-child-def.routine code.calls-nodes·child (g-child-thm.met 𝓤 H 𝓜 𝓖 𝓡))
     (cited 𝓤 H (Walk.Of 𝓤 H (𝓖 .A) g-no-piece.ended (g-no-piece.clauses 𝓤 H (𝓖 .A) (𝓜 .mem)
     (𝓡 .run))) 𝓜 𝓡 code.env #g-no-piece g-no-piece-def.routine code.calls-fit·no-piece (g-no-piece-thm.met 𝓤 H 𝓜 𝓖 𝓡))
+    (cited 𝓤 H (Walk.Of 𝓤 H (𝓖 .A) g-count-place.ended (g-count-place.clauses 𝓤 H (𝓖 .A) (𝓜 .mem)
+    (𝓡 .run))) 𝓜 𝓡 code.env #g-count-place g-count-place-def.routine code.calls-fit·count-place (g-count-place-thm.met 𝓤 H 𝓜 𝓖 𝓡))
     (λ z lt. smaller .0 (μ-search 𝓤 H (𝓖 .A) (𝓜 .mem) (𝓡 .run) z) (subst (λ (m : ℕ). μ-search 𝓤 H (𝓖 .A) (𝓜 .mem) (𝓡 .run) z < m) e lt) z refl)
     (λ z lt. smaller .1 .0 (μ-search-atom 𝓤 H (𝓖 .A) (𝓜 .mem) (𝓡 .run) z) (subst (λ (m : ℕ). μ-search-atom 𝓤 H (𝓖 .A) (𝓜 .mem)
     (𝓡 .run) z < m) e lt) z refl) (λ z lt. smaller .1 .1 .0 (μ-search-byte 𝓤 H (𝓖 .A) (𝓜 .mem) (𝓡 .run) z)
@@ -2696,8 +2689,8 @@ unfolding code.search-routine code.search-atom-routine code.search-byte-routine 
     (λ t smaller. at-on 𝓤 H (𝓖 .A) f-search-piece.signature (f-search-piece.spec 𝓤 H (𝓖 .A) (𝓜 .mem) (𝓡 .run)) (WpFn 𝓤 H (𝓣 .C)
     (𝓣 .Λ) code.search-piece-function) (𝓣 .C #search-piece) (code.search-piece-unfolded 𝓤 H 𝓜 𝓡) (μ-search-piece 𝓤 H (𝓖 .A) (𝓜 .mem) (𝓡 .run)) t
     (λ y e. Walk.thick-at 𝓤 H (𝓖 .A) W f-search-piece.ended (f-search-piece.clauses 𝓤 H (𝓖 .A) (𝓜 .mem)
-    (𝓡 .run)) stayed-search-piece (goes-dropped 𝓤 H (𝓖 .A) W 4 (plain (λ _. (UInt w8))) yes (λ κs x f. refl), (goes-dropped 𝓤 H (𝓖 .A) W 4 (plain (λ _. (UInt w8))) yes (λ κs x f. refl), (goes-dropped 𝓤 H (𝓖 .A) W 4 (shrSliceOf (0 ∷ []) tt (plain (λ _. Node-T.the-row))) yes (λ κs x f. refl), (goes-gave-slice 𝓤 H (𝓖 .A) W 4 1 tt (plain (λ _. (UInt w8))), (goes-gave-slice 𝓤 H (𝓖 .A) W 4 2 tt (plain (λ _. (UInt w8))), (goes-dropped 𝓤 H (𝓖 .A) W 4 (shrSliceOf (3 ∷ []) tt (plain (λ _. (UInt w8)))) yes (λ κs x f. refl), (goes-dropped 𝓤 H (𝓖 .A) W 4 (plain (λ _. (UInt w64))) yes (λ κs x f. refl), (goes-dropped 𝓤 H (𝓖 .A) W 4 (plain (λ _. (UInt w64))) yes (λ κs x f. refl), (goes-dropped 𝓤 H (𝓖 .A) W 4 (plain (λ _. (UInt w64))) yes (λ κs x f. refl), tt)))))))))
-    (λ κs. (uint-vals w8, (uint-vals w8, (slice-vals, (slice-vals, (slice-vals, (slice-vals, (uint-vals w64, (uint-vals w64, (uint-vals w64, tt)))))))))) (λ κs. (uint-tells w8, (uint-tells w8, (shr-slice-tells (named 0) (κs .0) Node-T.the-row, (mut-slice-tells (named 1) (κs .1 .0) (UInt w8), (mut-slice-tells (named 2) (κs .1 .1 .0) (UInt w8), (shr-slice-tells (named 3) (κs .1 .1 .1 .0) (UInt w8), (uint-tells w64, (uint-tells w64, (uint-tells w64, tt)))))))))) code.search-piece-function 𝓣 y
+    (𝓡 .run)) stayed-search-piece (goes-dropped 𝓤 H (𝓖 .A) W 4 (plain (λ _. (UInt w8))) yes (λ κs x f. refl), (goes-dropped 𝓤 H (𝓖 .A) W 4 (plain (λ _. (UInt w8))) yes (λ κs x f. refl), (goes-dropped 𝓤 H (𝓖 .A) W 4 (shrSliceOf (0 ∷ []) tt (plain (λ _. Node-T.the-row))) yes (λ κs x f. refl), (goes-gave-slice 𝓤 H (𝓖 .A) W 4 1 tt (plain (λ _. (UInt w8))), (goes-gave-slice 𝓤 H (𝓖 .A) W 4 2 tt (plain (λ _. (UInt w64))), (goes-dropped 𝓤 H (𝓖 .A) W 4 (shrSliceOf (3 ∷ []) tt (plain (λ _. (UInt w8)))) yes (λ κs x f. refl), (goes-dropped 𝓤 H (𝓖 .A) W 4 (plain (λ _. (UInt w64))) yes (λ κs x f. refl), (goes-dropped 𝓤 H (𝓖 .A) W 4 (plain (λ _. (UInt w64))) yes (λ κs x f. refl), (goes-dropped 𝓤 H (𝓖 .A) W 4 (plain (λ _. (UInt w64))) yes (λ κs x f. refl), tt)))))))))
+    (λ κs. (uint-vals w8, (uint-vals w8, (slice-vals, (slice-vals, (slice-vals, (slice-vals, (uint-vals w64, (uint-vals w64, (uint-vals w64, tt)))))))))) (λ κs. (uint-tells w8, (uint-tells w8, (shr-slice-tells (named 0) (κs .0) Node-T.the-row, (mut-slice-tells (named 1) (κs .1 .0) (UInt w8), (mut-slice-tells (named 2) (κs .1 .1 .0) (UInt w64), (shr-slice-tells (named 3) (κs .1 .1 .1 .0) (UInt w8), (uint-tells w64, (uint-tells w64, (uint-tells w64, tt)))))))))) code.search-piece-function 𝓣 y
     (λ are. needs 𝓤 _ _ (walk-search-piece 𝓤 H (𝓖 .A) W (𝓜 .mem) (𝓡 .run) (y .0 .0 .0) (y .0 .1 .0) (y .0 .0 .1 .0) (y .0 .1 .1 .0)
     (y .0 .0 .1 .1 .0) (y .0 .1 .1 .1 .0) (y .0 .0 .1 .1 .1 .0) (y .0 .1 .1 .1 .1 .0) (y .0 .3 .0) (y .0 .3 .1 .0) (y .0 .3 .1 .1 .0)
     (y .0 .3 .1 .1 .1 .0) (y .0 .3 .1 .1 .1 .1 .0) (y .0 .3 .1 .1 .1 .1 .1 .0) (y .0 .3 .1 .1 .1 .1 .1 .1 .0) (y .0 .3 .1 .1 .1 .1 .1 .1 .1 .0)
@@ -2723,19 +2716,17 @@ unfolding code.search-routine code.search-atom-routine code.search-byte-routine 
     (λ t smaller. at-on 𝓤 H (𝓖 .A) f-take-up.signature (f-take-up.spec 𝓤 H (𝓖 .A) (𝓜 .mem) (𝓡 .run)) (WpFn 𝓤 H (𝓣 .C) (𝓣 .Λ) code.take-up-function)
     (𝓣 .C #take-up) (code.take-up-unfolded 𝓤 H 𝓜 𝓡) (μ-take-up 𝓤 H (𝓖 .A) (𝓜 .mem) (𝓡 .run)) t
     (λ y e. Walk.thick-at 𝓤 H (𝓖 .A) W f-take-up.ended (f-take-up.clauses 𝓤 H (𝓖 .A) (𝓜 .mem)
-    (𝓡 .run)) stayed-take-up (goes-dropped 𝓤 H (𝓖 .A) W 4 (plain (λ _. (UInt w8))) yes (λ κs x f. refl), (goes-dropped 𝓤 H (𝓖 .A) W 4 (plain (λ _. (UInt w8))) yes (λ κs x f. refl), (goes-dropped 𝓤 H (𝓖 .A) W 4 (shrSliceOf (0 ∷ []) tt (plain (λ _. Node-T.the-row))) yes (λ κs x f. refl), (goes-gave-slice 𝓤 H (𝓖 .A) W 4 1 tt (plain (λ _. (UInt w8))), (goes-gave-slice 𝓤 H (𝓖 .A) W 4 2 tt (plain (λ _. (UInt w8))), (goes-dropped 𝓤 H (𝓖 .A) W 4 (shrSliceOf (3 ∷ []) tt (plain (λ _. (UInt w8)))) yes (λ κs x f. refl), (goes-dropped 𝓤 H (𝓖 .A) W 4 (plain (λ _. (UInt w64))) yes (λ κs x f. refl), (goes-dropped 𝓤 H (𝓖 .A) W 4 (plain (λ _. (UInt w64))) yes (λ κs x f. refl), (goes-dropped 𝓤 H (𝓖 .A) W 4 (plain (λ _. (UInt w64))) yes (λ κs x f. refl), tt)))))))))
-    (λ κs. (uint-vals w8, (uint-vals w8, (slice-vals, (slice-vals, (slice-vals, (slice-vals, (uint-vals w64, (uint-vals w64, (uint-vals w64, tt)))))))))) (λ κs. (uint-tells w8, (uint-tells w8, (shr-slice-tells (named 0) (κs .0) Node-T.the-row, (mut-slice-tells (named 1) (κs .1 .0) (UInt w8), (mut-slice-tells (named 2) (κs .1 .1 .0) (UInt w8), (shr-slice-tells (named 3) (κs .1 .1 .1 .0) (UInt w8), (uint-tells w64, (uint-tells w64, (uint-tells w64, tt)))))))))) code.take-up-function 𝓣 y
+    (𝓡 .run)) stayed-take-up (goes-dropped 𝓤 H (𝓖 .A) W 4 (plain (λ _. (UInt w8))) yes (λ κs x f. refl), (goes-dropped 𝓤 H (𝓖 .A) W 4 (plain (λ _. (UInt w8))) yes (λ κs x f. refl), (goes-dropped 𝓤 H (𝓖 .A) W 4 (shrSliceOf (0 ∷ []) tt (plain (λ _. Node-T.the-row))) yes (λ κs x f. refl), (goes-gave-slice 𝓤 H (𝓖 .A) W 4 1 tt (plain (λ _. (UInt w8))), (goes-gave-slice 𝓤 H (𝓖 .A) W 4 2 tt (plain (λ _. (UInt w64))), (goes-dropped 𝓤 H (𝓖 .A) W 4 (shrSliceOf (3 ∷ []) tt (plain (λ _. (UInt w8)))) yes (λ κs x f. refl), (goes-dropped 𝓤 H (𝓖 .A) W 4 (plain (λ _. (UInt w64))) yes (λ κs x f. refl), (goes-dropped 𝓤 H (𝓖 .A) W 4 (plain (λ _. (UInt w64))) yes (λ κs x f. refl), (goes-dropped 𝓤 H (𝓖 .A) W 4 (plain (λ _. (UInt w64))) yes (λ κs x f. refl), tt)))))))))
+    (λ κs. (uint-vals w8, (uint-vals w8, (slice-vals, (slice-vals, (slice-vals, (slice-vals, (uint-vals w64, (uint-vals w64, (uint-vals w64, tt)))))))))) (λ κs. (uint-tells w8, (uint-tells w8, (shr-slice-tells (named 0) (κs .0) Node-T.the-row, (mut-slice-tells (named 1) (κs .1 .0) (UInt w8), (mut-slice-tells (named 2) (κs .1 .1 .0) (UInt w64), (shr-slice-tells (named 3) (κs .1 .1 .1 .0) (UInt w8), (uint-tells w64, (uint-tells w64, (uint-tells w64, tt)))))))))) code.take-up-function 𝓣 y
     (λ are. needs 𝓤 _ _ (walk-take-up 𝓤 H (𝓖 .A) W (𝓜 .mem) (𝓡 .run) (y .0 .0 .0) (y .0 .1 .0) (y .0 .0 .1 .0) (y .0 .1 .1 .0) (y .0 .0 .1 .1 .0)
     (y .0 .1 .1 .1 .0) (y .0 .0 .1 .1 .1 .0) (y .0 .1 .1 .1 .1 .0) (y .0 .3 .0) (y .0 .3 .1 .0) (y .0 .3 .1 .1 .0) (y .0 .3 .1 .1 .1 .0)
     (y .0 .3 .1 .1 .1 .1 .0) (y .0 .3 .1 .1 .1 .1 .1 .0) (y .0 .3 .1 .1 .1 .1 .1 .1 .0) (y .0 .3 .1 .1 .1 .1 .1 .1 .1 .0)
-    (y .0 .3 .1 .1 .1 .1 .1 .1 .1 .1 .0) (𝓣 .C) (𝓣 .Λ) (fmOf 𝓤 H (W .laws) 𝓣)
-    (cited 𝓤 H (Walk.Of 𝓤 H (𝓖 .A) g-count-after.ended (g-count-after.clauses 𝓤 H (𝓖 .A) (𝓜 .mem)
-    (𝓡 .run))) 𝓜 𝓡 code.env #g-count-after g-count-after-def.routine code.calls-fit·count-after (g-count-after-thm.met 𝓤 H 𝓜 𝓖 𝓡))
-    (λ z lt. smaller .0 (μ-search 𝓤 H (𝓖 .A) (𝓜 .mem) (𝓡 .run) z) (subst (λ (m : ℕ). μ-search 𝓤 H (𝓖 .A) (𝓜 .mem) (𝓡 .run) z < m) e lt) z refl)
-    (λ z lt. smaller .1 .0 (μ-search-atom 𝓤 H (𝓖 .A) (𝓜 .mem) (𝓡 .run) z) (subst (λ (m : ℕ). μ-search-atom 𝓤 H (𝓖 .A) (𝓜 .mem)
-    (𝓡 .run) z < m) e lt) z refl) (λ z lt. smaller .1 .1 .0 (μ-search-byte 𝓤 H (𝓖 .A) (𝓜 .mem) (𝓡 .run) z)
-    (subst (λ (m : ℕ). μ-search-byte 𝓤 H (𝓖 .A) (𝓜 .mem) (𝓡 .run) z < m) e lt) z refl) (λ z lt. smaller .1 .1 .1 .0 (μ-search-piece 𝓤 H (𝓖 .A)
-    (𝓜 .mem) (𝓡 .run) z) (subst (λ (m : ℕ). μ-search-piece 𝓤 H (𝓖 .A) (𝓜 .mem) (𝓡 .run) z < m) e lt) z refl)
-    (λ z lt. smaller .1 .1 .1 .1 (μ-take-up 𝓤 H (𝓖 .A) (𝓜 .mem) (𝓡 .run) z) (subst (λ (m : ℕ). μ-take-up 𝓤 H (𝓖 .A) (𝓜 .mem)
-    (𝓡 .run) z < m) e lt) z refl) (are .0 .1) (are .1 .0 .1) (are .1 .1 .0) (are .1 .1 .1 .0) (are .1 .1 .1 .1 .0) (are .1 .1 .1 .1 .1 .0)
-    (are .1 .1 .1 .1 .1 .1 .0 .1) (are .1 .1 .1 .1 .1 .1 .1 .0 .1) (are .1 .1 .1 .1 .1 .1 .1 .1 .0 .1)))))
+    (y .0 .3 .1 .1 .1 .1 .1 .1 .1 .1 .0) (𝓣 .C) (𝓣 .Λ) (fmOf 𝓤 H (W .laws) 𝓣) (λ z lt. smaller .0 (μ-search 𝓤 H (𝓖 .A) (𝓜 .mem) (𝓡 .run) z)
+    (subst (λ (m : ℕ). μ-search 𝓤 H (𝓖 .A) (𝓜 .mem) (𝓡 .run) z < m) e lt) z refl) (λ z lt. smaller .1 .0 (μ-search-atom 𝓤 H (𝓖 .A) (𝓜 .mem)
+    (𝓡 .run) z) (subst (λ (m : ℕ). μ-search-atom 𝓤 H (𝓖 .A) (𝓜 .mem) (𝓡 .run) z < m) e lt) z refl)
+    (λ z lt. smaller .1 .1 .0 (μ-search-byte 𝓤 H (𝓖 .A) (𝓜 .mem) (𝓡 .run) z) (subst (λ (m : ℕ). μ-search-byte 𝓤 H (𝓖 .A) (𝓜 .mem)
+    (𝓡 .run) z < m) e lt) z refl) (λ z lt. smaller .1 .1 .1 .0 (μ-search-piece 𝓤 H (𝓖 .A) (𝓜 .mem) (𝓡 .run) z)
+    (subst (λ (m : ℕ). μ-search-piece 𝓤 H (𝓖 .A) (𝓜 .mem) (𝓡 .run) z < m) e lt) z refl) (λ z lt. smaller .1 .1 .1 .1 (μ-take-up 𝓤 H (𝓖 .A)
+    (𝓜 .mem) (𝓡 .run) z) (subst (λ (m : ℕ). μ-take-up 𝓤 H (𝓖 .A) (𝓜 .mem) (𝓡 .run) z < m) e lt) z refl) (are .0 .1) (are .1 .0 .1)
+    (are .1 .1 .0) (are .1 .1 .1 .0) (are .1 .1 .1 .1 .0) (are .1 .1 .1 .1 .1 .0) (are .1 .1 .1 .1 .1 .1 .0 .1) (are .1 .1 .1 .1 .1 .1 .1 .0 .1)
+    (are .1 .1 .1 .1 .1 .1 .1 .1 .0 .1)))))
