@@ -11,7 +11,7 @@ use Rattle.model.specs.declared.Marks.{Marks}
 use Rattle.model.specs.Text.{Bytes}
 use Rattle.model.specs.Reading.{chosen}
 use Rattle.model.specs.Parts.{Elem, lit, hole, stop, ReadingPart, byte, piece, elems, text, elements, pieces}
-use Rattle.model.specs.Places.{Found, Place, isIn, Tried, idle, orTry, takeUp, afterLook, bytesOfLook, tryPast, tryAtom, tryByte, tryPiece, tryPlace, fitting, placesTaken, bytesRead}
+use Rattle.model.specs.Places.{Found, Place, isIn, Tried, idle, orTry, takeUp, afterLook, tryPast, tryAtom, tryByte, tryPiece, tryPlace, fitting, placesTaken, bytesRead}
 use Rattle.model.specs.Results.{nine}
 use Rattle.model.proofs.Choices.{false-not-true}
 use Rattle.model.proofs.Parts.{elems-same}
@@ -28,7 +28,6 @@ use Rattle.nodes.proofs.Templates.{walk-pre, walk-there}
 use Rattle.fit.specs.Outcome.{piecesIn, placesIn, bytesIn, Told, Says, HoldsDead, Outcomes, sizeIn, placeTried, SearchedIn}
 use Rattle.fit.specs.Chosen.{TreeOf, Fits, Chosen, Chooses, noChoice, choiceOf, Makes}
 use Rattle.fit.specs.declared.Choice.{Choice}
-use Rattle.fit.specs.declared.Outcome.{Outcome}
 use Rattle.fit.proofs.Steps.{told-none, told-some}
 use Rattle.fit.proofs.Pieces.{zero-at, lie-within, few-pieces, Stand, stand}
 use Rattle.fit.proofs.Few.{taken-fits, read-fits}
@@ -53,8 +52,8 @@ same-none nothing = refl
 same-some : {f : Found} {o : Option Found} → Same (some f) o → (g : Found) × (o ≡ some g) × (g .parts ≡ f .parts)
 same-some (something q r i j) = (record { rest = q; parts = r; node = j }, refl, refl)
 
-module _ (m : Marks) (rows : List Node) (tree : Tree rows) (some-row : 0 < length rows) (line : Bytes) (o : Outcome) (dead dead′ : Bytes) (ns′ : List ℕ)
-    (done : Outcomes rows line 0 0 (suc (sizeIn rows line 0 0)) (λ n. placeTried m rows line 0 0 n) (record { dead = dead; dead′ = dead′; notes = replicate 20 0; notes′ = ns′ }) o)
+module _ (m : Marks) (rows : List Node) (tree : Tree rows) (some-row : 0 < length rows) (line : Bytes) (o : ℕ) (dead dead′ : Bytes) (ns′ : List ℕ)
+    (done : Outcomes rows line 0 0 (suc (sizeIn rows line 0 0)) (λ n. placeTried m rows line 0 0 n) (record { dead = dead; dead′ = dead′; notes = replicate 21 0; notes′ = ns′ }) o)
     (clear : HoldsDead (length rows) (suc (length line)) dead []) where
   -- fuel that is enough
   abbrev fuel : ℕ
@@ -68,8 +67,8 @@ module _ (m : Marks) (rows : List Node) (tree : Tree rows) (some-row : 0 < lengt
   abbrev ps′ : List ℕ
   ps′ = piecesIn ns′
 
-  -- the outcome says what it finds
-  told : Told (holes rows 0) 0 (result .found) o (replicate 18 0) ps′
+  -- the answer and the notes say what it finds
+  told : Told (holes rows 0) 0 (result .found) o (replicate 21 0) ns′
   told = done .says fuel (omega arith) [] clear .0 .told
 
   module _ (ts : List Bytes) (of : TreeOf m rows ts) where
@@ -90,22 +89,22 @@ module _ (m : Marks) (rows : List Node) (tree : Tree rows) (some-row : 0 < lengt
     same = tree-fitting m rows tree ts of some-row line fuel (omega arith) .2
 
     -- where nothing is found, the line is no call
-    none-chosen : o .node ≡ 0 → chosen m ts line ≡ none
+    none-chosen : o ≡ 0 → chosen m ts line ≡ none
     none-chosen z =
         finds-none m ts (of .distinct) (of .differ) line
-        (same-none (subst (λ (x : Option Found). Same x (fitting m ts line .found)) (told-none (holes rows 0) 0 (result .found) o (replicate 18 0) ps′ told z) same))
+        (same-none (subst (λ (x : Option Found). Same x (fitting m ts line .found)) (told-none (holes rows 0) 0 (result .found) o (replicate 21 0) ns′ told z) same))
 
-  module _ (z : ¬ (o .node ≡ 0)) where
+  module _ (z : ¬ (o ≡ 0)) where
     -- what is found, and that it is a reading
-    reading : (f : Found) × (result .found ≡ some f) × Told (holes rows 0) 0 (some f) o (replicate 18 0) ps′ × Is m (kid rows) (holey rows) (kid-lit rows tree) 0 line f
+    reading : (f : Found) × (result .found ≡ some f) × Told (holes rows 0) 0 (some f) o (replicate 21 0) ns′ × Is m (kid rows) (holey rows) (kid-lit rows tree) 0 line f
     unfolding isIn
     reading =
-        let (f, e, t) = told-some (holes rows 0) 0 (result .found) o (replicate 18 0) ps′ told z in
+        let (f, e, t) = told-some (holes rows 0) 0 (result .found) o (replicate 21 0) ns′ told z in
         let u = unmarked m (kid rows) (holey rows) (height rows) (kid-falls rows tree) line fuel fuel 0 0 [] (omega arith) (omega arith) (λ i p w. false-not-true w) in
         (f, e, t, sound m (kid rows) (holey rows) (kid-lit rows tree) fuel 0 line f (sym u ∙ e))
 
     -- it is the chosen one
-    some-chosen : (k : ℕ) → k ≡ templateOf rows (o .node) → (ts : List Bytes) → TreeOf m rows ts → Chosen m ts line (choiceOf ns′ k)
+    some-chosen : (k : ℕ) → k ≡ templateOf rows (o) → (ts : List Bytes) → TreeOf m rows ts → Chosen m ts line (choiceOf ns′ k)
     some-chosen k u ts of =
         let (f, e, (p, n, r, s), (j, w, h, x)) = reading in
         let (g, found, parts) = same-some (subst (λ (x : Option Found). Same x (fitting m ts line .found)) e (same ts of)) in
@@ -154,7 +153,7 @@ module _ (m : Marks) (kid : ℕ → Elem → ℕ) (holey : ℕ → Bool) where
       ∙ atom-by (tryPlace m kid holey n i) (holey i) p s ds))))))
 
 -- what is searched by the brackets is searched by the marks
-pub searched-by-brackets : (m : Marks) {row : List Node} {line : Bytes} {node at : ℕ} {dead dead′ : Bytes} {notes notes′ : List ℕ} {o : Outcome}
+pub searched-by-brackets : (m : Marks) {row : List Node} {line : Bytes} {node at : ℕ} {dead dead′ : Bytes} {notes notes′ : List ℕ} {o : ℕ}
     → SearchedIn (brackets (m .left) (m .right)) row line node at dead dead′ notes notes′ o → SearchedIn m row line node at dead dead′ notes notes′ o
 searched-by-brackets m {row} {line} {node} {at} {dead} {dead′} {notes} {notes′} {o} done = record {
   comes = record {
@@ -173,20 +172,20 @@ searched-by-brackets m {row} {line} {node} {at} {dead} {dead′} {notes} {notes�
 
 -- ---- in a row at whose front the tree stands
 
-module _ {m : Marks} {row : List Node} {line : Bytes} {o : Outcome} {dead dead′ : Bytes} {notes notes′ : List ℕ} (done : SearchedIn m row line 0 0 dead dead′ notes notes′ o) where
+module _ {m : Marks} {row : List Node} {line : Bytes} {o : ℕ} {dead dead′ : Bytes} {notes notes′ : List ℕ} (done : SearchedIn m row line 0 0 dead dead′ notes notes′ o) where
   -- what is found is a node of the tree
-  found-below : {count : ℕ} → Stands row count → 0 < count → o .node < count
+  found-below : {count : ℕ} → Stands row count → 0 < count → o < count
   found-below {count} s root = omega (arith, done .comes .each count s root .there, front-long s)
 
   module _ {count : ℕ} {whole : Bytes} {dead0 : Bytes} {end : ℕ} (f : Fits row count dead0 whole end) where
     -- and so one of the row's
-    pub found-there : o .node < length row
+    pub found-there : o < length row
     found-there = omega (arith, found-below (f .stands) (f .root), f .stands .within)
 
-    module _ (z : notes ≡ replicate 20 0) (clear : HoldsDead (length (take count row)) (suc (length line)) dead []) (short : length line ≤ 200) where
+    module _ (z : notes ≡ replicate 21 0) (clear : HoldsDead (length (take count row)) (suc (length line)) dead []) (short : length line ≤ 200) where
       -- the search of the tree, from no notes on
       from-none : Outcomes (take count row) line 0 0 (suc (sizeIn (take count row) line 0 0)) (λ n. placeTried m (take count row) line 0 0 n)
-          (record { dead = dead; dead′ = dead′; notes = replicate 20 0; notes′ = notes′ }) o
+          (record { dead = dead; dead′ = dead′; notes = replicate 21 0; notes′ = notes′ }) o
       from-none = subst (λ (ns : List ℕ). Outcomes (take count row) line 0 0 (suc (sizeIn (take count row) line 0 0)) (λ n. placeTried m (take count row) line 0 0 n)
           (record { dead = dead; dead′ = dead′; notes = ns; notes′ = notes′ }) o) z (done .comes .each count (f .stands) (f .root))
 
@@ -199,7 +198,7 @@ module _ {m : Marks} {row : List Node} {line : Bytes} {o : Outcome} {dead dead�
       few-nodes = omega (arith, front-long (f .stands), f .few)
 
       -- where nothing is found, the line is no call
-      pub no-call : {c : Choice} → o .node ≡ 0 → Makes (noChoice notes′) c → Chooses m row count line c
+      pub no-call : {c : Choice} → o ≡ 0 → Makes (noChoice notes′) c → Chooses m row count line c
       unfolding nine
       no-call {c} n q = record {
         no-call = λ _ ts t. none-chosen m (take count row) (f .stands .tree) some-node line o dead dead′ notes′ from-none clear ts (t .of) n;
@@ -211,9 +210,9 @@ module _ {m : Marks} {row : List Node} {line : Bytes} {o : Outcome} {dead dead�
       }
 
       -- where something is found, the line is a call
-      pub is-call : {n : Node} {k : ℕ} {c : Choice} → ¬ (o .node ≡ 0) → n ≡ getD row (o .node) noNode → k ≡ n .template → Makes (choiceOf notes′ k) c → Chooses m row count line c
+      pub is-call : {n : Node} {k : ℕ} {c : Choice} → ¬ (o ≡ 0) → n ≡ getD row (o) noNode → k ≡ n .template → Makes (choiceOf notes′ k) c → Chooses m row count line c
       is-call {n} {k} {c} w x y q =
-          let is : k ≡ templateOf (take count row) (o .node) = y ∙ ap (λ (n : Node). n .template) (x ∙ sym (front-node row count (o .node) (found-below (f .stands) (f .root)))) in
+          let is : k ≡ templateOf (take count row) (o) = y ∙ ap (λ (n : Node). n .template) (x ∙ sym (front-node row count (o) (found-below (f .stands) (f .root)))) in
           record {
             no-call = λ e. false-not-true (sym e ∙ ap (λ (c : Choice). c .found) (q .is));
             blank = λ e. false-not-true (sym e ∙ ap (λ (c : Choice). c .found) (q .is));

@@ -8,7 +8,6 @@ use Prim.Native.Nat.{ℕ, zero, suc, _+_, _-_, _*_, _/_, _≤_, _<_, _^_}
 use native.Mathlib.Nat.{mul-le-mul-right, suc-mul}
 use native.Mathlib.Omega.{arith}
 use native.Mathlib.Numerals.{add-one}
-use borrow.Author.Tests.{eq-eqb, ne-eqb}
 use lib.Dec.{eqb}
 use lib.ListN.{length, getD, take, drop, length-append, length-take, length-drop, drop-of-length-le}
 use lib.Seq.{drop-cons, length-take-le}
@@ -23,11 +22,10 @@ use Rattle.model.proofs.Search.{rest-end, rest-byte, rest-piece}
 use Rattle.atom.specs.declared.Scanned.{Scanned}
 use Rattle.atom.specs.Atoms.{AtomAt}
 use Rattle.nodes.specs.declared.Node.{Node}
-use Rattle.nodes.specs.Rows.{noNode, elem, firstOf, countOf, code, kid, holey, height, holes, Tree, ChildFor, Stands}
-use Rattle.nodes.proofs.Rows.{kid-child, kid-falls, kid-lit, holes-lit, holes-hole, front-node, front-long, front-within, front-child}
-use Rattle.fit.specs.Outcome.{blank, passAtom, elementOf, elementAt, piecesIn, Counted, Counts, withPieceAt, withPieces, StoresPiece, startsIn, lensIn, Told, Says, HoldsDead}
+use Rattle.nodes.specs.Rows.{noNode, firstOf, countOf, code, kid, holey, height, holes, Tree, ChildFor, Stands}
+use Rattle.nodes.proofs.Rows.{kid-falls, kid-lit, holes-lit, holes-hole, front-node, front-long, front-within, front-child}
+use Rattle.fit.specs.Outcome.{elementOf, elementAt, piecesIn, restIn, Counted, Counts, PassesAtom, EndsTemplate, withPieceAt, withPieces, StoresPiece, startsIn, lensIn, Told, Says, HoldsDead}
 use Rattle.fit.specs.Outcome.{Lent, Outcomes, sizeIn, placeTried, byteStep, pieceStep, atomStep, Asks, Comes, SearchedIn, ByteSearched, PieceSearched, AtomSearched}
-use Rattle.fit.specs.declared.Outcome.{Outcome}
 
 -- ---- the element that leads on
 
@@ -50,53 +48,69 @@ element-end line end at le =
 pub atom-front : (m : Marks) (line : Bytes) (end at : ℕ) (e : Scanned) → AtomAt m (take (end - 0) line) at e → AtomAt m (take end line) at e
 atom-front m line end at e h = let z : end - 0 ≡ end = omega arith in subst (λ (n : ℕ). AtomAt m (take n line) at e) z h
 
--- ---- what an outcome says
+-- ---- what an answer says
 
--- with node 0, that nothing is found
-pub told-none : (k at : ℕ) (x : Option Found) (o : Outcome) (ps ps′ : List ℕ) → Told k at x o ps ps′ → o .node ≡ 0 → x ≡ none
-told-none k at none o ps ps′ h e = refl
-told-none k at (some f) o ps ps′ h e = absurd (omega (arith, h .0, e))
+-- with 0, that nothing is found
+pub told-none : (k at : ℕ) (x : Option Found) (r : ℕ) (ns ns′ : List ℕ) → Told k at x r ns ns′ → r ≡ 0 → x ≡ none
+told-none k at none r ns ns′ h e = refl
+told-none k at (some f) r ns ns′ h e = absurd (omega (arith, h .0, e))
 
 -- with any other, what is found
-pub told-some : (k at : ℕ) (x : Option Found) (o : Outcome) (ps ps′ : List ℕ) → Told k at x o ps ps′ → ¬ (o .node ≡ 0) → (f : Found) × (x ≡ some f) × Told k at (some f) o ps ps′
-told-some k at none o ps ps′ h e = absurd (e (h .0))
-told-some k at (some f) o ps ps′ h e = (f, refl, h)
+pub told-some : (k at : ℕ) (x : Option Found) (r : ℕ) (ns ns′ : List ℕ) → Told k at x r ns ns′ → ¬ (r ≡ 0) → (f : Found) × (x ≡ some f) × Told k at (some f) r ns ns′
+told-some k at none r ns ns′ h e = absurd (e (h .0))
+told-some k at (some f) r ns ns′ h e = (f, refl, h)
 
--- a byte in front leaves the outcome as it is
-told-byte : (k k′ at b : ℕ) (x : Option Found) (o : Outcome) (ps ps′ : List ℕ) → k′ ≡ k → ((f : Found) → x ≡ some f → f .rest ≡ []) → Told k′ (at + 1) x o ps ps′ → Told k at (withByte b x) o ps ps′
+-- the same of notes with the same pieces before
+pub told-stay : (k at : ℕ) (x : Option Found) (r : ℕ) (ns ns1 ns2 : List ℕ) → piecesIn ns1 ≡ piecesIn ns → Told k at x r ns1 ns2 → Told k at x r ns ns2
+told-stay k at none r ns ns1 ns2 q (z, h) = (z, h ∙ q)
+told-stay k at (some f) r ns ns1 ns2 q (p, e, u, s) = (p, e, u, s ∙ ap (withPieces k (startsIn (at + length (f .rest)) (f .parts)) (lensIn (f .parts))) q)
+
+-- so counts that come before change nothing
+pub told-counted : {p b : ℕ} {ns ns1 : List ℕ} (k at : ℕ) (x : Option Found) (r : ℕ) (ns2 : List ℕ) → Counts p b ns ns1 → Told k at x r ns1 ns2 → Told k at x r ns ns2
+told-counted {ns = ns} {ns1 = ns1} k at x r ns2 q h = told-stay k at x r ns ns1 ns2 (q .stay) h
+
+-- a byte in front leaves the answer and the notes as they are
+told-byte : (k k′ at b : ℕ) (x : Option Found) (r : ℕ) (ns ns′ : List ℕ) → k′ ≡ k → ((f : Found) → x ≡ some f → f .rest ≡ []) → Told k′ (at + 1) x r ns ns′ → Told k at (withByte b x) r ns ns′
 unfolding startsIn
-told-byte k k′ at b none o ps ps′ y z h = h
-told-byte k k′ at b (some f) o ps ps′ y z (p, e, r, s) =
+told-byte k k′ at b none r ns ns′ y z h = h
+told-byte k k′ at b (some f) r ns ns′ y z (p, e, u, s) =
     let q : length (f .rest) ≡ 0 = ap length (z f refl) in
     let x : at + 1 + length (f .rest) ≡ at + 0 + 1 = omega (arith, q) in
-    (p, e, r ∙ q, s ∙ ap₂ (λ (i j : ℕ). withPieces i (startsIn j (f .parts)) (lensIn (f .parts)) ps) y x)
+    (p, e, u ∙ q, s ∙ ap₂ (λ (i j : ℕ). withPieces i (startsIn j (f .parts)) (lensIn (f .parts)) (piecesIn ns)) y x)
 
 -- where a piece starts, it is stored
-told-piece : (k k′ at : ℕ) (x : Option Found) (o r : Outcome) (ps ns1 ns2 : List ℕ) → k′ ≡ k + 1 → ¬ (o .node ≡ 0) → StoresPiece k at o ns1 ns2 r → Told k′ at x o ps (piecesIn ns1)
-    → Told k at (pieceFound x) r ps (piecesIn ns2)
+told-piece : (k k′ at : ℕ) (x : Option Found) (r : ℕ) (ns ns1 ns2 : List ℕ) → k′ ≡ k + 1 → ¬ (r ≡ 0) → StoresPiece k at ns1 ns2 → Told k′ at x r ns ns1 → Told k at (pieceFound x) r ns ns2
 unfolding startsIn withPieces
-told-piece k k′ at none o r ps ns1 ns2 x z q h = absurd (z (h .0))
-told-piece k k′ at (some f) o r ps ns1 ns2 x z q (p, e, u, s) =
-    let y : at + 0 ≡ at = omega arith in
-    rw (q .is) (
+told-piece k k′ at none r ns ns1 ns2 x z q h = absurd (z (h .0))
+told-piece k k′ at (some f) r ns ns1 ns2 x z q (p, e, u, s) =
+    let y : at + 0 ≡ at = omega arith in (
       p,
       e,
-      refl,
+      q .closed,
       rw y (q .stored ∙ ap₂ (λ (l : ℕ) (w : List ℕ). withPieceAt k at l w) u
-          (s ∙ ap (λ (i : ℕ). withPieces i (startsIn (at + length (f .rest)) (f .parts)) (lensIn (f .parts)) ps) x)),
+          (s ∙ ap (λ (i : ℕ). withPieces i (startsIn (at + length (f .rest)) (f .parts)) (lensIn (f .parts)) (piecesIn ns)) x)),
     )
 
 -- where none is found, none is stored
-told-no-piece : (k k′ at : ℕ) (x : Option Found) (o : Outcome) (ps ps1 : List ℕ) → o .node ≡ 0 → Told k′ at x o ps ps1 → Told k at (pieceFound x) o ps ps1
-told-no-piece k k′ at none o ps ps1 z h = h
-told-no-piece k k′ at (some f) o ps ps1 z h = absurd (omega (arith, h .0, z))
+told-no-piece : (k k′ at : ℕ) (x : Option Found) (r : ℕ) (ns ns1 : List ℕ) → r ≡ 0 → Told k′ at x r ns ns1 → Told k at (pieceFound x) r ns ns1
+told-no-piece k k′ at none r ns ns1 z h = h
+told-no-piece k k′ at (some f) r ns ns1 z h = absurd (omega (arith, h .0, z))
 
 -- an atom makes the open piece longer
-told-atom : (k at e : ℕ) (a : Bytes) (x : Option Found) (o : Outcome) (ps ps′ : List ℕ) → at + length a ≡ e → Told k e x o ps ps′ → Told k at (withAtom a x) (passAtom (e - at) o) ps ps′
-told-atom k at e a none o ps ps′ h t = t
-told-atom k at e a (some f) o ps ps′ h (p, n, r, s) =
-    let y : e + length (f .rest) ≡ at + length (a ++ f .rest) = omega (arith, length-append a (f .rest)) in
-    (p, n, omega (arith, r, length-append a (f .rest)), s ∙ ap (λ (x : ℕ). withPieces k (startsIn x (f .parts)) (lensIn (f .parts)) ps) y)
+told-atom : (k at e : ℕ) (a : Bytes) (x : Option Found) (r : ℕ) (ns ns1 ns2 : List ℕ) → at + length a ≡ e → ¬ (r ≡ 0) → PassesAtom (e - at) ns1 ns2 → Told k e x r ns ns1 → Told k at (withAtom a x) r ns ns2
+told-atom k at e a none r ns ns1 ns2 h z q t = absurd (z (t .0))
+told-atom k at e a (some f) r ns ns1 ns2 h z q (p, n, u, s) =
+    let y : e + length (f .rest) ≡ at + length (a ++ f .rest) = omega (arith, length-append a (f .rest)) in (
+      p,
+      n,
+      omega (arith, q .longer, u, length-append a (f .rest)),
+      q .counts .stay ∙ s ∙ ap (λ (x : ℕ). withPieces k (startsIn x (f .parts)) (lensIn (f .parts)) (piecesIn ns)) y,
+    )
+
+-- where nothing is found past it, nothing is found
+told-no-atom : (k at e : ℕ) (a : Bytes) (x : Option Found) (r : ℕ) (ns ns1 : List ℕ) → r ≡ 0 → Told k e x r ns ns1 → Told k at (withAtom a x) r ns ns1
+told-no-atom k at e a none r ns ns1 z h = h
+told-no-atom k at e a (some f) r ns ns1 z h = absurd (omega (arith, h .0, z))
 
 -- a node that is not 0 is one more than some
 pub suc-of : (c : ℕ) → ¬ (c ≡ 0) → (j : ℕ) × (c ≡ suc j)
@@ -182,7 +196,7 @@ elsewhere a dead1 notes1 node′ at′ u v th lo = record {
   few = a .few;
   short = a .short;
   room = omega (arith, a .room, u);
-  twenty = v ∙ a .twenty;
+  all-notes = v ∙ a .all-notes;
 }
 
 module _ {row : List Node} {dead : Bytes} {notes : List ℕ} {line : Bytes} {end node at : ℕ} (a : Asks row dead notes line end node at) where
@@ -237,9 +251,9 @@ module _ {row : List Node} {dead : Bytes} {notes : List ℕ} {line : Bytes} {end
         let u = holes-hole rows (a .stands .tree) node j (sym (child-is (a .stands) (a .there) h hole w) ∙ v) in
         omega (arith, u, a .stands .tree .nine (suc j), y, ap (λ (n : Node). n .holes) (x ∙ sym (front-node row (a .made) node (a .there))))
 
-    pub piece-fits : {m : Marks} {n : Node} {k : ℕ} {dead1 : Bytes} {notes1 : List ℕ} {o : Outcome} → e ≡ 1 → ¬ (c ≡ 0) → SearchedIn m row (take end line) c at dead dead1 notes notes1 o
-        → length notes1 ≡ length notes → n ≡ getD row node noNode → k ≡ n .holes → (k < 9) × (length notes1 ≡ 20)
-    piece-fits w z g l x y = (below-nine w z x y, l ∙ a .twenty)
+    pub piece-fits : {m : Marks} {n : Node} {k : ℕ} {dead1 : Bytes} {notes1 : List ℕ} {r : ℕ} → e ≡ 1 → ¬ (c ≡ 0) → SearchedIn m row (take end line) c at dead dead1 notes notes1 r
+        → length notes1 ≡ length notes → n ≡ getD row node noNode → k ≡ n .holes → (k < 9) × (length notes1 ≡ 21)
+    piece-fits w z g l x y = (below-nine w z x y, l ∙ a .all-notes)
 
   module _ {m : Marks} {e : Scanned} (h : AtomAt m (take end line) at e) (z : ¬ (e .end ≡ 0)) where
     -- the search can go on past an atom
@@ -259,8 +273,9 @@ module _ {row : List Node} {dead : Bytes} {notes : List ℕ} {line : Bytes} {end
     atom-less = omega (arith, atom-ahead, h .within, line-long)
 
     -- the piece stays within the line, so its length fits
-    pub atom-fits : {o : Outcome} {dead′ : Bytes} {notes1 notes′ : List ℕ} → SearchedIn m row (take end line) node (e .end) dead dead′ notes1 notes′ o → o .rest + (e .end - at) < 2 ^ 64
-    atom-fits g = omega (arith, g .comes .each (a .made) (a .stands) (a .there) .short, atom-ahead, h .within, line-long, a .short)
+    pub atom-fits : {r : ℕ} {dead′ : Bytes} {notes1 notes′ : List ℕ} → SearchedIn m row (take end line) node (e .end) dead dead′ notes1 notes′ r → ¬ (r ≡ 0) → length notes′ ≡ length notes1
+        → length notes1 ≡ length notes → (length notes′ ≡ 21) × (restIn notes′ + (e .end - at) < 2 ^ 64)
+    atom-fits g f u v = (u ∙ v ∙ a .all-notes, omega (arith, g .comes .each (a .made) (a .stands) (a .there) .short f, atom-ahead, h .within, line-long, a .short))
 
 -- ---- counts
 
@@ -275,16 +290,23 @@ counted-more k n u v x y = record {
   more-bytes = omega (arith, v, x .more-bytes, y .more-bytes);
 }
 
+-- bytes are read before, and nothing is counted after
+counted-between : {k p b : ℕ} {ns ns1 ns2 ns3 : List ℕ} → Counted 0 k ns ns1 → Counted p b ns1 ns2 → Counted 0 0 ns2 ns3 → Counted p (k + b) ns ns3
+counted-between x y z = record {
+  more-places = omega (arith, x .more-places, y .more-places, z .more-places);
+  more-bytes = omega (arith, x .more-bytes, y .more-bytes, z .more-bytes);
+}
+
 -- ---- steps that take up nothing
 
 -- a step that takes up no place and reads nothing leaves the rows as they are
-pub idle-comes : {row : List Node} {line : Bytes} {node at : ℕ} {fuel : List Node → ℕ} {step : List Node → ℕ → List Place → Tried} {dead : Bytes} {notes : List ℕ} {o : Outcome}
+pub idle-comes : {row : List Node} {line : Bytes} {node at : ℕ} {fuel : List Node → ℕ} {step : List Node → ℕ → List Place → Tried} {dead : Bytes} {notes : List ℕ} {r : ℕ}
     → ((made : ℕ) → Stands row made → node < made → (n : ℕ) (ds : List Place) → HoldsDead (length (take made row)) (suc (length line)) dead ds → fuel (take made row) ≤ n → step (take made row) n ds ≡ idle ds)
-    → o ≡ blank 0 → Comes row line node at fuel step (record { dead = dead; dead′ = dead; notes = notes; notes′ = notes }) o
+    → r ≡ 0 → Comes row line node at fuel step (record { dead = dead; dead′ = dead; notes = notes; notes′ = notes }) r
 idle-comes {notes = notes} h e = rw e record {
   each = λ made s lt. record {
     says = λ n l ds k. rw (h made s lt n ds k l) (record { told = (refl, refl); counted = counted-none notes }, k);
-    short = omega arith;
+    short = λ f. absurd (f refl);
     there = omega (arith, lt, front-long s);
   };
 }
@@ -296,14 +318,14 @@ no-child kid F i p (b ∷ s) ds z = ap (λ (c : ℕ). within (withByte b) (tryCh
 
 module _ {m : Marks} {row : List Node} {line : Bytes} {node at e c : ℕ} {dead : Bytes} {notes : List ℕ} (h : ChildFor row node e c) where
   -- no child has the byte, nor the end
-  pub byte-none : {o : Outcome} → e ≡ code (elementAt line at) → c ≡ 0 → o ≡ blank 0 → ByteSearched m row line node at dead dead notes notes o
+  pub byte-none : {r : ℕ} → e ≡ code (elementAt line at) → c ≡ 0 → r ≡ 0 → ByteSearched m row line node at dead dead notes notes r
   byte-none w z q = record {
     comes = idle-comes (λ made s lt n ds k l. no-child (kid (take made row)) (tryPlace m (kid (take made row)) (holey (take made row)) n) node at (drop at line) ds
         (sym (child-is s lt h (elementAt line at) w) ∙ z)) q;
   }
 
   -- no child is a placeholder's
-  pub piece-none : {o : Outcome} → e ≡ 1 → c ≡ 0 → o ≡ blank 0 → PieceSearched m row line node at dead dead notes notes o
+  pub piece-none : {r : ℕ} → e ≡ 1 → c ≡ 0 → r ≡ 0 → PieceSearched m row line node at dead dead notes notes r
   piece-none w z q = record {
     comes = idle-comes (λ made s lt n ds k l. ap (λ (i : ℕ). within pieceFound (tryChild (λ j. tryPlace m (kid (take made row)) (holey (take made row)) n j at (drop at line) ds) i ds))
         (sym (child-is s lt h hole w) ∙ z)) q;
@@ -311,36 +333,36 @@ module _ {m : Marks} {row : List Node} {line : Bytes} {node at e c : ℕ} {dead 
 
 -- ---- steps that lead to a child
 
--- what is found at a child: c is the child for x, and o the outcome from `next` on
-child-said : (m : Marks) (rows : List Node) (line : Bytes) (node at next n : ℕ) (x : Elem) (c : ℕ) (l : Lent) (ds : List Place) (o : Outcome) → Tree rows → c ≡ kid rows node x → ¬ (c ≡ 0) → at ≤ next
-    → sizeIn rows line node at ≤ n → HoldsDead (length rows) (suc (length line)) (l .dead) ds → Outcomes rows line c next (suc (sizeIn rows line c next)) (λ n. placeTried m rows line c next n) l o
-    → Says (holes rows c) next (tryChild (λ j. tryPlace m (kid rows) (holey rows) n j next (drop next line) ds) (kid rows node x) ds) o (l .notes) (l .notes′)
+-- what is found at a child: c is the child for x, and r the answer from `next` on
+child-said : (m : Marks) (rows : List Node) (line : Bytes) (node at next n : ℕ) (x : Elem) (c : ℕ) (l : Lent) (ds : List Place) (r : ℕ) → Tree rows → c ≡ kid rows node x → ¬ (c ≡ 0) → at ≤ next
+    → sizeIn rows line node at ≤ n → HoldsDead (length rows) (suc (length line)) (l .dead) ds → Outcomes rows line c next (suc (sizeIn rows line c next)) (λ n. placeTried m rows line c next n) l r
+    → Says (holes rows c) next (tryChild (λ j. tryPlace m (kid rows) (holey rows) n j next (drop next line) ds) (kid rows node x) ds) r (l .notes) (l .notes′)
     × HoldsDead (length rows) (suc (length line)) (l .dead′) (tryChild (λ j. tryPlace m (kid rows) (holey rows) n j next (drop next line) ds) (kid rows node x) ds .dead)
-child-said m rows line node at next n x c l ds o tree w z le lt k h =
+child-said m rows line node at next n x c l ds r tree w z le lt k h =
     let (j, v) = suc-of c z in
     let y : kid rows node x ≡ suc j = sym w ∙ v in
     let f = kid-falls rows tree node x j y in
     rw (y, ← v) (h .says n (omega (arith, f, ap (height rows) v)) ds k)
 
-module _ (m : Marks) (rows : List Node) (line : Bytes) (node at c : ℕ) (o : Outcome) (tree : Tree rows) (z : ¬ (c ≡ 0)) where
+module _ (m : Marks) (rows : List Node) (line : Bytes) (node at c r : ℕ) (tree : Tree rows) (z : ¬ (c ≡ 0)) where
   -- the template ends here, at a place that is counted
-  end-outcomes : (dead : Bytes) (notes notes1 : List ℕ) → length line ≤ at → c ≡ kid rows node (elementAt line at) → c < length rows → Counts 1 0 notes notes1 → o ≡ blank c
-      → Outcomes rows line node at (sizeIn rows line node at) (λ n. byteStep m rows line node at n) (record { dead = dead; dead′ = dead; notes = notes; notes′ = notes1 }) o
+  end-outcomes : (dead : Bytes) (notes notes1 : List ℕ) → length line ≤ at → c ≡ kid rows node (elementAt line at) → c < length rows → EndsTemplate notes notes1 → r ≡ c
+      → Outcomes rows line node at (sizeIn rows line node at) (λ n. byteStep m rows line node at n) (record { dead = dead; dead′ = dead; notes = notes; notes′ = notes1 }) r
   unfolding startsIn withPieces
   end-outcomes dead notes notes1 le w lt q e =
       let (j, x) = suc-of c z in
       let d : drop at line ≡ [] = drop-of-length-le line le in
       let y : kid rows node stop ≡ suc j = ap (λ (s : Bytes). kid rows node (elementOf s)) (sym d) ∙ sym w ∙ x in
       rw e record {
-        says = λ n l ds k. rw (d, y) (record { told = (omega (arith, x), x, refl, q .stay); counted = q .counted }, k);
-        short = omega arith;
+        says = λ n l ds k. rw (d, y) (record { told = (omega (arith, x), x, q .ended, q .counts .stay); counted = q .counts .counted }, k);
+        short = λ _. omega (arith, q .ended);
         there = lt;
       }
 
   -- what is found at the byte's child is found here
-  byte-outcomes : (l : Lent) → at < length line → c ≡ kid rows node (elementAt line at) → Outcomes rows line c (at + 1) (suc (sizeIn rows line c (at + 1))) (λ n. placeTried m rows line c (at + 1) n) l o
-      → Outcomes rows line node at (sizeIn rows line node at) (λ n. byteStep m rows line node at n) l o
-  byte-outcomes l lt w h = record { says = says; short = omega (arith, h .short); there = h .there }
+  byte-outcomes : (l : Lent) → at < length line → c ≡ kid rows node (elementAt line at) → Outcomes rows line c (at + 1) (suc (sizeIn rows line c (at + 1))) (λ n. placeTried m rows line c (at + 1) n) l r
+      → Outcomes rows line node at (sizeIn rows line node at) (λ n. byteStep m rows line node at n) l r
+  byte-outcomes l lt w h = record { says = says; short = λ f. omega (arith, h .short f); there = h .there }
     where
       b : ℕ
       b = getD line at 0
@@ -352,15 +374,15 @@ module _ (m : Marks) (rows : List Node) (line : Bytes) (node at c : ℕ) (o : Ou
       is = w ∙ ap (λ (s : Bytes). kid rows node (elementOf s)) d
 
       says : (n : ℕ) → sizeIn rows line node at ≤ n → (ds : List Place) → HoldsDead (length rows) (suc (length line)) (l .dead) ds
-          → Says (holes rows node) at (byteStep m rows line node at n ds) o (l .notes) (l .notes′) × HoldsDead (length rows) (suc (length line)) (l .dead′) (byteStep m rows line node at n ds .dead)
+          → Says (holes rows node) at (byteStep m rows line node at n ds) r (l .notes) (l .notes′) × HoldsDead (length rows) (suc (length line)) (l .dead′) (byteStep m rows line node at n ds .dead)
       says n le ds k =
           let (j, v) = suc-of c z in
           let y : kid rows node (lit b) ≡ suc j = sym is ∙ v in
           let t : Tried = tryChild (λ j. tryPlace m (kid rows) (holey rows) n j (at + 1) (drop (at + 1) line) ds) (kid rows node (lit b)) ds in
-          let (s, g) = child-said m rows line node at (at + 1) n (lit b) c l ds o tree is z (omega arith) le k h in
+          let (s, g) = child-said m rows line node at (at + 1) n (lit b) c l ds r tree is z (omega arith) le k h in
           rw d (
             record {
-              told = told-byte (holes rows node) (holes rows c) at b (t .found) o (piecesIn (l .notes)) (piecesIn (l .notes′)) (ap (holes rows) v ∙ holes-lit rows tree node b j y)
+              told = told-byte (holes rows node) (holes rows c) at b (t .found) r (l .notes) (l .notes′) (ap (holes rows) v ∙ holes-lit rows tree node b j y)
                   (λ f e. place-rest m (kid rows) (holey rows) n (suc j) (at + 1) (drop (at + 1) line) ds f (kid-lit rows tree node b j y)
                   (subst (λ (i : ℕ). tryChild (λ j. tryPlace m (kid rows) (holey rows) n j (at + 1) (drop (at + 1) line) ds) i ds .found ≡ some f) y e)) (s .told);
               counted = s .counted;
@@ -368,86 +390,86 @@ module _ (m : Marks) (rows : List Node) (line : Bytes) (node at c : ℕ) (o : Ou
             g,
           )
 
-  -- what is found at the placeholder's child is a piece, and what follows it; r is the outcome with the piece stored
+  -- what is found at the placeholder's child is a piece, and what follows it
   module _ (dead dead1 : Bytes) (notes notes1 : List ℕ) (w : c ≡ kid rows node hole)
-      (h : Outcomes rows line c at (suc (sizeIn rows line c at)) (λ n. placeTried m rows line c at n) (record { dead = dead; dead′ = dead1; notes = notes; notes′ = notes1 }) o) where
+      (h : Outcomes rows line c at (suc (sizeIn rows line c at)) (λ n. placeTried m rows line c at n) (record { dead = dead; dead′ = dead1; notes = notes; notes′ = notes1 }) r) where
     -- what the search of the child says
     said-child : (n : ℕ) → sizeIn rows line node at ≤ n → (ds : List Place) → HoldsDead (length rows) (suc (length line)) dead ds
-        → Says (holes rows c) at (tryChild (λ j. tryPlace m (kid rows) (holey rows) n j at (drop at line) ds) (kid rows node hole) ds) o notes notes1
+        → Says (holes rows c) at (tryChild (λ j. tryPlace m (kid rows) (holey rows) n j at (drop at line) ds) (kid rows node hole) ds) r notes notes1
         × HoldsDead (length rows) (suc (length line)) dead1 (tryChild (λ j. tryPlace m (kid rows) (holey rows) n j at (drop at line) ds) (kid rows node hole) ds .dead)
-    said-child n le ds k = child-said m rows line node at at n hole c (record { dead = dead; dead′ = dead1; notes = notes; notes′ = notes1 }) ds o tree w z (omega arith) le k h
+    said-child n le ds k = child-said m rows line node at at n hole c (record { dead = dead; dead′ = dead1; notes = notes; notes′ = notes1 }) ds r tree w z (omega arith) le k h
 
     -- with the piece stored
-    piece-outcomes : (notes2 : List ℕ) (r : Outcome) → ¬ (o .node ≡ 0) → StoresPiece (holes rows node) at o notes1 notes2 r
+    piece-outcomes : (notes2 : List ℕ) → ¬ (r ≡ 0) → StoresPiece (holes rows node) at notes1 notes2
         → Outcomes rows line node at (sizeIn rows line node at) (λ n. pieceStep m rows line node at n) (record { dead = dead; dead′ = dead1; notes = notes; notes′ = notes2 }) r
-    piece-outcomes notes2 r f q = record {
+    piece-outcomes notes2 f q = record {
       says = λ n le ds k.
           let (j, v) = suc-of c z in
           let t : Tried = tryChild (λ j. tryPlace m (kid rows) (holey rows) n j at (drop at line) ds) (kid rows node hole) ds in
           let (s, g) = said-child n le ds k in (
             record {
-              told = told-piece (holes rows node) (holes rows c) at (t .found) o r (piecesIn notes) notes1 notes2 (ap (holes rows) v ∙ holes-hole rows tree node j (sym w ∙ v)) f q (s .told);
+              told = told-piece (holes rows node) (holes rows c) at (t .found) r notes notes1 notes2 (ap (holes rows) v ∙ holes-hole rows tree node j (sym w ∙ v)) f q (s .told);
               counted = counted-more _ _ (omega arith) (omega arith) (s .counted) (q .counted);
             },
             g,
           );
-      short = rw (q .is) (omega arith);
-      there = rw (q .is) (h .there);
+      short = λ _. omega (arith, q .closed);
+      there = h .there;
     }
 
     -- nothing is found there, nor here
-    no-piece-outcomes : o .node ≡ 0 → Outcomes rows line node at (sizeIn rows line node at) (λ n. pieceStep m rows line node at n) (record { dead = dead; dead′ = dead1; notes = notes; notes′ = notes1 }) o
+    no-piece-outcomes : r ≡ 0 → Outcomes rows line node at (sizeIn rows line node at) (λ n. pieceStep m rows line node at n) (record { dead = dead; dead′ = dead1; notes = notes; notes′ = notes1 }) r
     no-piece-outcomes f = record {
       says = λ n le ds k.
           let t : Tried = tryChild (λ j. tryPlace m (kid rows) (holey rows) n j at (drop at line) ds) (kid rows node hole) ds in
           let (s, g) = said-child n le ds k in
-          (record { told = told-no-piece (holes rows node) (holes rows c) at (t .found) o (piecesIn notes) (piecesIn notes1) f (s .told); counted = s .counted }, g);
-      short = omega (arith, h .short);
+          (record { told = told-no-piece (holes rows node) (holes rows c) at (t .found) r notes notes1 f (s .told); counted = s .counted }, g);
+      short = λ g. absurd (g f);
       there = h .there;
     }
 
 module _ {m : Marks} {row : List Node} {dead : Bytes} {notes : List ℕ} {line : Bytes} {end node at : ℕ} (a : Asks row dead notes line end node at) where
-  module _ {e c : ℕ} (h : ChildFor row node e c) {o : Outcome} (z : ¬ (c ≡ 0)) where
+  module _ {e c : ℕ} (h : ChildFor row node e c) {r : ℕ} (z : ¬ (c ≡ 0)) where
     -- the template ends here
-    pub byte-end : {notes1 : List ℕ} → e ≡ code (elementAt (take end line) at) → at ≡ end → Counts 1 0 notes notes1 → o ≡ blank c → ByteSearched m row (take end line) node at dead dead notes notes1 o
+    pub byte-end : {notes1 : List ℕ} → e ≡ code (elementAt (take end line) at) → at ≡ end → EndsTemplate notes notes1 → r ≡ c → ByteSearched m row (take end line) node at dead dead notes notes1 r
     byte-end {notes1} w t k q = record {
       comes = record {
         each = λ made s lt.
-            end-outcomes m (take made row) (take end line) node at c o (s .tree) z dead notes notes1 (omega (arith, line-long a, t)) (child-is s lt h (elementAt (take end line) at) w)
+            end-outcomes m (take made row) (take end line) node at c r (s .tree) z dead notes notes1 (omega (arith, line-long a, t)) (child-is s lt h (elementAt (take end line) at) w)
             (omega (arith, child-there s lt h, front-long s)) k q;
       };
     }
 
     -- what is found at the byte's child is found here
-    pub byte-below : {dead′ : Bytes} {notes′ : List ℕ} → e ≡ code (elementAt (take end line) at) → ¬ (at ≡ end) → SearchedIn m row (take end line) c (at + 1) dead dead′ notes notes′ o
-        → ByteSearched m row (take end line) node at dead dead′ notes notes′ o
+    pub byte-below : {dead′ : Bytes} {notes′ : List ℕ} → e ≡ code (elementAt (take end line) at) → ¬ (at ≡ end) → SearchedIn m row (take end line) c (at + 1) dead dead′ notes notes′ r
+        → ByteSearched m row (take end line) node at dead dead′ notes notes′ r
     byte-below {dead′} {notes′} w t g = record {
       comes = record {
         each = λ made s lt.
-            byte-outcomes m (take made row) (take end line) node at c o (s .tree) z (record { dead = dead; dead′ = dead′; notes = notes; notes′ = notes′ }) (omega (arith, line-long a, a .low, t))
+            byte-outcomes m (take made row) (take end line) node at c r (s .tree) z (record { dead = dead; dead′ = dead′; notes = notes; notes′ = notes′ }) (omega (arith, line-long a, a .low, t))
             (child-is s lt h (elementAt (take end line) at) w) (g .comes .each made s (child-there s lt h));
       };
     }
 
-    module _ {dead1 : Bytes} {notes1 : List ℕ} (w : e ≡ 1) (g : SearchedIn m row (take end line) c at dead dead1 notes notes1 o) where
+    module _ {dead1 : Bytes} {notes1 : List ℕ} (w : e ≡ 1) (g : SearchedIn m row (take end line) c at dead dead1 notes notes1 r) where
       -- what is found at the placeholder's child is a piece, and what follows it
-      pub piece-below : {n : Node} {k : ℕ} {r : Outcome} {notes2 : List ℕ} → ¬ (o .node ≡ 0) → n ≡ getD row node noNode → k ≡ n .holes → StoresPiece k at o notes1 notes2 r
+      pub piece-below : {n : Node} {k : ℕ} {notes2 : List ℕ} → ¬ (r ≡ 0) → n ≡ getD row node noNode → k ≡ n .holes → StoresPiece k at notes1 notes2
           → PieceSearched m row (take end line) node at dead dead1 notes notes2 r
-      piece-below {n} {k} {r} {notes2} f x y q = record {
+      piece-below {n} {k} {notes2} f x y q = record {
         comes = record {
           each = λ made s lt.
               let v : k ≡ holes (take made row) node = y ∙ ap (λ (n : Node). n .holes) (x ∙ sym (front-node row made node lt)) in
-              piece-outcomes m (take made row) (take end line) node at c o (s .tree) z dead dead1 notes notes1 (child-is s lt h hole w) (g .comes .each made s (child-there s lt h)) notes2 r f
-              (subst (λ (k : ℕ). StoresPiece k at o notes1 notes2 r) v q);
+              piece-outcomes m (take made row) (take end line) node at c r (s .tree) z dead dead1 notes notes1 (child-is s lt h hole w) (g .comes .each made s (child-there s lt h)) notes2 f
+              (subst (λ (k : ℕ). StoresPiece k at notes1 notes2) v q);
         };
       }
 
       -- nothing is found there
-      pub piece-nowhere : o .node ≡ 0 → PieceSearched m row (take end line) node at dead dead1 notes notes1 o
-      piece-nowhere f = record {
+      pub piece-nowhere : {u : ℕ} → r ≡ 0 → u ≡ 0 → PieceSearched m row (take end line) node at dead dead1 notes notes1 u
+      piece-nowhere f q = rw (q ∙ sym f) record {
         comes = record {
           each = λ made s lt.
-              no-piece-outcomes m (take made row) (take end line) node at c o (s .tree) z dead dead1 notes notes1 (child-is s lt h hole w) (g .comes .each made s (child-there s lt h)) f;
+              no-piece-outcomes m (take made row) (take end line) node at c r (s .tree) z dead dead1 notes notes1 (child-is s lt h hole w) (g .comes .each made s (child-there s lt h)) f;
         };
       }
 
@@ -459,62 +481,85 @@ holey-is row node made lt x y = sym (y ∙ ap (λ (n : Node). eqb (n .element) 1
 
 module _ (m : Marks) (rows : List Node) (line : Bytes) (node at : ℕ) (r : Scanned) (t : holey rows node ≡ true) (a : AtomAt m line at r) where
   -- there is no atom, and what the look reads is counted
-  look-outcomes : (dead : Bytes) (notes notes1 : List ℕ) (o : Outcome) → node < length rows → r .end ≡ 0 → Counts 0 (r .read) notes notes1 → o ≡ blank 0
-      → Outcomes rows line node at (sizeIn rows line node at) (λ n. atomStep m rows line node at n) (record { dead = dead; dead′ = dead; notes = notes; notes′ = notes1 }) o
-  look-outcomes dead notes notes1 o lt z q e = rw e record {
+  look-outcomes : (dead : Bytes) (notes notes1 : List ℕ) (u : ℕ) → node < length rows → r .end ≡ 0 → Counts 0 (r .read) notes notes1 → u ≡ 0
+      → Outcomes rows line node at (sizeIn rows line node at) (λ n. atomStep m rows line node at n) (record { dead = dead; dead′ = dead; notes = notes; notes′ = notes1 }) u
+  look-outcomes dead notes notes1 u lt z q e = rw e record {
     says = λ n l ds k. rw (t, a .nowhere z, ← a .read) (record { told = (refl, q .stay); counted = counted-more _ _ (omega arith) (omega arith) (q .counted) (counted-none notes1) }, k);
-    short = omega arith;
+    short = λ f. absurd (f refl);
     there = omega (arith, lt);
   }
 
-  -- the atom makes the open piece longer
-  atom-outcomes : (dead dead′ : Bytes) (notes notes1 notes′ : List ℕ) (o : Outcome) → ¬ (r .end ≡ 0) → Counts 0 (r .read) notes notes1
-      → Outcomes rows line node (r .end) (suc (sizeIn rows line node (r .end))) (λ n. placeTried m rows line node (r .end) n) (record { dead = dead; dead′ = dead′; notes = notes1; notes′ = notes′ }) o
-      → Outcomes rows line node at (sizeIn rows line node at) (λ n. atomStep m rows line node at n) (record { dead = dead; dead′ = dead′; notes = notes; notes′ = notes′ }) (passAtom (r .end - at) o)
-  atom-outcomes dead dead′ notes notes1 notes′ o z q h = record { says = says; short = omega (arith, h .short, up, a .within); there = h .there }
-    where
-      e : ℕ
-      e = r .end
+  -- past the atom the search comes to u
+  module _ (z : ¬ (r .end ≡ 0)) (dead dead′ : Bytes) (notes notes1 notes2 : List ℕ) (u : ℕ) (q : Counts 0 (r .read) notes notes1)
+      (h : Outcomes rows line node (r .end) (suc (sizeIn rows line node (r .end))) (λ n. placeTried m rows line node (r .end) n) (record { dead = dead; dead′ = dead′; notes = notes1; notes′ = notes2 }) u) where
+    up : at < r .end
+    up = a .ahead (omega (arith, z))
 
-      up : at < e
-      up = a .ahead (omega (arith, z))
+    long : at + length (part line at (r .end)) ≡ r .end
+    long = simp (length-take, length-drop) (omega (arith, up, a .within))
 
-      long : at + length (part line at e) ≡ e
-      long = simp (length-take, length-drop) (omega (arith, up, a .within))
+    -- with what is found there, and what is counted
+    atom-says : (notes3 : List ℕ) → Counts 0 0 notes2 notes3
+        → ((x : Option Found) → Told (holes rows node) (r .end) x u notes notes2 → Told (holes rows node) at (withAtom (part line at (r .end)) x) u notes notes3)
+        → (n : ℕ) → sizeIn rows line node at ≤ n → (ds : List Place) → HoldsDead (length rows) (suc (length line)) dead ds
+        → Says (holes rows node) at (atomStep m rows line node at n ds) u notes notes3
+        × HoldsDead (length rows) (suc (length line)) dead′ (atomStep m rows line node at n ds .dead)
+    atom-says notes3 v w n le ds k =
+        let (s, g) = h .says n (omega (arith, up, a .within, le)) ds k in
+        rw (t, ← a .read, a .found (omega (arith, z)), long) (
+          record {
+            told = w (placeTried m rows line node (r .end) n ds .found) (told-counted (holes rows node) (r .end) (placeTried m rows line node (r .end) n ds .found) u notes2 q (s .told));
+            counted = counted-between (q .counted) (s .counted) (v .counted);
+          },
+          g,
+        )
 
-      says : (n : ℕ) → sizeIn rows line node at ≤ n → (ds : List Place) → HoldsDead (length rows) (suc (length line)) dead ds
-          → Says (holes rows node) at (atomStep m rows line node at n ds) (passAtom (e - at) o) notes notes′
-          × HoldsDead (length rows) (suc (length line)) dead′ (atomStep m rows line node at n ds .dead)
-      says n le ds k =
-          let (s, g) = h .says n (omega (arith, up, a .within, le)) ds k in
-          rw (t, ← a .read, a .found (omega (arith, z)), long) (
-            record {
-              told = subst (λ (ps : List ℕ). Told (holes rows node) at (withAtom (part line at e) (placeTried m rows line node e n ds .found)) (passAtom (e - at) o) ps (piecesIn notes′)) (q .stay)
-                  (told-atom (holes rows node) at e (part line at e) (placeTried m rows line node e n ds .found) o (piecesIn notes1) (piecesIn notes′) long (s .told));
-              counted = counted-more _ _ (omega arith) refl (q .counted) (s .counted);
-            },
-            g,
-          )
+    -- the atom makes the open piece longer
+    atom-outcomes : (notes3 : List ℕ) → ¬ (u ≡ 0) → PassesAtom (r .end - at) notes2 notes3
+        → Outcomes rows line node at (sizeIn rows line node at) (λ n. atomStep m rows line node at n) (record { dead = dead; dead′ = dead′; notes = notes; notes′ = notes3 }) u
+    atom-outcomes notes3 f p = record {
+      says = atom-says notes3 (p .counts) (λ x w. told-atom (holes rows node) at (r .end) (part line at (r .end)) x u notes notes2 notes3 long f p w);
+      short = λ g. omega (arith, p .longer, h .short g, up, a .within);
+      there = h .there;
+    }
+
+    -- or nothing is found
+    no-atom-outcomes : u ≡ 0 → Outcomes rows line node at (sizeIn rows line node at) (λ n. atomStep m rows line node at n) (record { dead = dead; dead′ = dead′; notes = notes; notes′ = notes2 }) u
+    no-atom-outcomes f = record {
+      says = atom-says notes2 (record { counted = counted-none notes2; stay = refl }) (λ x w. told-no-atom (holes rows node) at (r .end) (part line at (r .end)) x u notes notes2 f w);
+      short = λ g. absurd (g f);
+      there = h .there;
+    }
 
 module _ {m : Marks} {row : List Node} {line : Bytes} {node at : ℕ} {dead : Bytes} {notes : List ℕ} {n : Node} {b : Bool} (x : n ≡ getD row node noNode) (y : b ≡ eqb (n .element) 1) where
   -- the node is no placeholder's
-  pub atom-not : {o : Outcome} → b ≡ false → o ≡ blank 0 → AtomSearched m row line node at dead dead notes notes o
+  pub atom-not : {u : ℕ} → b ≡ false → u ≡ 0 → AtomSearched m row line node at dead dead notes notes u
   atom-not f q = record { comes = idle-comes (λ made s lt k ds h l. rw (holey-is row node made lt x y ∙ f) refl) q }
 
   module _ {e : Scanned} {notes1 : List ℕ} (t : b ≡ true) (g : AtomAt m line at e) (k : Counts 0 (e .read) notes notes1) where
     -- there is no atom
-    pub atom-none : {o : Outcome} → e .end ≡ 0 → o ≡ blank 0 → AtomSearched m row line node at dead dead notes notes1 o
-    atom-none {o} z q = record {
+    pub atom-none : {u : ℕ} → e .end ≡ 0 → u ≡ 0 → AtomSearched m row line node at dead dead notes notes1 u
+    atom-none {u} z q = record {
       comes = record {
-        each = λ made s lt. look-outcomes m (take made row) line node at e (holey-is row node made lt x y ∙ t) g dead notes notes1 o (omega (arith, lt, front-long s)) z k q;
+        each = λ made s lt. look-outcomes m (take made row) line node at e (holey-is row node made lt x y ∙ t) g dead notes notes1 u (omega (arith, lt, front-long s)) z k q;
       };
     }
 
-    -- the open piece has the atom
-    pub atom-below : {o u : Outcome} {dead′ : Bytes} {notes′ : List ℕ} → ¬ (e .end ≡ 0) → SearchedIn m row line node (e .end) dead dead′ notes1 notes′ o → u ≡ passAtom (e .end - at) o
-        → AtomSearched m row line node at dead dead′ notes notes′ u
-    atom-below {o} {u} {dead′} {notes′} z w q = rw q record {
-      comes = record {
-        each = λ made s lt. atom-outcomes m (take made row) line node at e (holey-is row node made lt x y ∙ t) g dead dead′ notes notes1 notes′ o z k (w .comes .each made s lt);
-      };
-    }
+    module _ {u : ℕ} {dead′ : Bytes} {notes2 : List ℕ} (z : ¬ (e .end ≡ 0)) (w : SearchedIn m row line node (e .end) dead dead′ notes1 notes2 u) where
+      -- the open piece has the atom
+      pub atom-below : {notes3 : List ℕ} → ¬ (u ≡ 0) → PassesAtom (e .end - at) notes2 notes3 → AtomSearched m row line node at dead dead′ notes notes3 u
+      atom-below {notes3} f q = record {
+        comes = record {
+          each = λ made s lt.
+              atom-outcomes m (take made row) line node at e (holey-is row node made lt x y ∙ t) g z dead dead′ notes notes1 notes2 u k (w .comes .each made s lt) notes3 f q;
+        };
+      }
+
+      -- nothing is found past the atom
+      pub atom-nowhere : {v : ℕ} → u ≡ 0 → v ≡ 0 → AtomSearched m row line node at dead dead′ notes notes2 v
+      atom-nowhere f q = rw (q ∙ sym f) record {
+        comes = record {
+          each = λ made s lt.
+              no-atom-outcomes m (take made row) line node at e (holey-is row node made lt x y ∙ t) g z dead dead′ notes notes1 notes2 u k (w .comes .each made s lt) f;
+        };
+      }

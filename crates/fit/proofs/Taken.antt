@@ -1,5 +1,5 @@
 -- A place taken up by its three steps in turn, and the search of a place: dead places are passed over, and places that lead nowhere become dead.
-use mathlib.Core.Path.{_≡_, refl, sym, _∙_, ap, subst}
+use mathlib.Core.Path.{_≡_, refl, sym, _∙_, ap}
 use mathlib.Core.Bool.{Bool, true, false, _&&_}
 use mathlib.Core.List.{List, [], _∷_}
 use mathlib.Core.Option.{Option, none, some}
@@ -21,15 +21,14 @@ use Rattle.nodes.specs.Rows.{kid, holey, holes, Stands}
 use Rattle.nodes.proofs.Rows.{front-long}
 use Rattle.places.specs.Bits.{bit, AddsBit, ClearsBits}
 use Rattle.fit.specs.Chosen.{Fits}
-use Rattle.fit.specs.Outcome.{blank, piecesIn, Counted, Counts, Told, Says, HoldsDead, Outcomes, sizeIn, placeTried, byteStep, pieceStep, atomStep, laterStep, allSteps}
+use Rattle.fit.specs.Outcome.{Counted, Counts, Told, Says, HoldsDead, Outcomes, sizeIn, placeTried, byteStep, pieceStep, atomStep, laterStep, allSteps}
 use Rattle.fit.specs.Outcome.{Asks, SearchedIn, ByteSearched, PieceSearched, AtomSearched, TakenUp}
-use Rattle.fit.specs.declared.Outcome.{Outcome}
-use Rattle.fit.proofs.Steps.{asks-bit, asks-again, line-long, counted-more, idle-comes}
+use Rattle.fit.proofs.Steps.{told-stay, told-counted, asks-bit, asks-again, line-long, counted-more, idle-comes}
 
 -- ---- one step after the other
 
 -- the first step leads on
-said-first : (k at c w : ℕ) (dead : Bytes) (ns ns′ : List ℕ) (a : Tried) (next : List Place → Tried) (o : Outcome) → ¬ (o .node ≡ 0) → Says k at a o ns ns′ × HoldsDead c w dead (a .dead)
+said-first : (k at c w : ℕ) (dead : Bytes) (ns ns′ : List ℕ) (a : Tried) (next : List Place → Tried) (o : ℕ) → ¬ (o ≡ 0) → Says k at a o ns ns′ × HoldsDead c w dead (a .dead)
     → Says k at (orTry a next) o ns ns′ × HoldsDead c w dead (orTry a next .dead)
 said-first k at c w dead ns ns′ a next o z (s, h) = by (a .found) (a .dead) (a .taken) (a .bytes) s h
   where
@@ -39,7 +38,7 @@ said-first k at c w dead ns ns′ a next o z (s, h) = by (a .found) (a .dead) (a
     by (some f) ds ts b s h = (s, h)
 
 -- it doesn't, and the next may
-said-next : (k at c w : ℕ) (dead : Bytes) (ns ns1 ns2 : List ℕ) (a : Tried) (next : List Place → Tried) (o u : Outcome) → o .node ≡ 0 → Says k at a o ns ns1
+said-next : (k at c w : ℕ) (dead : Bytes) (ns ns1 ns2 : List ℕ) (a : Tried) (next : List Place → Tried) (o u : ℕ) → o ≡ 0 → Says k at a o ns ns1
     → Says k at (next (a .dead)) u ns1 ns2 × HoldsDead c w dead (next (a .dead) .dead)
     → Says k at (orTry a next) u ns ns2 × HoldsDead c w dead (orTry a next .dead)
 said-next k at c w dead ns ns1 ns2 a next o u z s (t, h) = by (a .found) (a .dead) (a .taken) (a .bytes) s t h
@@ -48,7 +47,7 @@ said-next k at c w dead ns ns1 ns2 a next o u z s (t, h) = by (a .found) (a .dea
         → Says k at (orTry (record { found = f; dead = ds; taken = ts; bytes = b }) next) u ns ns2 × HoldsDead c w dead (orTry (record { found = f; dead = ds; taken = ts; bytes = b }) next .dead)
     by none ds ts b s t h = (
       record {
-        told = subst (λ (ps : List ℕ). Told k at (next ds .found) u ps (piecesIn ns2)) (s .told .1) (t .told);
+        told = told-stay k at (next ds .found) u ns ns1 ns2 (s .told .1) (t .told);
         counted = counted-more _ _ (length-append ts (next ds .taken)) refl (s .counted) (t .counted);
       },
       h,
@@ -56,13 +55,13 @@ said-next k at c w dead ns ns1 ns2 a next o u z s (t, h) = by (a .found) (a .dea
     by (some f) ds ts b s t h = absurd (omega (arith, s .told .0, z))
 
 -- the second step can be asked after the first
-pub asks-second : {m : Marks} {row : List Node} {dead dead1 : Bytes} {notes notes1 : List ℕ} {line : Bytes} {end node at : ℕ} {o : Outcome} → Asks row dead notes line end node at
+pub asks-second : {m : Marks} {row : List Node} {dead dead1 : Bytes} {notes notes1 : List ℕ} {line : Bytes} {end node at : ℕ} {o : ℕ} → Asks row dead notes line end node at
     → ByteSearched m row (take end line) node at dead dead1 notes notes1 o → length dead1 ≡ length dead → length notes1 ≡ length notes → Asks row dead1 notes1 line end node at
 asks-second a h u v = asks-again a u v
 
-module _ {m : Marks} {row : List Node} {dead dead1 : Bytes} {notes notes1 : List ℕ} {line : Bytes} {node at : ℕ} {b : Outcome} (h : ByteSearched m row line node at dead dead1 notes notes1 b) where
+module _ {m : Marks} {row : List Node} {dead dead1 : Bytes} {notes notes1 : List ℕ} {line : Bytes} {node at : ℕ} {b : ℕ} (h : ByteSearched m row line node at dead dead1 notes notes1 b) where
   -- the byte leads on
-  pub first-found : ¬ (b .node ≡ 0) → TakenUp m row line node at dead dead1 notes notes1 b
+  pub first-found : ¬ (b ≡ 0) → TakenUp m row line node at dead dead1 notes notes1 b
   first-found z = record {
     comes = record {
       each = λ made s lt.
@@ -76,9 +75,9 @@ module _ {m : Marks} {row : List Node} {dead dead1 : Bytes} {notes notes1 : List
     };
   }
 
-  module _ (z : b .node ≡ 0) {dead2 : Bytes} {notes2 : List ℕ} {p : Outcome} (i : PieceSearched m row line node at dead1 dead2 notes1 notes2 p) where
+  module _ (z : b ≡ 0) {dead2 : Bytes} {notes2 : List ℕ} {p : ℕ} (i : PieceSearched m row line node at dead1 dead2 notes1 notes2 p) where
     -- it doesn't, and the placeholder does
-    pub second-found : ¬ (p .node ≡ 0) → TakenUp m row line node at dead dead2 notes notes2 p
+    pub second-found : ¬ (p ≡ 0) → TakenUp m row line node at dead dead2 notes notes2 p
     second-found w = record {
       comes = record {
         each = λ made s lt.
@@ -98,7 +97,7 @@ module _ {m : Marks} {row : List Node} {dead dead1 : Bytes} {notes notes1 : List
     }
 
     -- neither does, and the atom may
-    pub third-found : p .node ≡ 0 → {dead3 : Bytes} {notes3 : List ℕ} {o : Outcome} → AtomSearched m row line node at dead2 dead3 notes2 notes3 o → TakenUp m row line node at dead dead3 notes notes3 o
+    pub third-found : p ≡ 0 → {dead3 : Bytes} {notes3 : List ℕ} {o : ℕ} → AtomSearched m row line node at dead2 dead3 notes2 notes3 o → TakenUp m row line node at dead dead3 notes notes3 o
     third-found w {dead3} {notes3} {o} j = record {
       comes = record {
         each = λ made s lt.
@@ -151,29 +150,29 @@ place-passed m kid holey zero i p s ds e = refl
 place-passed m kid holey (suc n) i p s ds e = rw (e, tryPlace) refl
 
 -- the place and what its steps count
-place-counted : {ns ns1 ns2 : List ℕ} {k at : ℕ} {t : Tried} {o : Outcome} → Counts 1 0 ns ns1 → Says k at t o ns1 ns2 → Counted (suc (length (t .taken))) (t .bytes) ns ns2
+place-counted : {ns ns1 ns2 : List ℕ} {k at : ℕ} {t : Tried} {o : ℕ} → Counts 1 0 ns ns1 → Says k at t o ns1 ns2 → Counted (suc (length (t .taken))) (t .bytes) ns ns2
 place-counted q s = counted-more _ _ (omega arith) (omega arith) (q .counted) (s .counted)
 
 -- and what they find
-place-told : {ns ns1 ns2 : List ℕ} {k at : ℕ} {t : Tried} {o : Outcome} → Counts 1 0 ns ns1 → Says k at t o ns1 ns2 → Told k at (t .found) o (piecesIn ns) (piecesIn ns2)
-place-told {ns2 = ns2} {k = k} {at = at} {t = t} {o = o} q s = subst (λ (ps : List ℕ). Told k at (t .found) o ps (piecesIn ns2)) (q .stay) (s .told)
+place-told : {ns ns1 ns2 : List ℕ} {k at : ℕ} {t : Tried} {o : ℕ} → Counts 1 0 ns ns1 → Says k at t o ns1 ns2 → Told k at (t .found) o ns ns2
+place-told {ns2 = ns2} {k = k} {at = at} {t = t} {o = o} q s = told-counted k at (t .found) o ns2 q (s .told)
 
-module _ (k at c w i p : ℕ) (ns ns1 ns2 : List ℕ) (t : Tried) (o : Outcome) (q : Counts 1 0 ns ns1) where
+module _ (k at c w i p : ℕ) (ns ns1 ns2 : List ℕ) (t : Tried) (o : ℕ) (q : Counts 1 0 ns ns1) where
   -- where the steps lead on, the place stays alive
-  said-on : (dead : Bytes) → ¬ (o .node ≡ 0) → Says k at t o ns1 ns2 × HoldsDead c w dead (t .dead)
+  said-on : (dead : Bytes) → ¬ (o ≡ 0) → Says k at t o ns1 ns2 × HoldsDead c w dead (t .dead)
       → Says k at (takeUp (record { node = i; at = p }) t) o ns ns2 × HoldsDead c w dead (takeUp (record { node = i; at = p }) t .dead)
   said-on dead z (s, h) = (record { told = place-told q s; counted = place-counted q s }, alive (t .found) (s .told))
     where
-      alive : (f : Option Found) → Told k at f o (piecesIn ns1) (piecesIn ns2) → HoldsDead c w dead (elim f as (λ _. List Place) [ some g ↦ t .dead | none ↦ record { node = i; at = p } ∷ t .dead ])
+      alive : (f : Option Found) → Told k at f o ns1 ns2 → HoldsDead c w dead (elim f as (λ _. List Place) [ some g ↦ t .dead | none ↦ record { node = i; at = p } ∷ t .dead ])
       alive none x = absurd (z (x .0))
       alive (some f) x = h
 
   -- where they lead nowhere, it is dead
-  said-nowhere : (dead dead′ : Bytes) (x : ℕ) → p < w → x ≡ i * w + p → AddsBit dead dead′ x → o .node ≡ 0 → Says k at t o ns1 ns2 × HoldsDead c w dead (t .dead)
+  said-nowhere : (dead dead′ : Bytes) (x : ℕ) → p < w → x ≡ i * w + p → AddsBit dead dead′ x → o ≡ 0 → Says k at t o ns1 ns2 × HoldsDead c w dead (t .dead)
       → Says k at (takeUp (record { node = i; at = p }) t) o ns ns2 × HoldsDead c w dead′ (takeUp (record { node = i; at = p }) t .dead)
   said-nowhere dead dead′ x lp e b z (s, h) = (record { told = place-told q s; counted = place-counted q s }, gone (t .found) (s .told))
     where
-      gone : (f : Option Found) → Told k at f o (piecesIn ns1) (piecesIn ns2) → HoldsDead c w dead′ (elim f as (λ _. List Place) [ some g ↦ t .dead | none ↦ record { node = i; at = p } ∷ t .dead ])
+      gone : (f : Option Found) → Told k at f o ns1 ns2 → HoldsDead c w dead′ (elim f as (λ _. List Place) [ some g ↦ t .dead | none ↦ record { node = i; at = p } ∷ t .dead ])
       gone none y = holds-more c w dead dead′ (t .dead) i p x lp e b h
       gone (some f) y = absurd (omega (arith, y .0, z))
 
@@ -196,12 +195,12 @@ module _ {row : List Node} {dead : Bytes} {notes : List ℕ} {line : Bytes} {end
     bit-is made s lt ds h = sym (f ∙ ap (bit dead) (number-is e) ∙ h node at (omega (arith, lt, front-long s)) inside-front)
 
     -- a dead place isn't taken up
-    pub was-dead : {m : Marks} {o : Outcome} → r ≡ true → o ≡ blank 0 → SearchedIn m row front node at dead dead notes notes o
+    pub was-dead : {m : Marks} {o : ℕ} → r ≡ true → o ≡ 0 → SearchedIn m row front node at dead dead notes notes o
     was-dead {m} t q = record {
       comes = idle-comes (λ made s lt n ds h l. place-passed m (kid (take made row)) (holey (take made row)) n node at (drop at front) ds (bit-is made s lt ds h ∙ t)) q;
     }
 
-    module _ (t : r ≡ false) {m : Marks} {dead1 : Bytes} {notes1 notes2 : List ℕ} {u : Outcome} (q : Counts 1 0 notes notes1) (h : TakenUp m row front node at dead dead1 notes1 notes2 u) where
+    module _ (t : r ≡ false) {m : Marks} {dead1 : Bytes} {notes1 notes2 : List ℕ} {u : ℕ} (q : Counts 1 0 notes notes1) (h : TakenUp m row front node at dead dead1 notes1 notes2 u) where
       -- a place whose steps come to u is taken up
       taken-up : {dead2 : Bytes}
           → ((made : ℕ) → Stands row made → node < made → (n : ℕ) (ds : List Place)
@@ -223,17 +222,17 @@ module _ {row : List Node} {dead : Bytes} {notes : List ℕ} {line : Bytes} {end
               rw (place-taken m (kid (take made row)) (holey (take made row)) n node at (drop at front) ds (bit-is made s lt ds k ∙ t)) (g made s lt n ds (x .says n (omega arith) ds k))
 
       -- a place that leads on
-      pub leads-on : ¬ (u .node ≡ 0) → SearchedIn m row front node at dead dead1 notes notes2 u
+      pub leads-on : ¬ (u ≡ 0) → SearchedIn m row front node at dead dead1 notes notes2 u
       leads-on z = taken-up (λ made s lt n ds k. said-on (holes (take made row) node) at _ _ node at notes notes1 notes2 (allSteps m (take made row) front node at n ds) u q dead1 z k)
 
       -- a place that leads nowhere
-      pub leads-nowhere : {dead2 : Bytes} → u .node ≡ 0 → AddsBit dead1 dead2 x → SearchedIn m row front node at dead dead2 notes notes2 u
+      pub leads-nowhere : {dead2 : Bytes} → u ≡ 0 → AddsBit dead1 dead2 x → SearchedIn m row front node at dead dead2 notes notes2 u
       leads-nowhere {dead2} z b =
           taken-up (λ made s lt n ds k.
           said-nowhere (holes (take made row) node) at _ _ node at notes notes1 notes2 (allSteps m (take made row) front node at n ds) u q dead1 dead2 x inside-front (number-is e) b z k)
 
 -- the place's bit is there after its steps
-pub asks-bit-again : {m : Marks} {row : List Node} {line part : Bytes} {end node at : ℕ} {dead dead1 : Bytes} {notes notes1 notes2 : List ℕ} {u : Outcome} {x : ℕ} → Asks row dead notes line end node at
+pub asks-bit-again : {m : Marks} {row : List Node} {line part : Bytes} {end node at : ℕ} {dead dead1 : Bytes} {notes notes1 notes2 : List ℕ} {u : ℕ} {x : ℕ} → Asks row dead notes line end node at
     → TakenUp m row part node at dead dead1 notes1 notes2 u → x ≡ node * (end + 1) + at → length dead1 ≡ length dead → x / 8 < length dead1
 asks-bit-again a h e l = omega (arith, asks-bit a e, l)
 
@@ -272,10 +271,10 @@ module _ {row : List Node} {count : ℕ} {dead line : Bytes} {end : ℕ} (f : Fi
         h .none (i * suc end + p) (omega (arith, mul-le-mul-right {m = suc i} {n = count} (end + 1) li, suc-mul i (end + 1), w, lp))
 
     -- and the search can start
-    pub asks-root : {notes : List ℕ} → length dead1 ≡ length dead → length notes ≡ 20 → Asks row dead1 notes line end 0 0
+    pub asks-root : {notes : List ℕ} → length dead1 ≡ length dead → length notes ≡ 21 → Asks row dead1 notes line end 0 0
     asks-root l k =
         let w : count * suc end ≡ count * (end + 1) = ap (λ (n : ℕ). count * n) (omega arith) in
-        record { made = count; stands = f .stands; there = f .root; low = omega arith; high = f .high; few = f .few; short = f .short; room = omega (arith, clear-fits, l, w); twenty = k }
+        record { made = count; stands = f .stands; there = f .root; low = omega arith; high = f .high; few = f .few; short = f .short; room = omega (arith, clear-fits, l, w); all-notes = k }
 
     -- for the line that is searched, too
     pub none-dead-front : HoldsDead (length (take count row)) (suc (length (take end line))) dead1 []

@@ -1,4 +1,4 @@
--- What the code's outcome says of what a search comes to, and what the lent rows hold then.
+-- What a search's answer and the lent notes say of what it comes to, and what the row of dead places holds then.
 use mathlib.Core.Path.{_≡_}
 use mathlib.Core.List.{List, [], _∷_, map}
 use mathlib.Core.Option.{Option, none, some}
@@ -12,21 +12,6 @@ use Rattle.model.specs.Places.{Found, Place, isIn, Tried, orTry, tryByte, tryPi
 use Rattle.nodes.specs.declared.Node.{Node}
 use Rattle.nodes.specs.Rows.{kid, holey, height, holes, Stands}
 use Rattle.places.specs.Bits.{bit}
-use Rattle.fit.specs.declared.Outcome.{Outcome}
-
--- ---- outcomes as the code makes them
-
--- at a node with no piece
-abbrev pub blank : ℕ → Outcome
-blank j = record { node = j; rest = 0 }
-
--- where the open piece starts: nothing is left of it
-abbrev pub closePiece : Outcome → Outcome
-closePiece o = record { node = o .node; rest = 0 }
-
--- with n bytes more in the open piece
-abbrev pub passAtom : ℕ → Outcome → Outcome
-passAtom n o = record { node = o .node; rest = o .rest + n }
 
 -- ---- the element that leads on
 
@@ -39,7 +24,7 @@ elementOf (b ∷ s) = lit b
 abbrev pub elementAt : Bytes → ℕ → Elem
 elementAt line at = elementOf (drop at line)
 
--- ---- the lent notes: nine starts and nine lengths of pieces, a count of places and one of bytes
+-- ---- the lent notes: nine starts and nine lengths of pieces, a count of places and one of bytes, and what is left of the open piece
 
 abbrev pub piecesIn : List ℕ → List ℕ
 piecesIn ns = take 18 ns
@@ -49,6 +34,9 @@ placesIn ns = getD ns 18 0
 
 abbrev pub bytesIn : List ℕ → ℕ
 bytesIn ns = getD ns 19 0
+
+abbrev pub restIn : List ℕ → ℕ
+restIn ns = getD ns 20 0
 
 -- the same as words of 64 bits, which is all that a sum that may wrap tells
 abbrev pub SameWord : ℕ → ℕ → Type 0
@@ -74,11 +62,21 @@ withPieces k [] ls ps = ps
 withPieces k (s ∷ ss) [] ps = ps
 withPieces k (s ∷ ss) (l ∷ ls) ps = withPieceAt k s l (withPieces (k + 1) ss ls ps)
 
--- what store_piece does
-pub record StoresPiece (k at : ℕ) (o : Outcome) (ns ns′ : List ℕ) (r : Outcome) : Type 0 where
-  pub stored : piecesIn ns′ ≡ withPieceAt k at (o .rest) (piecesIn ns)
+-- piece k is stored, and no piece is open before it
+pub record StoresPiece (k at : ℕ) (ns ns′ : List ℕ) : Type 0 where
+  pub stored : piecesIn ns′ ≡ withPieceAt k at (restIn ns) (piecesIn ns)
   pub counted : Counted 0 0 ns ns′
-  pub is : r ≡ closePiece o
+  pub closed : restIn ns′ ≡ 0
+
+-- the open piece has n bytes more
+pub record PassesAtom (n : ℕ) (ns ns′ : List ℕ) : Type 0 where
+  pub counts : Counts 0 0 ns ns′
+  pub longer : restIn ns′ ≡ restIn ns + n
+
+-- a place is counted, and no piece is open
+pub record EndsTemplate (ns ns′ : List ℕ) : Type 0 where
+  pub counts : Counts 1 0 ns ns′
+  pub ended : restIn ns′ ≡ 0
 
 -- where the pieces of r start, if r starts at place `at`
 unfoldable pub startsIn : ℕ → List ReadingPart → List ℕ
@@ -90,17 +88,17 @@ startsIn at (piece p ∷ r) = at ∷ startsIn (at + length p) r
 abbrev pub lensIn : List ReadingPart → List ℕ
 lensIn r = map (λ p. length p) (pieces r)
 
--- ---- what an outcome says
+-- ---- what an answer says
 
--- the outcome o says what is found from place `at` on, with k pieces before; where nothing is found, no piece is stored
-abbrev pub Told : (k at : ℕ) → Option Found → Outcome → (ps ps′ : List ℕ) → Type 0
-Told k at none o ps ps′ = (o .node ≡ 0) × (ps′ ≡ ps)
-Told k at (some f) o ps ps′ = (0 < o .node) × (o .node ≡ f .node) × (o .rest ≡ length (f .rest))
-    × (ps′ ≡ withPieces k (startsIn (at + length (f .rest)) (f .parts)) (lensIn (f .parts)) ps)
+-- the answer r and the notes say what is found from place `at` on, with k pieces before; where nothing is found, r is 0 and no piece is stored
+abbrev pub Told : (k at : ℕ) → Option Found → (r : ℕ) (ns ns′ : List ℕ) → Type 0
+Told k at none r ns ns′ = (r ≡ 0) × (piecesIn ns′ ≡ piecesIn ns)
+Told k at (some f) r ns ns′ = (0 < r) × (r ≡ f .node) × (restIn ns′ ≡ length (f .rest))
+    × (piecesIn ns′ ≡ withPieces k (startsIn (at + length (f .rest)) (f .parts)) (lensIn (f .parts)) (piecesIn ns))
 
 -- and how many places were taken up, and bytes read
-pub record Says (k at : ℕ) (t : Tried) (o : Outcome) (ns ns′ : List ℕ) : Type 0 where
-  pub told : Told k at (t .found) o (piecesIn ns) (piecesIn ns′)
+pub record Says (k at : ℕ) (t : Tried) (r : ℕ) (ns ns′ : List ℕ) : Type 0 where
+  pub told : Told k at (t .found) r ns ns′
   pub counted : Counted (length (t .taken)) (t .bytes) ns ns′
 
 -- ---- dead places
@@ -118,12 +116,12 @@ pub record Lent : Type 0 where
   pub notes : List ℕ
   pub notes′ : List ℕ
 
--- the outcome from the node and place `at` on, for any fuel from b on and any dead places that the row holds, and those that it holds then
-pub record Outcomes (rows : List Node) (line : Bytes) (node at b : ℕ) (step : ℕ → List Place → Tried) (x : Lent) (o : Outcome) : Type 0 where
+-- the answer from the node and place `at` on, for any fuel from b on and any dead places that the row holds, and those that it holds then
+pub record Outcomes (rows : List Node) (line : Bytes) (node at b : ℕ) (step : ℕ → List Place → Tried) (x : Lent) (r : ℕ) : Type 0 where
   pub says : (n : ℕ) → b ≤ n → (ds : List Place) → HoldsDead (length rows) (suc (length line)) (x .dead) ds
-      → Says (holes rows node) at (step n ds) o (x .notes) (x .notes′) × HoldsDead (length rows) (suc (length line)) (x .dead′) (step n ds .dead)
-  pub short : o .rest ≤ length line - at
-  pub there : o .node < length rows
+      → Says (holes rows node) at (step n ds) r (x .notes) (x .notes′) × HoldsDead (length rows) (suc (length line)) (x .dead′) (step n ds .dead)
+  pub short : ¬ (r ≡ 0) → restIn (x .notes′) ≤ length line - at
+  pub there : r < length rows
 
 -- what is left of template and line
 abbrev pub sizeIn : List Node → Bytes → ℕ → ℕ → ℕ
@@ -152,7 +150,7 @@ module _ (m : Marks) (rows : List Node) (line : Bytes) (node at n : ℕ) where
 -- ---- in a row at whose front a tree stands
 
 -- the node is one of such a tree's, the place lies in the first `end` bytes of the line, the row `dead` has a bit for each place, and there are
--- twenty notes
+-- 21 notes
 pub record Asks (row : List Node) (dead : Bytes) (notes : List ℕ) (line : Bytes) (end node at : ℕ) : Type 0 where
   pub made : ℕ
   pub stands : Stands row made
@@ -162,31 +160,31 @@ pub record Asks (row : List Node) (dead : Bytes) (notes : List ℕ) (line : Byte
   pub few : made ≤ nodesMost
   pub short : end ≤ lineMost
   pub room : made * suc end ≤ 8 * length dead
-  pub twenty : length notes ≡ 20
+  pub all-notes : length notes ≡ 21
 
--- the outcome, whatever tree it is
-pub record Comes (row : List Node) (line : Bytes) (node at : ℕ) (fuel : List Node → ℕ) (step : List Node → ℕ → List Place → Tried) (x : Lent) (o : Outcome) : Type 0 where
-  pub each : (made : ℕ) → Stands row made → node < made → Outcomes (take made row) line node at (fuel (take made row)) (step (take made row)) x o
+-- the answer, whatever tree it is
+pub record Comes (row : List Node) (line : Bytes) (node at : ℕ) (fuel : List Node → ℕ) (step : List Node → ℕ → List Place → Tried) (x : Lent) (r : ℕ) : Type 0 where
+  pub each : (made : ℕ) → Stands row made → node < made → Outcomes (take made row) line node at (fuel (take made row)) (step (take made row)) x r
 
 -- of the search
-pub record SearchedIn (m : Marks) (row : List Node) (line : Bytes) (node at : ℕ) (dead dead′ : Bytes) (notes notes′ : List ℕ) (o : Outcome) : Type 0 where
+pub record SearchedIn (m : Marks) (row : List Node) (line : Bytes) (node at : ℕ) (dead dead′ : Bytes) (notes notes′ : List ℕ) (r : ℕ) : Type 0 where
   pub comes : Comes row line node at (λ rows. suc (sizeIn rows line node at)) (λ rows n. placeTried m rows line node at n)
-      (record { dead = dead; dead′ = dead′; notes = notes; notes′ = notes′ }) o
+      (record { dead = dead; dead′ = dead′; notes = notes; notes′ = notes′ }) r
 
 -- of its three steps
-pub record ByteSearched (m : Marks) (row : List Node) (line : Bytes) (node at : ℕ) (dead dead′ : Bytes) (notes notes′ : List ℕ) (o : Outcome) : Type 0 where
+pub record ByteSearched (m : Marks) (row : List Node) (line : Bytes) (node at : ℕ) (dead dead′ : Bytes) (notes notes′ : List ℕ) (r : ℕ) : Type 0 where
   pub comes : Comes row line node at (λ rows. sizeIn rows line node at) (λ rows n. byteStep m rows line node at n)
-      (record { dead = dead; dead′ = dead′; notes = notes; notes′ = notes′ }) o
+      (record { dead = dead; dead′ = dead′; notes = notes; notes′ = notes′ }) r
 
-pub record PieceSearched (m : Marks) (row : List Node) (line : Bytes) (node at : ℕ) (dead dead′ : Bytes) (notes notes′ : List ℕ) (o : Outcome) : Type 0 where
+pub record PieceSearched (m : Marks) (row : List Node) (line : Bytes) (node at : ℕ) (dead dead′ : Bytes) (notes notes′ : List ℕ) (r : ℕ) : Type 0 where
   pub comes : Comes row line node at (λ rows. sizeIn rows line node at) (λ rows n. pieceStep m rows line node at n)
-      (record { dead = dead; dead′ = dead′; notes = notes; notes′ = notes′ }) o
+      (record { dead = dead; dead′ = dead′; notes = notes; notes′ = notes′ }) r
 
-pub record AtomSearched (m : Marks) (row : List Node) (line : Bytes) (node at : ℕ) (dead dead′ : Bytes) (notes notes′ : List ℕ) (o : Outcome) : Type 0 where
+pub record AtomSearched (m : Marks) (row : List Node) (line : Bytes) (node at : ℕ) (dead dead′ : Bytes) (notes notes′ : List ℕ) (r : ℕ) : Type 0 where
   pub comes : Comes row line node at (λ rows. sizeIn rows line node at) (λ rows n. atomStep m rows line node at n)
-      (record { dead = dead; dead′ = dead′; notes = notes; notes′ = notes′ }) o
+      (record { dead = dead; dead′ = dead′; notes = notes; notes′ = notes′ }) r
 
 -- and of all of them
-pub record TakenUp (m : Marks) (row : List Node) (line : Bytes) (node at : ℕ) (dead dead′ : Bytes) (notes notes′ : List ℕ) (o : Outcome) : Type 0 where
+pub record TakenUp (m : Marks) (row : List Node) (line : Bytes) (node at : ℕ) (dead dead′ : Bytes) (notes notes′ : List ℕ) (r : ℕ) : Type 0 where
   pub comes : Comes row line node at (λ rows. sizeIn rows line node at) (λ rows n. allSteps m rows line node at n)
-      (record { dead = dead; dead′ = dead′; notes = notes; notes′ = notes′ }) o
+      (record { dead = dead; dead′ = dead′; notes = notes; notes′ = notes′ }) r

@@ -8,7 +8,7 @@ ghost use lib.ListN.{length, take};
 ghost use Rattle.model.specs.Limits.{lineMost, nodesMost};
 ghost use Rattle.atom.specs.Atoms.{brackets, AtomAt};
 ghost use Rattle.nodes.specs.Rows.{code};
-ghost use Rattle.fit.specs.Outcome.{blank, StoresPiece, passAtom, Counts, elementAt, Asks, SearchedIn, TakenUp, ByteSearched, PieceSearched, AtomSearched};
+ghost use Rattle.fit.specs.Outcome.{restIn, StoresPiece, PassesAtom, EndsTemplate, Counts, elementAt, Asks, SearchedIn, TakenUp, ByteSearched, PieceSearched, AtomSearched};
 ghost use Rattle.fit.specs.Chosen.{noChoice, choiceOf, Makes, Fits, Chooses};
 use atom::Scanned;
 use model::Marks;
@@ -18,55 +18,47 @@ use places::is_dead;
 use places::set_dead;
 use std::num::wrapping_add_usize;
 
-// The lent notes of a search: nine starts and nine lengths of pieces, how many places were taken up, and how many bytes were read where the
-// next atom was looked for. What is counted there need not be handed back and added up at every place.
-const NOTES: usize = 20;
+// The lent notes of a search: nine starts and nine lengths of pieces, how many places were taken up, how many bytes were read where the next
+// atom was looked for, and where something is found the length of what is left of the piece that is open where the search starts. So a search
+// answers one number, and nothing is handed back and added up at every place.
+const NOTES: usize = 21;
 
 const PLACES: usize = 18;
 
 const BYTES: usize = 19;
 
-// What a search finds: the node of the template's end, 0 where there is none; and the length of what is left of the piece that is open
-// where the search starts. The pieces that are opened later go to the notes.
-pub struct Outcome {
-    pub node: usize,
-    pub rest: usize,
-}
-
-// The outcome at a node with no piece.
-fn no_piece(node: usize) -> Outcome
-    ensures { λ r. ⌜ r ≡ blank node ⌝ }
-{
-    Outcome { node, rest: 0 }
-}
+const REST: usize = 20;
 
 // Piece k starts at a place: what is left of it is all of it.
-fn store_piece(notes: &mut [usize], k: usize, at: usize, o: Outcome) -> Outcome
-    requires { ⌜ (k < 9) × (length (now notes) ≡ 20) ⌝ }
-    ensures { λ r. ⌜ StoresPiece k at o (now (notes .entry)) (now (notes .exit)) r ⌝ }
+fn store_piece(notes: &mut [usize], k: usize, at: usize)
+    requires { ⌜ (k < 9) × (length (now notes) ≡ 21) ⌝ }
+    ensures { λ _. ⌜ StoresPiece k at (now (notes .entry)) (now (notes .exit)) ⌝ }
 {
     notes[k] = at;
-    notes[k + 9] = o.rest;
-    Outcome {
-        node: o.node,
-        rest: 0,
-    }
+    notes[k + 9] = notes[REST];
+    notes[REST] = 0;
 }
 
-// The outcome with an atom of n bytes more in the open piece.
-fn pass_atom(o: Outcome, n: usize) -> Outcome
-    requires { ⌜ o .rest + n < 2 ^ 64 ⌝ }
-    ensures { λ r. ⌜ r ≡ passAtom n o ⌝ }
+// The open piece has an atom of n bytes more.
+fn pass_atom(notes: &mut [usize], n: usize)
+    requires { ⌜ (length (now notes) ≡ 21) × (restIn (now notes) + n < 2 ^ 64) ⌝ }
+    ensures { λ _. ⌜ PassesAtom n (now (notes .entry)) (now (notes .exit)) ⌝ }
 {
-    Outcome {
-        node: o.node,
-        rest: o.rest + n,
-    }
+    notes[REST] = notes[REST] + n;
+}
+
+// A template ends: its place is taken up, and no piece is open.
+fn end_template(notes: &mut [usize])
+    requires { ⌜ length (now notes) ≡ 21 ⌝ }
+    ensures { λ _. ⌜ EndsTemplate (now (notes .entry)) (now (notes .exit)) ⌝ }
+{
+    count_place(notes);
+    notes[REST] = 0;
 }
 
 // A place is taken up. That no count comes near 2^64 is known of a whole search alone (Few); here it may wrap.
 fn count_place(notes: &mut [usize])
-    requires { ⌜ length (now notes) ≡ 20 ⌝ }
+    requires { ⌜ length (now notes) ≡ 21 ⌝ }
     ensures { λ _. ⌜ Counts 1 0 (now (notes .entry)) (now (notes .exit)) ⌝ }
 {
     notes[PLACES] = wrapping_add_usize(notes[PLACES], 1);
@@ -74,7 +66,7 @@ fn count_place(notes: &mut [usize])
 
 // So many bytes were read.
 fn count_bytes(notes: &mut [usize], n: usize)
-    requires { ⌜ length (now notes) ≡ 20 ⌝ }
+    requires { ⌜ length (now notes) ≡ 21 ⌝ }
     ensures { λ _. ⌜ Counts 0 n (now (notes .entry)) (now (notes .exit)) ⌝ }
 {
     notes[BYTES] = wrapping_add_usize(notes[BYTES], n);
@@ -120,18 +112,18 @@ fn search(
     end: usize,
     node: usize,
     at: usize,
-) -> Outcome
+) -> usize
     requires { ⌜ Asks (now nodes) (now dead) (now notes) (now line) end node at ⌝ }
     ensures { λ r. ⌜ SearchedIn (brackets left right) (now (nodes .entry)) (take end (now (line .entry))) node at
         (now (dead .entry)) (now (dead .exit)) (now (notes .entry)) (now (notes .exit)) r ⌝ }
 {
     let place = number_place(end, node, at);
     if is_dead(dead, place) {
-        return no_piece(0);
+        return 0;
     }
     count_place(notes);
     let found = take_up(left, right, nodes, dead, notes, line, end, node, at);
-    if found.node == 0 {
+    if found == 0 {
         set_dead(dead, place);
     }
     found
@@ -148,17 +140,17 @@ fn take_up(
     end: usize,
     node: usize,
     at: usize,
-) -> Outcome
+) -> usize
     requires { ⌜ Asks (now nodes) (now dead) (now notes) (now line) end node at ⌝ }
     ensures { λ r. ⌜ TakenUp (brackets left right) (now (nodes .entry)) (take end (now (line .entry))) node at
         (now (dead .entry)) (now (dead .exit)) (now (notes .entry)) (now (notes .exit)) r ⌝ }
 {
     let byte = search_byte(left, right, nodes, dead, notes, line, end, node, at);
-    if byte.node != 0 {
+    if byte != 0 {
         return byte;
     }
     let piece = search_piece(left, right, nodes, dead, notes, line, end, node, at);
-    if piece.node != 0 {
+    if piece != 0 {
         return piece;
     }
     search_atom(left, right, nodes, dead, notes, line, end, node, at)
@@ -175,18 +167,18 @@ fn search_byte(
     end: usize,
     node: usize,
     at: usize,
-) -> Outcome
+) -> usize
     requires { ⌜ Asks (now nodes) (now dead) (now notes) (now line) end node at ⌝ }
     ensures { λ r. ⌜ ByteSearched (brackets left right) (now (nodes .entry)) (take end (now (line .entry))) node at
         (now (dead .entry)) (now (dead .exit)) (now (notes .entry)) (now (notes .exit)) r ⌝ }
 {
     let c = nodes::child(nodes, node, element_at(line, end, at));
     if c == 0 {
-        return no_piece(0);
+        return 0;
     }
     if at == end {
-        count_place(notes);
-        return no_piece(c);
+        end_template(notes);
+        return c;
     }
     search(left, right, nodes, dead, notes, line, end, c, at + 1)
 }
@@ -202,21 +194,22 @@ fn search_piece(
     end: usize,
     node: usize,
     at: usize,
-) -> Outcome
+) -> usize
     requires { ⌜ Asks (now nodes) (now dead) (now notes) (now line) end node at ⌝ }
     ensures { λ r. ⌜ PieceSearched (brackets left right) (now (nodes .entry)) (take end (now (line .entry))) node at
         (now (dead .entry)) (now (dead .exit)) (now (notes .entry)) (now (notes .exit)) r ⌝ }
 {
     let c = nodes::child(nodes, node, 1);
     if c == 0 {
-        return no_piece(0);
+        return 0;
     }
     let piece = search(left, right, nodes, dead, notes, line, end, c, at);
-    if piece.node == 0 {
-        return piece;
+    if piece == 0 {
+        return 0;
     }
     let n = nodes::node_at(nodes, node);
-    store_piece(notes, nodes::holes_of(n), at, piece)
+    store_piece(notes, nodes::holes_of(n), at);
+    piece
 }
 
 // An atom more in the open piece, if the node is a placeholder's.
@@ -230,22 +223,26 @@ fn search_atom(
     end: usize,
     node: usize,
     at: usize,
-) -> Outcome
+) -> usize
     requires { ⌜ Asks (now nodes) (now dead) (now notes) (now line) end node at ⌝ }
     ensures { λ r. ⌜ AtomSearched (brackets left right) (now (nodes .entry)) (take end (now (line .entry))) node at
         (now (dead .entry)) (now (dead .exit)) (now (notes .entry)) (now (notes .exit)) r ⌝ }
 {
     if !nodes::has_element(nodes::node_at(nodes, node), 1) {
-        return no_piece(0);
+        return 0;
     }
     let next = find_atom(left, right, line, end, at);
     count_bytes(notes, next.read);
     let past = next.end;
     if past == 0 {
-        return no_piece(0);
+        return 0;
     }
     let longer = search(left, right, nodes, dead, notes, line, end, node, past);
-    pass_atom(longer, past - at)
+    if longer == 0 {
+        return 0;
+    }
+    pass_atom(notes, past - at);
+    longer
 }
 
 // What a line is: a call of a template, with where each piece starts and its length, or no call; how many places were taken up; and how
@@ -261,7 +258,7 @@ pub struct Choice {
 
 // No call, after a search with these notes.
 fn no_choice(notes: &[usize]) -> Choice
-    requires { ⌜ length (now notes) ≡ 20 ⌝ }
+    requires { ⌜ length (now notes) ≡ 21 ⌝ }
     ensures { λ r. ⌜ Makes (noChoice (now (notes .entry))) r ⌝ }
 {
     Choice {
@@ -284,7 +281,7 @@ fn copy_nine(a: &[usize]) -> [usize; 9]
 
 // The call of a template, after a search with these notes.
 fn make_choice(notes: &[usize], template: usize) -> Choice
-    requires { ⌜ length (now notes) ≡ 20 ⌝ }
+    requires { ⌜ length (now notes) ≡ 21 ⌝ }
     ensures { λ r. ⌜ Makes (choiceOf (now (notes .entry)) template) r ⌝ }
 {
     Choice {
@@ -314,11 +311,10 @@ pub fn first_reading(
     let mut notes = [0usize; NOTES];
     let left = m.left;
     let right = m.right;
-    let found = search(left, right, nodes, dead, &mut notes, line, end, 0, 0);
-    let j = found.node;
-    if j == 0 {
+    let node = search(left, right, nodes, dead, &mut notes, line, end, 0, 0);
+    if node == 0 {
         return no_choice(&notes);
     }
-    let n = nodes::node_at(nodes, j);
+    let n = nodes::node_at(nodes, node);
     make_choice(&notes, nodes::template_of(n))
 }

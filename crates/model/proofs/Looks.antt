@@ -1,10 +1,10 @@
 -- The bytes of a look for the next atom, case by case, and that a search reads no more bytes than it takes up places times the line's length.
 -- The laws: look-end, look-atom, look-right, look-open, look-most, few-bytes.
-use mathlib.Core.Path.{_≡_, refl, sym, _∙_, ap}
+use mathlib.Core.Path.{_≡_, refl, _∙_, ap}
 use mathlib.Core.Bool.{Bool, true, false}
 use mathlib.Core.List.{List, [], _∷_, _++_}
 use mathlib.Core.Option.{Option, none, some}
-use Prim.Native.Nat.{ℕ, zero, suc, _+_, _*_, _≤_, _<_}
+use Prim.Native.Nat.{ℕ, zero, suc, _+_, _*_, _≤_}
 use native.Mathlib.Nat.{suc-mul, add-mul}
 use native.Mathlib.Omega.{arith}
 use lib.Dec.{eqb}

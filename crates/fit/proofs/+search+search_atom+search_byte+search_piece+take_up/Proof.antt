@@ -50,12 +50,10 @@ use Rattle.walk_laws.proofs.Again as Again
 use borrow.Author.Tests.{not-true, not-false}
 use Rattle.nodes.specs.Rows.{height}
 use Rattle.fit.proofs.Steps.{asks-node, asks-children, asks-number, asks-bit, asks-again, asks-byte, asks-piece, asks-atom, byte-less, piece-less, atom-less, piece-fits, atom-before, atom-fits}
-use Rattle.fit.proofs.Steps.{byte-none, byte-end, byte-below, piece-none, piece-below, piece-nowhere, atom-not, atom-none, atom-below}
+use Rattle.fit.proofs.Steps.{byte-none, byte-end, byte-below, piece-none, piece-below, piece-nowhere, atom-not, atom-none, atom-below, atom-nowhere}
 use Rattle.fit.proofs.Taken.{asks-second, first-found, second-found, third-found, asks-bit-again, was-dead, leads-on, leads-nowhere}
 use Rattle.atom.proofs.Scanned as Scanned-T
 use Rattle.atom.proofs.Scanned.Laws as Scanned-L
-use Rattle.fit.proofs.Outcome as Outcome-T
-use Rattle.fit.proofs.Outcome.Laws as Outcome-L
 use Rattle.nodes.specs.declared.Node.{Node}
 use Rattle.nodes.proofs.Node as Node-T
 use Rattle.nodes.proofs.Node.Laws as Node-L
@@ -67,10 +65,6 @@ use Rattle.places.proofs.is_dead as g-is-dead
 use Rattle.places.proofs.is_dead.Symbol as g-is-dead-def
 use Rattle.places.proofs.is_dead.Symbol.{name as #g-is-dead}
 use Rattle.places.proofs.is_dead.Met as g-is-dead-thm
-use Rattle.fit.proofs.no_piece as g-no-piece
-use Rattle.fit.proofs.no_piece.Symbol as g-no-piece-def
-use Rattle.fit.proofs.no_piece.Symbol.{name as #g-no-piece}
-use Rattle.fit.proofs.no_piece.Met as g-no-piece-thm
 use Rattle.fit.proofs.count_place as g-count-place
 use Rattle.fit.proofs.count_place.Symbol as g-count-place-def
 use Rattle.fit.proofs.count_place.Symbol.{name as #g-count-place}
@@ -107,6 +101,10 @@ use Rattle.nodes.proofs.child as g-child
 use Rattle.nodes.proofs.child.Symbol as g-child-def
 use Rattle.nodes.proofs.child.Symbol.{name as #g-child}
 use Rattle.nodes.proofs.child.Met as g-child-thm
+use Rattle.fit.proofs.end_template as g-end-template
+use Rattle.fit.proofs.end_template.Symbol as g-end-template-def
+use Rattle.fit.proofs.end_template.Symbol.{name as #g-end-template}
+use Rattle.fit.proofs.end_template.Met as g-end-template-thm
 use Rattle.nodes.proofs.holes_of as g-holes-of
 use Rattle.nodes.proofs.holes_of.Symbol as g-holes-of-def
 use Rattle.nodes.proofs.holes_of.Symbol.{name as #g-holes-of}
@@ -230,8 +228,7 @@ module _ {M : Type 1} (𝓤 : URA M) (H : Heap 𝓤) (A : Atoms 𝓤) (W : Given
 
   module _ (C : Calls 𝓤 H) (Λ : Loops 𝓤 H) (fm : FmC 𝓤 H (W .laws) C) (known-number-place : Triple 𝓤 (C #g-number-place)
       (Walk.Of 𝓤 H A g-number-place.ended (g-number-place.clauses 𝓤 H A mem run))) (known-is-dead : Triple 𝓤 (C #g-is-dead)
-      (Walk.Of 𝓤 H A g-is-dead.ended (g-is-dead.clauses 𝓤 H A mem run))) (known-no-piece : Triple 𝓤 (C #g-no-piece)
-      (Walk.Of 𝓤 H A g-no-piece.ended (g-no-piece.clauses 𝓤 H A mem run))) (known-count-place : Triple 𝓤 (C #g-count-place)
+      (Walk.Of 𝓤 H A g-is-dead.ended (g-is-dead.clauses 𝓤 H A mem run))) (known-count-place : Triple 𝓤 (C #g-count-place)
       (Walk.Of 𝓤 H A g-count-place.ended (g-count-place.clauses 𝓤 H A mem run))) (known-set-dead : Triple 𝓤 (C #g-set-dead)
       (Walk.Of 𝓤 H A g-set-dead.ended (g-set-dead.clauses 𝓤 H A mem run)))
       (known-search : (y : Walk.Of 𝓤 H A f-search.ended (f-search.clauses 𝓤 H A mem run) .Ghost)
@@ -285,9 +282,9 @@ module _ {M : Type 1} (𝓤 : URA M) (H : Heap 𝓤) (A : Atoms 𝓤) (W : Given
         l₁₃ ∷ l₁₄ ∷ l₁₅ ∷ l₁₆ ∷ l₁₇ ∷ l₁₈ ∷ l₁₉ ∷ l₂₀ ∷ l₂₁ ∷ l₂₂ ∷ l₂₃ ∷ l₂₄ ∷ l₂₅ ∷ []) in
         Walk.move ! (50 ∷ 50 ∷ 48 ∷ 48 ∷ 46 ∷ 46 ∷ 44 ∷ 44 ∷ 42 ∷ 42 ∷ 40 ∷ 40 ∷ 38 ∷ 38 ∷ 36 ∷ 36 ∷ 34 ∷ 34 ∷ 32 ∷ 32 ∷ 30 ∷ 30 ∷ 28 ∷ 28 ∷ 26 ∷
         26 ∷ 24 ∷ 24 ∷ 22 ∷ 22 ∷ 20 ∷ 20 ∷ 18 ∷ 18 ∷ 16 ∷ 16 ∷ 14 ∷ 14 ∷ 12 ∷ 12 ∷ 10 ∷ 10 ∷ 8 ∷ 8 ∷ 6 ∷ 6 ∷ 4 ∷ 4 ∷ 2 ∷ 2 ∷ 0 ∷ 0 ∷ []) (
-        Walk.gathers ! (Walk.bare Outcome-L.mir l₀ ∷ Walk.bare (tyInt w8) l₁ ∷ Walk.bare (tyInt w8) l₂ ∷ Walk.bare Y-search-nodes l₃ ∷
+        Walk.gathers ! (Walk.bare (tyInt w64) l₀ ∷ Walk.bare (tyInt w8) l₁ ∷ Walk.bare (tyInt w8) l₂ ∷ Walk.bare Y-search-nodes l₃ ∷
         Walk.bare Y-search-dead l₄ ∷ Walk.bare Y-search-notes l₅ ∷ Walk.bare Y-search-line l₆ ∷ Walk.bare (tyInt w64) l₇ ∷
-        Walk.bare (tyInt w64) l₈ ∷ Walk.bare (tyInt w64) l₉ ∷ Walk.bare (tyInt w64) l₁₀ ∷ Walk.bare Outcome-L.mir l₁₁ ∷ Walk.bare tyBool l₁₂ ∷
+        Walk.bare (tyInt w64) l₈ ∷ Walk.bare (tyInt w64) l₉ ∷ Walk.bare (tyInt w64) l₁₀ ∷ Walk.bare (tyInt w64) l₁₁ ∷ Walk.bare tyBool l₁₂ ∷
         Walk.bare (tyRef erased imm (pointee ((UInt w8) .written))) l₁₃ ∷
         Walk.bare (sliceTy (tyRef erased imm (pointee ((UInt w8) .written)))) l₁₄ ∷ Walk.bare tyUnit l₁₅ ∷
         Walk.bare (tyRef erased mut (pointee ((UInt w64) .written))) l₁₆ ∷
@@ -322,13 +319,13 @@ module _ {M : Type 1} (𝓤 : URA M) (H : Heap 𝓤) (A : Atoms 𝓤) (W : Given
         Walk.tokens-out W ([]) ! (id⊢ 𝓤 _) (
         Walk.lands-in ! (Walk.init-as ! 10 refl (uint-lawful 𝓤 H A W w64 .typed r1 _ is1′ .0) (ap only (uint-tells w64 r1 _ is1′))) (
         let is1 : Is (UInt w64) r1 ((vint w64 r1) ∷ []) = subst (λ (vs : List Val). Is (UInt w64) r1 vs) (uint-tells w64 r1 _ is1′) is1′ in
-        Walk.written-out ! (‵ (froom Outcome-L.mir l₀ 0) ∷ ‵ (fat fullShare (tyInt w8) l₁ 0 (vint w8 left)) ∷
+        Walk.written-out ! (‵ (froom (tyInt w64) l₀ 0) ∷ ‵ (fat fullShare (tyInt w8) l₁ 0 (vint w8 left)) ∷
         ‵ (fat fullShare (tyInt w8) l₂ 0 (vint w8 right)) ∷ ‵ (fat fullShare Y-search-nodes l₃ 0 (sliceVal (nodes .ptr) (length (nodes .now)))) ∷
         ‵ (fat fullShare Y-search-dead l₄ 0 (sliceVal (dead .ptr) (length (dead .now)))) ∷
         ‵ (fat fullShare Y-search-notes l₅ 0 (sliceVal (notes .ptr) (length (notes .now)))) ∷
         ‵ (fat fullShare Y-search-line l₆ 0 (sliceVal (line .ptr) (length (line .now)))) ∷ ‵ (fat fullShare (tyInt w64) l₇ 0 (vint w64 end)) ∷
         ‵ (fat fullShare (tyInt w64) l₈ 0 (vint w64 node)) ∷ ‵ (fat fullShare (tyInt w64) l₉ 0 (vint w64 at)) ∷
-        ‵ (fat fullShare (tyInt w64) l₁₀ 0 (vint w64 r1)) ∷ ‵ (froom Outcome-L.mir l₁₁ 0) ∷ ‵ (froom tyBool l₁₂ 0) ∷
+        ‵ (fat fullShare (tyInt w64) l₁₀ 0 (vint w64 r1)) ∷ ‵ (froom (tyInt w64) l₁₁ 0) ∷ ‵ (froom tyBool l₁₂ 0) ∷
         ‵ (froom (tyRef erased imm (pointee ((UInt w8) .written))) l₁₃ 0) ∷
         ‵ (froom (sliceTy (tyRef erased imm (pointee ((UInt w8) .written)))) l₁₄ 0) ∷ ‵ (froom tyUnit l₁₅ 0) ∷
         ‵ (froom (tyRef erased mut (pointee ((UInt w64) .written))) l₁₆ 0) ∷
@@ -362,13 +359,13 @@ module _ {M : Type 1} (𝓤 : URA M) (H : Heap 𝓤) (A : Atoms 𝓤) (W : Given
         Walk.lands-in ! (Walk.init-as ! 14 refl (bool-lawful 𝓤 H A W .typed r2 _ is2′ .0) (ap only (bool-tells r2 _ is2′))) (
         let is2 : Is Boolean r2 ((vbool r2) ∷ []) = subst (λ (vs : List Val). Is Boolean r2 vs) (bool-tells r2 _ is2′) is2′ in
         Walk.written-out ! (‵ (T-search-dead .own dead (sliceVal (dead .ptr) (length (dead .now)) ∷ [])) ∷ ‵ (flft κ₁ q₁) ∷
-        ‵ (froom Outcome-L.mir l₀ 0) ∷ ‵ (fat fullShare (tyInt w8) l₁ 0 (vint w8 left)) ∷ ‵ (fat fullShare (tyInt w8) l₂ 0 (vint w8 right)) ∷
+        ‵ (froom (tyInt w64) l₀ 0) ∷ ‵ (fat fullShare (tyInt w8) l₁ 0 (vint w8 left)) ∷ ‵ (fat fullShare (tyInt w8) l₂ 0 (vint w8 right)) ∷
         ‵ (fat fullShare Y-search-nodes l₃ 0 (sliceVal (nodes .ptr) (length (nodes .now)))) ∷
         ‵ (fat fullShare Y-search-dead l₄ 0 (sliceVal (dead .ptr) (length (dead .now)))) ∷
         ‵ (fat fullShare Y-search-notes l₅ 0 (sliceVal (notes .ptr) (length (notes .now)))) ∷
         ‵ (fat fullShare Y-search-line l₆ 0 (sliceVal (line .ptr) (length (line .now)))) ∷ ‵ (fat fullShare (tyInt w64) l₇ 0 (vint w64 end)) ∷
         ‵ (fat fullShare (tyInt w64) l₈ 0 (vint w64 node)) ∷ ‵ (fat fullShare (tyInt w64) l₉ 0 (vint w64 at)) ∷
-        ‵ (fat fullShare (tyInt w64) l₁₀ 0 (vint w64 r1)) ∷ ‵ (froom Outcome-L.mir l₁₁ 0) ∷ ‵ (fat fullShare tyBool l₁₂ 0 (vbool r2)) ∷
+        ‵ (fat fullShare (tyInt w64) l₁₀ 0 (vint w64 r1)) ∷ ‵ (froom (tyInt w64) l₁₁ 0) ∷ ‵ (fat fullShare tyBool l₁₂ 0 (vbool r2)) ∷
         ‵ (fat fullShare (tyRef erased imm (pointee ((UInt w8) .written))) l₁₃ 0 (vptr (dead .ptr .0) (dead .ptr .1))) ∷
         ‵ (fat fullShare (sliceTy (tyRef erased imm (pointee ((UInt w8) .written)))) l₁₄ 0 (sliceVal (dead .ptr) (length (dead .now)))) ∷
         ‵ (froom tyUnit l₁₅ 0) ∷ ‵ (froom (tyRef erased mut (pointee ((UInt w64) .written))) l₁₆ 0) ∷
@@ -383,47 +380,15 @@ module _ {M : Type 1} (𝓤 : URA M) (H : Heap 𝓤) (A : Atoms 𝓤) (W : Given
         (length (notes .now)) ∷ [])) ∷ ‵ (T-search-nodes .own nodes (sliceVal (nodes .ptr) (length (nodes .now)) ∷ [])) ∷ []) refl (
         Walk.first-then ! (Run.branches ! (Walk.local ! 14 refl)
         (λ h1. let t1 : r2 ≡ true = Walk.is-true _ h1 in
-        -- [dead; κ₁; the locals; their ends; κ₀; κ₂; κ₃; line; notes; nodes]
-        -- call 3: no_piece (0)
-        Walk.gives W (Walk.made ((UInt w64) .own 0 ((vint w64 0) ∷ [])) (uint-makes 𝓤 H A W w64 0 _ (refl, lit< tt)) ∷ []) _ ! (
-        Walk.tokens-in W ([]) _ ! (alive 𝓤 H A g-no-piece.signature tt tt) (id⊢ 𝓤 _) (
-        Walk.asks W ! fm g-no-piece.ended (g-no-piece.clauses 𝓤 H A mem run)
-        ((tt, tt, tt, (0, tt), ((vint w64 0) ∷ [], tt)), tt) _ (known-no-piece ((tt, tt, tt, (0, tt), ((vint w64 0) ∷ [], tt)), tt)) (id⊢ 𝓤 (emp 𝓤))
-        (λ r ws. id⊢ 𝓤 _)
-        (Run.and-then ! (Run.lit ! tt) (Run.no-more !)) (λ u3 r3 is3′ e3.
-        Walk.tokens-out W ([]) ! (id⊢ 𝓤 _) (
-        Walk.lands-in ! (Walk.init-as ! 2 refl (LL.lawful Outcome-T.the-type Outcome-L.the-laws 𝓤 H A W .typed r3 _ is3′ .0)
-        (ap only (LL.tells Outcome-T.the-type Outcome-L.the-laws r3 _ is3′))) (
-        let is3 : Is Outcome-T.the-row r3 ((Outcome-L.lowered r3) ∷ []) = subst (λ (vs : List Val). Is Outcome-T.the-row r3 vs)
-        (LL.tells Outcome-T.the-type Outcome-L.the-laws r3 _ is3′) is3′ in
-        Walk.written-out ! (‵ (T-search-dead .own dead (sliceVal (dead .ptr) (length (dead .now)) ∷ [])) ∷ ‵ (flft κ₁ q₁) ∷
-        ‵ (fat fullShare Outcome-L.mir l₀ 0 (Outcome-L.lowered r3)) ∷ ‵ (fat fullShare (tyInt w8) l₁ 0 (vint w8 left)) ∷
-        ‵ (fat fullShare (tyInt w8) l₂ 0 (vint w8 right)) ∷ ‵ (fat fullShare Y-search-nodes l₃ 0 (sliceVal (nodes .ptr) (length (nodes .now)))) ∷
-        ‵ (fat fullShare Y-search-dead l₄ 0 (sliceVal (dead .ptr) (length (dead .now)))) ∷
-        ‵ (fat fullShare Y-search-notes l₅ 0 (sliceVal (notes .ptr) (length (notes .now)))) ∷
-        ‵ (fat fullShare Y-search-line l₆ 0 (sliceVal (line .ptr) (length (line .now)))) ∷ ‵ (fat fullShare (tyInt w64) l₇ 0 (vint w64 end)) ∷
-        ‵ (fat fullShare (tyInt w64) l₈ 0 (vint w64 node)) ∷ ‵ (fat fullShare (tyInt w64) l₉ 0 (vint w64 at)) ∷
-        ‵ (fat fullShare (tyInt w64) l₁₀ 0 (vint w64 r1)) ∷ ‵ (froom Outcome-L.mir l₁₁ 0) ∷ ‵ (fat fullShare tyBool l₁₂ 0 (vbool r2)) ∷
-        ‵ (fat fullShare (tyRef erased imm (pointee ((UInt w8) .written))) l₁₃ 0 (vptr (dead .ptr .0) (dead .ptr .1))) ∷
-        ‵ (fat fullShare (sliceTy (tyRef erased imm (pointee ((UInt w8) .written)))) l₁₄ 0 (sliceVal (dead .ptr) (length (dead .now)))) ∷
-        ‵ (froom tyUnit l₁₅ 0) ∷ ‵ (froom (tyRef erased mut (pointee ((UInt w64) .written))) l₁₆ 0) ∷
-        ‵ (froom (sliceTy (tyRef erased mut (pointee ((UInt w64) .written)))) l₁₇ 0) ∷
-        ‵ (froom (tyRef erased mut (pointee ((UInt w8) .written))) l₁₈ 0) ∷
-        ‵ (froom (sliceTy (tyRef erased mut (pointee ((UInt w8) .written)))) l₁₉ 0) ∷
-        ‵ (froom (tyRef erased mut (pointee ((UInt w64) .written))) l₂₀ 0) ∷
-        ‵ (froom (sliceTy (tyRef erased mut (pointee ((UInt w64) .written)))) l₂₁ 0) ∷ ‵ (froom tyBool l₂₂ 0) ∷ ‵ (froom tyUnit l₂₃ 0) ∷
-        ‵ (froom (tyRef erased mut (pointee ((UInt w8) .written))) l₂₄ 0) ∷
-        ‵ (froom (sliceTy (tyRef erased mut (pointee ((UInt w8) .written)))) l₂₅ 0) ∷ ‵ Fd ∷ ‵ (flft κ₀ q₀) ∷ ‵ (flft κ₂ q₂) ∷ ‵ (flft κ₃ q₃) ∷
-        ‵ (T-search-line .own line (sliceVal (line .ptr) (length (line .now)) ∷ [])) ∷ ‵ (T-search-notes .own notes (sliceVal (notes .ptr)
-        (length (notes .now)) ∷ [])) ∷ ‵ (T-search-nodes .own nodes (sliceVal (nodes .ptr) (length (nodes .now)) ∷ [])) ∷ []) refl (
+        Walk.sets ! (Run.of-opd ! (Run.lit ! tt)) (Run.init ! 2 refl ((tt, record { fits = lit< tt }))) (
         Walk.returns-by ! Post-search (Walk.through 𝓤 H C Λ E _ _ Post-search refl) (Run.look ! 2 refl) (
         Walk.move ! (2 ∷ 2 ∷ 2 ∷ 2 ∷ 2 ∷ 2 ∷ 2 ∷ 2 ∷ 2 ∷ 2 ∷ 2 ∷ 2 ∷ 2 ∷ 2 ∷ 2 ∷ 2 ∷ 2 ∷ 2 ∷ 2 ∷ 2 ∷ 2 ∷ 2 ∷ 2 ∷ 2 ∷ 2 ∷ 2 ∷ 2 ∷ []) (
-        Walk.frees-gathered ! (Walk.full Outcome-L.mir l₀ (Outcome-L.lowered r3) ∷ Walk.full (tyInt w8) l₁ (vint w8 left) ∷
+        Walk.frees-gathered ! (Walk.full (tyInt w64) l₀ (vint w64 0) ∷ Walk.full (tyInt w8) l₁ (vint w8 left) ∷
         Walk.full (tyInt w8) l₂ (vint w8 right) ∷ Walk.full Y-search-nodes l₃ (sliceVal (nodes .ptr) (length (nodes .now))) ∷
         Walk.full Y-search-dead l₄ (sliceVal (dead .ptr) (length (dead .now))) ∷ Walk.full Y-search-notes l₅ (sliceVal (notes .ptr)
         (length (notes .now))) ∷ Walk.full Y-search-line l₆ (sliceVal (line .ptr) (length (line .now))) ∷ Walk.full (tyInt w64) l₇ (vint w64 end) ∷
         Walk.full (tyInt w64) l₈ (vint w64 node) ∷ Walk.full (tyInt w64) l₉ (vint w64 at) ∷ Walk.full (tyInt w64) l₁₀ (vint w64 r1) ∷
-        Walk.bare Outcome-L.mir l₁₁ ∷ Walk.full tyBool l₁₂ (vbool r2) ∷
+        Walk.bare (tyInt w64) l₁₁ ∷ Walk.full tyBool l₁₂ (vbool r2) ∷
         Walk.full (tyRef erased imm (pointee ((UInt w8) .written))) l₁₃ (vptr (dead .ptr .0) (dead .ptr .1)) ∷
         Walk.full (sliceTy (tyRef erased imm (pointee ((UInt w8) .written)))) l₁₄ (sliceVal (dead .ptr) (length (dead .now))) ∷
         Walk.bare tyUnit l₁₅ ∷ Walk.bare (tyRef erased mut (pointee ((UInt w64) .written))) l₁₆ ∷
@@ -446,9 +411,8 @@ module _ {M : Type 1} (𝓤 : URA M) (H : Heap 𝓤) (A : Atoms 𝓤) (W : Given
         Walk.move ! (2 ∷ 1 ∷ 1 ∷ 1 ∷ []) (
         Walk.tokens-in W ((κ₀, q₀) ∷ (κ₁, q₁) ∷ (κ₂, q₂) ∷ (κ₃, q₃) ∷ []) _ ! (alive 𝓤 H A f-search.signature (κ₀, (κ₁, (κ₂, (κ₃, tt))))
         (q₀, (q₁, (q₂, (q₃, tt))))) (id⊢ 𝓤 _) (
-        Walk.use0 W ! (‵ (Outcome-T.the-row .own r3 ((Outcome-L.lowered r3) ∷ []))) (LL.makes Outcome-T.the-type Outcome-L.the-plain 𝓤 H A r3 _ is3) (
-        Walk.keep ! (1 ∷ 1 ∷ 0 ∷ []) (
-        Kit.by ! (Walk.leave-by 𝓤 H A W f-search.ended (f-search.clauses 𝓤 H A mem run) stayed-search bound-search (Outcome-L.lowered r3) r3 (tt, (tt, (tt, ((dead .now), ((notes .now), (tt, (tt, (tt, (tt, tt))))))))) (tt, (tt, (tt, (refl, (refl, (tt, (tt, (tt, (tt, tt))))))))) (factI 𝓤 _ (emp 𝓤) (was-dead pre e1 e2 t1 e3)))))))))))))))))))
+        Walk.use0 W ! (‵ ((UInt w64) .own 0 ((vint w64 0) ∷ []))) (uint-makes 𝓤 H A W w64 0 _ (refl, lit< tt)) (Walk.keep ! (1 ∷ 1 ∷ 0 ∷ []) (
+        Kit.by ! (Walk.leave-by 𝓤 H A W f-search.ended (f-search.clauses 𝓤 H A mem run) stayed-search bound-search (vint w64 0) 0 (tt, (tt, (tt, ((dead .now), ((notes .now), (tt, (tt, (tt, (tt, tt))))))))) (tt, (tt, (tt, (refl, (refl, (tt, (tt, (tt, (tt, tt))))))))) (factI 𝓤 _ (emp 𝓤) (was-dead pre e1 e2 t1 refl))))))))))))))
         (λ h1. let t1 : r2 ≡ false = Walk.is-false _ h1 in
         Walk.skips-then ! (
         Walk.sets ! (Run.addr ! (Run.from ! (Run.fld ! refl (Run.hop ! (Part.look-in ! 7 (Part.sub ! 0 refl (Part.whole !))) (Run.stop !)))))
@@ -456,27 +420,27 @@ module _ {M : Type 1} (𝓤 : URA M) (H : Heap 𝓤) (A : Atoms 𝓤) (W : Given
         Walk.sets ! (Part.agg ! (Run.and-then ! (Walk.local ! 18 refl) (Run.and-then ! (Walk.part ! 7 refl refl refl) (Run.no-more !))))
         (Run.init ! 19 refl ((tt, (tt, (record { fits = is-notes .0 .1 .0 }, tt))))) (
         -- [dead; κ₁; the locals; their ends; κ₀; κ₂; κ₃; line; notes; nodes]
-        -- call 4: count_place (notes)
+        -- call 3: count_place (notes)
         Walk.move ! (33 ∷ 30 ∷ []) (Again.lends W (UInt w64) κ₂ q₂ notes (named 2) (named 0) (notes .now) ! tt (λ ν2 δ2.
         Walk.gives W (Walk.kept (MutSlice (named 0) (ν2 ∷ []) (UInt w64) .own (record { ptr = (notes .ptr); name = δ2; now = (notes .now) })
         ((sliceVal (notes .ptr) (length (notes .now))) ∷ [])) ∷ []) _ ! (
         Walk.move ! (2 ∷ []) (
         Walk.tokens-in W (((ν2 ∷ []), fullShare) ∷ []) _ ! (alive 𝓤 H A g-count-place.signature ((ν2 ∷ []), tt) (fullShare, tt)) (id⊢ 𝓤 _) (
         Walk.asksˡ W ! fm g-count-place.ended (g-count-place.clauses 𝓤 H A mem run)
-        ((((ν2 ∷ []), tt), (fullShare, tt), tt, ((record { ptr = (notes .ptr); name = δ2; now = (notes .now) }), tt), ((sliceVal (notes .ptr) (length (notes .now))) ∷ [], tt)), tt) _ (known-count-place ((((ν2 ∷ []), tt), (fullShare, tt), tt, ((record { ptr = (notes .ptr); name = δ2; now = (notes .now) }), tt), ((sliceVal (notes .ptr) (length (notes .now))) ∷ [], tt)), tt)) (factI 𝓤 _ (emp 𝓤) (pre .twenty)) (λ r ws. id⊢ 𝓤 _)
-        (Run.and-then ! (Walk.local ! 21 refl) (Run.no-more !)) (λ u4 r4 ws4 is4′ e4.
-        Walk.returned W (((ν2 ∷ []), fullShare) ∷ []) (Walk.final (finally (UInt w64) δ2 (ws4 .0)) (length (ws4 .0)) (length (notes .now)) ∷
+        ((((ν2 ∷ []), tt), (fullShare, tt), tt, ((record { ptr = (notes .ptr); name = δ2; now = (notes .now) }), tt), ((sliceVal (notes .ptr) (length (notes .now))) ∷ [], tt)), tt) _ (known-count-place ((((ν2 ∷ []), tt), (fullShare, tt), tt, ((record { ptr = (notes .ptr); name = δ2; now = (notes .now) }), tt), ((sliceVal (notes .ptr) (length (notes .now))) ∷ [], tt)), tt)) (factI 𝓤 _ (emp 𝓤) (pre .all-notes)) (λ r ws. id⊢ 𝓤 _)
+        (Run.and-then ! (Walk.local ! 21 refl) (Run.no-more !)) (λ u3 r3 ws3 is3′ e3.
+        Walk.returned W (((ν2 ∷ []), fullShare) ∷ []) (Walk.final (finally (UInt w64) δ2 (ws3 .0)) (length (ws3 .0)) (length (notes .now)) ∷
         []) ! (id⊢ 𝓤 _) (λ len2.
-        Walk.move ! (1 ∷ 1 ∷ 0 ∷ 7 ∷ []) (Again.backs W (UInt w64) κ₂ q₂ notes (named 2) (named 0) (notes .now) ! tt (ws4 .0) (is-notes .0 .1) len2 (
-        Walk.lands-in ! (Walk.init-as ! 19 refl (nothing-lawful 𝓤 H A W .typed r4 _ is4′ .0) (ap only (nothing-tells r4 _ is4′))) (
-        let is4 : Is Nothing r4 (vunit ∷ []) = subst (λ (vs : List Val). Is Nothing r4 vs) (nothing-tells r4 _ is4′) is4′ in
-        Walk.written-out ! (‵ (T-search-notes .own (at-last notes (ws4 .0)) (sliceVal (notes .ptr) (length (ws4 .0)) ∷ [])) ∷ ‵ (flft κ₂ q₂) ∷
-        ‵ (fat fullShare Y-search-notes l₅ 0 (sliceVal (notes .ptr) (length (ws4 .0)))) ∷ ‵ (T-search-dead .own dead (sliceVal (dead .ptr)
-        (length (dead .now)) ∷ [])) ∷ ‵ (flft κ₁ q₁) ∷ ‵ (froom Outcome-L.mir l₀ 0) ∷ ‵ (fat fullShare (tyInt w8) l₁ 0 (vint w8 left)) ∷
+        Walk.move ! (1 ∷ 1 ∷ 0 ∷ 7 ∷ []) (Again.backs W (UInt w64) κ₂ q₂ notes (named 2) (named 0) (notes .now) ! tt (ws3 .0) (is-notes .0 .1) len2 (
+        Walk.lands-in ! (Walk.init-as ! 19 refl (nothing-lawful 𝓤 H A W .typed r3 _ is3′ .0) (ap only (nothing-tells r3 _ is3′))) (
+        let is3 : Is Nothing r3 (vunit ∷ []) = subst (λ (vs : List Val). Is Nothing r3 vs) (nothing-tells r3 _ is3′) is3′ in
+        Walk.written-out ! (‵ (T-search-notes .own (at-last notes (ws3 .0)) (sliceVal (notes .ptr) (length (ws3 .0)) ∷ [])) ∷ ‵ (flft κ₂ q₂) ∷
+        ‵ (fat fullShare Y-search-notes l₅ 0 (sliceVal (notes .ptr) (length (ws3 .0)))) ∷ ‵ (T-search-dead .own dead (sliceVal (dead .ptr)
+        (length (dead .now)) ∷ [])) ∷ ‵ (flft κ₁ q₁) ∷ ‵ (froom (tyInt w64) l₀ 0) ∷ ‵ (fat fullShare (tyInt w8) l₁ 0 (vint w8 left)) ∷
         ‵ (fat fullShare (tyInt w8) l₂ 0 (vint w8 right)) ∷ ‵ (fat fullShare Y-search-nodes l₃ 0 (sliceVal (nodes .ptr) (length (nodes .now)))) ∷
         ‵ (fat fullShare Y-search-dead l₄ 0 (sliceVal (dead .ptr) (length (dead .now)))) ∷ ‵ (fat fullShare Y-search-line l₆ 0 (sliceVal (line .ptr)
         (length (line .now)))) ∷ ‵ (fat fullShare (tyInt w64) l₇ 0 (vint w64 end)) ∷ ‵ (fat fullShare (tyInt w64) l₈ 0 (vint w64 node)) ∷
-        ‵ (fat fullShare (tyInt w64) l₉ 0 (vint w64 at)) ∷ ‵ (fat fullShare (tyInt w64) l₁₀ 0 (vint w64 r1)) ∷ ‵ (froom Outcome-L.mir l₁₁ 0) ∷
+        ‵ (fat fullShare (tyInt w64) l₉ 0 (vint w64 at)) ∷ ‵ (fat fullShare (tyInt w64) l₁₀ 0 (vint w64 r1)) ∷ ‵ (froom (tyInt w64) l₁₁ 0) ∷
         ‵ (fat fullShare tyBool l₁₂ 0 (vbool r2)) ∷ ‵ (fat fullShare (tyRef erased imm (pointee ((UInt w8) .written))) l₁₃ 0 (vptr (dead .ptr .0)
         (dead .ptr .1))) ∷ ‵ (fat fullShare (sliceTy (tyRef erased imm (pointee ((UInt w8) .written)))) l₁₄ 0 (sliceVal (dead .ptr)
         (length (dead .now)))) ∷ ‵ (fat fullShare tyUnit l₁₅ 0 vunit) ∷
@@ -499,16 +463,16 @@ module _ {M : Type 1} (𝓤 : URA M) (H : Heap 𝓤) (A : Atoms 𝓤) (W : Given
         Walk.sets ! (Part.agg ! (Run.and-then ! (Walk.local ! 24 refl) (Run.and-then ! (Walk.part ! 2 refl refl refl) (Run.no-more !))))
         (Run.init ! 25 refl ((tt, (tt, (record { fits = (subst (Slice.Room (UInt w64)) (sym len2) (is-notes .0 .1)) .0 }, tt))))) (
         -- [notes; κ₂; the locals; dead; κ₁; their ends; κ₀; κ₃; line; nodes]
-        -- call 5: take_up (left, right, nodes, dead, notes, line, end, node, at)
+        -- call 4: take_up (left, right, nodes, dead, notes, line, end, node, at)
         Walk.move ! (3 ∷ 3 ∷ []) (Again.lends W (UInt w8) κ₁ q₁ dead (named 1) (named 1) (dead .now) ! tt (λ ν3 δ3.
-        Walk.move ! (3 ∷ 3 ∷ []) (Again.lends W (UInt w64) κ₂ q₂ notes (named 2) (named 2) (ws4 .0) ! tt (λ ν4 δ4.
+        Walk.move ! (3 ∷ 3 ∷ []) (Again.lends W (UInt w64) κ₂ q₂ notes (named 2) (named 2) (ws3 .0) ! tt (λ ν4 δ4.
         Walk.move ! (36 ∷ 3 ∷ 0 ∷ 33 ∷ []) (
         Walk.gives W (Walk.made ((UInt w8) .own left ((vint w8 left) ∷ [])) (uint-makes 𝓤 H A W w8 left _ (refl, fits-left)) ∷
         Walk.made ((UInt w8) .own right ((vint w8 right) ∷ [])) (uint-makes 𝓤 H A W w8 right _ (refl, fits-right)) ∷
         Walk.copied (T-search-nodes .own nodes (v-search-nodes ∷ [])) (shr-slice-copy 𝓤 H A W (named 0) κ₀ Node-T.the-row .twice nodes _) ∷
         Walk.kept (MutSlice (named 1) (ν3 ∷ []) (UInt w8) .own (record { ptr = (dead .ptr); name = δ3; now = (dead .now) }) ((sliceVal (dead .ptr)
         (length (dead .now))) ∷ [])) ∷ Walk.kept (MutSlice (named 2) (ν4 ∷ [])
-        (UInt w64) .own (record { ptr = (notes .ptr); name = δ4; now = (ws4 .0) }) ((sliceVal (notes .ptr) (length (ws4 .0))) ∷ [])) ∷
+        (UInt w64) .own (record { ptr = (notes .ptr); name = δ4; now = (ws3 .0) }) ((sliceVal (notes .ptr) (length (ws3 .0))) ∷ [])) ∷
         Walk.copied (T-search-line .own line (v-search-line ∷ [])) (shr-slice-copy 𝓤 H A W (named 3) κ₃ (UInt w8) .twice line _) ∷
         Walk.made ((UInt w64) .own end ((vint w64 end) ∷ [])) (uint-makes 𝓤 H A W w64 end _ (refl, fits-end)) ∷
         Walk.made ((UInt w64) .own node ((vint w64 node) ∷ [])) (uint-makes 𝓤 H A W w64 node _ (refl, fits-node)) ∷
@@ -517,34 +481,32 @@ module _ {M : Type 1} (𝓤 : URA M) (H : Heap 𝓤) (A : Atoms 𝓤) (W : Given
         Walk.tokens-in W ((κ₀, q₀) ∷ ((ν3 ∷ []), fullShare) ∷ ((ν4 ∷ []), fullShare) ∷ (κ₃, q₃) ∷
         []) _ ! (alive 𝓤 H A f-take-up.signature (κ₀, ((ν3 ∷ []), ((ν4 ∷ []), (κ₃, tt)))) (q₀, (fullShare, (fullShare, (q₃, tt))))) (id⊢ 𝓤 _) (
         Walk.asksˡ W ! fm f-take-up.ended (f-take-up.clauses 𝓤 H A mem run)
-        (((κ₀, ((ν3 ∷ []), ((ν4 ∷ []), (κ₃, tt)))), (q₀, (fullShare, (fullShare, (q₃, tt)))), tt, (left, (right, (nodes, ((record { ptr = (dead .ptr); name = δ3; now = (dead .now) }), ((record { ptr = (notes .ptr); name = δ4; now = (ws4 .0) }), (line, (end, (node, (at, tt))))))))), ((vint w8 left) ∷ [], ((vint w8 right) ∷ [], (v-search-nodes ∷ [], ((sliceVal (dead .ptr) (length (dead .now))) ∷ [], ((sliceVal (notes .ptr) (length (ws4 .0))) ∷ [], (v-search-line ∷ [], ((vint w64 end) ∷ [], ((vint w64 node) ∷ [], ((vint w64 at) ∷ [], tt)))))))))), tt) _ (known-take-up (((κ₀, ((ν3 ∷ []), ((ν4 ∷ []), (κ₃, tt)))), (q₀, (fullShare, (fullShare, (q₃, tt)))), tt, (left, (right, (nodes, ((record { ptr = (dead .ptr); name = δ3; now = (dead .now) }), ((record { ptr = (notes .ptr); name = δ4; now = (ws4 .0) }), (line, (end, (node, (at, tt))))))))), ((vint w8 left) ∷ [], ((vint w8 right) ∷ [], (v-search-nodes ∷ [], ((sliceVal (dead .ptr) (length (dead .now))) ∷ [], ((sliceVal (notes .ptr) (length (ws4 .0))) ∷ [], (v-search-line ∷ [], ((vint w64 end) ∷ [], ((vint w64 node) ∷ [], ((vint w64 at) ∷ [], tt)))))))))), tt) (omega arith)) (factI 𝓤 _ (emp 𝓤) (asks-again pre refl len2)) (λ r ws. id⊢ 𝓤 _)
+        (((κ₀, ((ν3 ∷ []), ((ν4 ∷ []), (κ₃, tt)))), (q₀, (fullShare, (fullShare, (q₃, tt)))), tt, (left, (right, (nodes, ((record { ptr = (dead .ptr); name = δ3; now = (dead .now) }), ((record { ptr = (notes .ptr); name = δ4; now = (ws3 .0) }), (line, (end, (node, (at, tt))))))))), ((vint w8 left) ∷ [], ((vint w8 right) ∷ [], (v-search-nodes ∷ [], ((sliceVal (dead .ptr) (length (dead .now))) ∷ [], ((sliceVal (notes .ptr) (length (ws3 .0))) ∷ [], (v-search-line ∷ [], ((vint w64 end) ∷ [], ((vint w64 node) ∷ [], ((vint w64 at) ∷ [], tt)))))))))), tt) _ (known-take-up (((κ₀, ((ν3 ∷ []), ((ν4 ∷ []), (κ₃, tt)))), (q₀, (fullShare, (fullShare, (q₃, tt)))), tt, (left, (right, (nodes, ((record { ptr = (dead .ptr); name = δ3; now = (dead .now) }), ((record { ptr = (notes .ptr); name = δ4; now = (ws3 .0) }), (line, (end, (node, (at, tt))))))))), ((vint w8 left) ∷ [], ((vint w8 right) ∷ [], (v-search-nodes ∷ [], ((sliceVal (dead .ptr) (length (dead .now))) ∷ [], ((sliceVal (notes .ptr) (length (ws3 .0))) ∷ [], (v-search-line ∷ [], ((vint w64 end) ∷ [], ((vint w64 node) ∷ [], ((vint w64 at) ∷ [], tt)))))))))), tt) (omega arith)) (factI 𝓤 _ (emp 𝓤) (asks-again pre refl len2)) (λ r ws. id⊢ 𝓤 _)
         (Run.and-then ! (Walk.local ! 7 refl) (Run.and-then ! (Walk.local ! 8 refl) (Run.and-then ! (Walk.local ! 9 refl)
         (Run.and-then ! (Walk.local ! 24 refl) (Run.and-then ! (Walk.local ! 26 refl) (Run.and-then ! (Walk.local ! 11 refl)
         (Run.and-then ! (Walk.local ! 12 refl) (Run.and-then ! (Walk.local ! 13 refl) (Run.and-then ! (Walk.local ! 14 refl)
-        (Run.no-more !)))))))))) (λ u5 r5 ws5 is5′ e5.
+        (Run.no-more !)))))))))) (λ u4 r4 ws4 is4′ e4.
         Walk.returned W ((κ₀, q₀) ∷ ((ν3 ∷ []), fullShare) ∷ ((ν4 ∷ []), fullShare) ∷ (κ₃, q₃) ∷ []) (Walk.gone _ ∷ Walk.gone _ ∷ Walk.gone _ ∷
-        Walk.final (finally (UInt w8) δ3 (ws5 .1 .1 .1 .0)) (length (ws5 .1 .1 .1 .0)) (length (dead .now)) ∷
-        Walk.final (finally (UInt w64) δ4 (ws5 .1 .1 .1 .1 .0)) (length (ws5 .1 .1 .1 .1 .0)) (length (ws4 .0)) ∷ Walk.gone _ ∷ Walk.gone _ ∷
+        Walk.final (finally (UInt w8) δ3 (ws4 .1 .1 .1 .0)) (length (ws4 .1 .1 .1 .0)) (length (dead .now)) ∷
+        Walk.final (finally (UInt w64) δ4 (ws4 .1 .1 .1 .1 .0)) (length (ws4 .1 .1 .1 .1 .0)) (length (ws3 .0)) ∷ Walk.gone _ ∷ Walk.gone _ ∷
         Walk.gone _ ∷ Walk.gone _ ∷ []) ! (id⊢ 𝓤 _) (λ len3 len4.
         Walk.move ! (3 ∷ 8 ∷ 1 ∷ 12 ∷ []) (
-        Again.backs W (UInt w8) κ₁ q₁ dead (named 1) (named 1) (dead .now) ! tt (ws5 .1 .1 .1 .0) (is-dead .0 .1) len3 (
+        Again.backs W (UInt w8) κ₁ q₁ dead (named 1) (named 1) (dead .now) ! tt (ws4 .1 .1 .1 .0) (is-dead .0 .1) len3 (
         Walk.move ! (5 ∷ 8 ∷ 3 ∷ 7 ∷ []) (
-        Again.backs W (UInt w64) κ₂ q₂ notes (named 2) (named 2) (ws4 .0) ! tt (ws5 .1 .1 .1 .1 .0) ((subst (Slice.Room (UInt w64)) (sym len2)
+        Again.backs W (UInt w64) κ₂ q₂ notes (named 2) (named 2) (ws3 .0) ! tt (ws4 .1 .1 .1 .1 .0) ((subst (Slice.Room (UInt w64)) (sym len2)
         (is-notes .0 .1))) len4 (
-        Walk.lands-in ! (Walk.init-as ! 19 refl (LL.lawful Outcome-T.the-type Outcome-L.the-laws 𝓤 H A W .typed r5 _ is5′ .0)
-        (ap only (LL.tells Outcome-T.the-type Outcome-L.the-laws r5 _ is5′))) (
-        let is5 : Is Outcome-T.the-row r5 ((Outcome-L.lowered r5) ∷ []) = subst (λ (vs : List Val). Is Outcome-T.the-row r5 vs)
-        (LL.tells Outcome-T.the-type Outcome-L.the-laws r5 _ is5′) is5′ in
-        Walk.written-out ! (‵ (T-search-notes .own (at-last notes (ws5 .1 .1 .1 .1 .0)) (sliceVal (notes .ptr) (length (ws5 .1 .1 .1 .1 .0)) ∷
-        [])) ∷ ‵ (flft κ₂ q₂) ∷ ‵ (fat fullShare Y-search-notes l₅ 0 (sliceVal (notes .ptr) (length (ws5 .1 .1 .1 .1 .0)))) ∷
-        ‵ (T-search-dead .own (at-last dead (ws5 .1 .1 .1 .0)) (sliceVal (dead .ptr) (length (ws5 .1 .1 .1 .0)) ∷ [])) ∷ ‵ (flft κ₁ q₁) ∷
-        ‵ (fat fullShare Y-search-dead l₄ 0 (sliceVal (dead .ptr) (length (ws5 .1 .1 .1 .0)))) ∷ ‵ (flft κ₀ q₀) ∷ ‵ (flft κ₃ q₃) ∷
+        Walk.lands-in ! (Walk.init-as ! 19 refl (uint-lawful 𝓤 H A W w64 .typed r4 _ is4′ .0) (ap only (uint-tells w64 r4 _ is4′))) (
+        let is4 : Is (UInt w64) r4 ((vint w64 r4) ∷ []) = subst (λ (vs : List Val). Is (UInt w64) r4 vs) (uint-tells w64 r4 _ is4′) is4′ in
+        Walk.written-out ! (‵ (T-search-notes .own (at-last notes (ws4 .1 .1 .1 .1 .0)) (sliceVal (notes .ptr) (length (ws4 .1 .1 .1 .1 .0)) ∷
+        [])) ∷ ‵ (flft κ₂ q₂) ∷ ‵ (fat fullShare Y-search-notes l₅ 0 (sliceVal (notes .ptr) (length (ws4 .1 .1 .1 .1 .0)))) ∷
+        ‵ (T-search-dead .own (at-last dead (ws4 .1 .1 .1 .0)) (sliceVal (dead .ptr) (length (ws4 .1 .1 .1 .0)) ∷ [])) ∷ ‵ (flft κ₁ q₁) ∷
+        ‵ (fat fullShare Y-search-dead l₄ 0 (sliceVal (dead .ptr) (length (ws4 .1 .1 .1 .0)))) ∷ ‵ (flft κ₀ q₀) ∷ ‵ (flft κ₃ q₃) ∷
         ‵ (T-search-nodes .own nodes (sliceVal (nodes .ptr) (length (nodes .now)) ∷ [])) ∷ ‵ (T-search-line .own line (sliceVal (line .ptr)
-        (length (line .now)) ∷ [])) ∷ ‵ (froom Outcome-L.mir l₀ 0) ∷ ‵ (fat fullShare (tyInt w8) l₁ 0 (vint w8 left)) ∷
+        (length (line .now)) ∷ [])) ∷ ‵ (froom (tyInt w64) l₀ 0) ∷ ‵ (fat fullShare (tyInt w8) l₁ 0 (vint w8 left)) ∷
         ‵ (fat fullShare (tyInt w8) l₂ 0 (vint w8 right)) ∷ ‵ (fat fullShare Y-search-nodes l₃ 0 (sliceVal (nodes .ptr) (length (nodes .now)))) ∷
         ‵ (fat fullShare Y-search-line l₆ 0 (sliceVal (line .ptr) (length (line .now)))) ∷ ‵ (fat fullShare (tyInt w64) l₇ 0 (vint w64 end)) ∷
         ‵ (fat fullShare (tyInt w64) l₈ 0 (vint w64 node)) ∷ ‵ (fat fullShare (tyInt w64) l₉ 0 (vint w64 at)) ∷
-        ‵ (fat fullShare (tyInt w64) l₁₀ 0 (vint w64 r1)) ∷ ‵ (fat fullShare Outcome-L.mir l₁₁ 0 (Outcome-L.lowered r5)) ∷
+        ‵ (fat fullShare (tyInt w64) l₁₀ 0 (vint w64 r1)) ∷ ‵ (fat fullShare (tyInt w64) l₁₁ 0 (vint w64 r4)) ∷
         ‵ (fat fullShare tyBool l₁₂ 0 (vbool r2)) ∷ ‵ (fat fullShare (tyRef erased imm (pointee ((UInt w8) .written))) l₁₃ 0 (vptr (dead .ptr .0)
         (dead .ptr .1))) ∷ ‵ (fat fullShare (sliceTy (tyRef erased imm (pointee ((UInt w8) .written)))) l₁₄ 0 (sliceVal (dead .ptr)
         (length (dead .now)))) ∷ ‵ (fat fullShare tyUnit l₁₅ 0 vunit) ∷
@@ -553,44 +515,44 @@ module _ {M : Type 1} (𝓤 : URA M) (H : Heap 𝓤) (A : Atoms 𝓤) (W : Given
         ‵ (fat fullShare (tyRef erased mut (pointee ((UInt w8) .written))) l₁₈ 0 (vptr (dead .ptr .0) (dead .ptr .1))) ∷
         ‵ (fat fullShare (sliceTy (tyRef erased mut (pointee ((UInt w8) .written)))) l₁₉ 0 (sliceVal (dead .ptr) (length (dead .now)))) ∷
         ‵ (fat fullShare (tyRef erased mut (pointee ((UInt w64) .written))) l₂₀ 0 (vptr (notes .ptr .0) (notes .ptr .1))) ∷
-        ‵ (fat fullShare (sliceTy (tyRef erased mut (pointee ((UInt w64) .written)))) l₂₁ 0 (sliceVal (notes .ptr) (length (ws4 .0)))) ∷
+        ‵ (fat fullShare (sliceTy (tyRef erased mut (pointee ((UInt w64) .written)))) l₂₁ 0 (sliceVal (notes .ptr) (length (ws3 .0)))) ∷
         ‵ (froom tyBool l₂₂ 0) ∷ ‵ (froom tyUnit l₂₃ 0) ∷ ‵ (froom (tyRef erased mut (pointee ((UInt w8) .written))) l₂₄ 0) ∷
         ‵ (froom (sliceTy (tyRef erased mut (pointee ((UInt w8) .written)))) l₂₅ 0) ∷ ‵ Fd ∷ []) refl (
-        Walk.sets ! (Run.bin ! (Walk.part ! 19 refl refl refl) (Run.lit ! tt) tt) (Run.init ! 30 refl ((tt, tt))) (Walk.first-then ! (
+        Walk.sets ! (Run.bin ! (Walk.local ! 19 refl) (Run.lit ! tt) tt) (Run.init ! 30 refl ((tt, tt))) (Walk.first-then ! (
         Run.branches ! (Walk.local ! 30 refl)
-        (λ h2. let t2 : (eqb (r5 .node) 0) ≡ true = Walk.is-true _ h2 in
+        (λ h2. let t2 : (eqb r4 0) ≡ true = Walk.is-true _ h2 in
         Walk.sets ! (Run.addr ! (Run.from ! (Run.fld ! refl (Run.hop ! (Part.look-in ! 5 (Part.sub ! 0 refl (Part.whole !))) (Run.stop !)))))
         (Run.init ! 32 refl ((tt, tt))) (
         Walk.sets ! (Part.agg ! (Run.and-then ! (Walk.local ! 32 refl) (Run.and-then ! (Walk.part ! 5 refl refl refl) (Run.no-more !))))
         (Run.init ! 33 refl ((tt, (tt, (record { fits = (subst (Slice.Room (UInt w8)) (sym len3) (is-dead .0 .1)) .0 }, tt))))) (
         -- [notes; κ₂; the locals; dead; κ₁; κ₀; κ₃; nodes; line; their ends]
-        -- call 6: set_dead (dead, r1)
-        Walk.move ! (3 ∷ 3 ∷ []) (Again.lends W (UInt w8) κ₁ q₁ dead (named 1) (named 0) (ws5 .1 .1 .1 .0) ! tt (λ ν5 δ5.
-        Walk.gives W (Walk.kept (MutSlice (named 0) (ν5 ∷ []) (UInt w8) .own (record { ptr = (dead .ptr); name = δ5; now = (ws5 .1 .1 .1 .0) })
-        ((sliceVal (dead .ptr) (length (ws5 .1 .1 .1 .0))) ∷ [])) ∷ Walk.made ((UInt w64) .own r1 ((vint w64 r1) ∷ []))
+        -- call 5: set_dead (dead, r1)
+        Walk.move ! (3 ∷ 3 ∷ []) (Again.lends W (UInt w8) κ₁ q₁ dead (named 1) (named 0) (ws4 .1 .1 .1 .0) ! tt (λ ν5 δ5.
+        Walk.gives W (Walk.kept (MutSlice (named 0) (ν5 ∷ []) (UInt w8) .own (record { ptr = (dead .ptr); name = δ5; now = (ws4 .1 .1 .1 .0) })
+        ((sliceVal (dead .ptr) (length (ws4 .1 .1 .1 .0))) ∷ [])) ∷ Walk.made ((UInt w64) .own r1 ((vint w64 r1) ∷ []))
         (uint-makes 𝓤 H A W w64 r1 _ (refl, is1 .1)) ∷ []) _ ! (
         Walk.move ! (2 ∷ []) (
         Walk.tokens-in W (((ν5 ∷ []), fullShare) ∷ []) _ ! (alive 𝓤 H A g-set-dead.signature ((ν5 ∷ []), tt) (fullShare, tt)) (id⊢ 𝓤 _) (
         Walk.asksˡ-last W ! fm g-set-dead.ended (g-set-dead.clauses 𝓤 H A mem run)
-        ((((ν5 ∷ []), tt), (fullShare, tt), tt, ((record { ptr = (dead .ptr); name = δ5; now = (ws5 .1 .1 .1 .0) }), (r1, tt)), ((sliceVal (dead .ptr) (length (ws5 .1 .1 .1 .0))) ∷ [], ((vint w64 r1) ∷ [], tt))), tt) _ (known-set-dead ((((ν5 ∷ []), tt), (fullShare, tt), tt, ((record { ptr = (dead .ptr); name = δ5; now = (ws5 .1 .1 .1 .0) }), (r1, tt)), ((sliceVal (dead .ptr) (length (ws5 .1 .1 .1 .0))) ∷ [], ((vint w64 r1) ∷ [], tt))), tt)) (factI 𝓤 _ (emp 𝓤) (asks-bit-again pre e5 e1 len3)) (λ r ws. id⊢ 𝓤 _)
-        (Run.and-then ! (Walk.local ! 33 refl) (Run.and-then ! (Walk.local ! 18 refl) (Run.no-more !))) (λ u6 r6 ws6 is6′ e6.
-        Walk.returned W (((ν5 ∷ []), fullShare) ∷ []) (Walk.final (finally (UInt w8) δ5 (ws6 .0)) (length (ws6 .0)) (length (ws5 .1 .1 .1 .0)) ∷
+        ((((ν5 ∷ []), tt), (fullShare, tt), tt, ((record { ptr = (dead .ptr); name = δ5; now = (ws4 .1 .1 .1 .0) }), (r1, tt)), ((sliceVal (dead .ptr) (length (ws4 .1 .1 .1 .0))) ∷ [], ((vint w64 r1) ∷ [], tt))), tt) _ (known-set-dead ((((ν5 ∷ []), tt), (fullShare, tt), tt, ((record { ptr = (dead .ptr); name = δ5; now = (ws4 .1 .1 .1 .0) }), (r1, tt)), ((sliceVal (dead .ptr) (length (ws4 .1 .1 .1 .0))) ∷ [], ((vint w64 r1) ∷ [], tt))), tt)) (factI 𝓤 _ (emp 𝓤) (asks-bit-again pre e4 e1 len3)) (λ r ws. id⊢ 𝓤 _)
+        (Run.and-then ! (Walk.local ! 33 refl) (Run.and-then ! (Walk.local ! 18 refl) (Run.no-more !))) (λ u5 r5 ws5 is5′ e5.
+        Walk.returned W (((ν5 ∷ []), fullShare) ∷ []) (Walk.final (finally (UInt w8) δ5 (ws5 .0)) (length (ws5 .0)) (length (ws4 .1 .1 .1 .0)) ∷
         Walk.gone _ ∷ []) ! (id⊢ 𝓤 _) (λ len5.
         Walk.move ! (1 ∷ 1 ∷ 0 ∷ 3 ∷ []) (
-        Again.backs W (UInt w8) κ₁ q₁ dead (named 1) (named 0) (ws5 .1 .1 .1 .0) ! tt (ws6 .0) ((subst (Slice.Room (UInt w8)) (sym len3)
+        Again.backs W (UInt w8) κ₁ q₁ dead (named 1) (named 0) (ws4 .1 .1 .1 .0) ! tt (ws5 .0) ((subst (Slice.Room (UInt w8)) (sym len3)
         (is-dead .0 .1))) len5 (
-        Walk.lands-then ! (Walk.init-as ! 31 refl (nothing-lawful 𝓤 H A W .typed r6 _ is6′ .0) (ap only (nothing-tells r6 _ is6′))) (
-        let is6 : Is Nothing r6 (vunit ∷ []) = subst (λ (vs : List Val). Is Nothing r6 vs) (nothing-tells r6 _ is6′) is6′ in
-        Walk.written-out ! (‵ (T-search-dead .own (at-last dead (ws6 .0)) (sliceVal (dead .ptr) (length (ws6 .0)) ∷ [])) ∷ ‵ (flft κ₁ q₁) ∷
-        ‵ (fat fullShare Y-search-dead l₄ 0 (sliceVal (dead .ptr) (length (ws6 .0)))) ∷ ‵ (T-search-notes .own (at-last notes (ws5 .1 .1 .1 .1 .0))
-        (sliceVal (notes .ptr) (length (ws5 .1 .1 .1 .1 .0)) ∷ [])) ∷ ‵ (flft κ₂ q₂) ∷ ‵ (fat fullShare Y-search-notes l₅ 0 (sliceVal (notes .ptr)
-        (length (ws5 .1 .1 .1 .1 .0)))) ∷ ‵ (flft κ₀ q₀) ∷ ‵ (flft κ₃ q₃) ∷ ‵ (T-search-nodes .own nodes (sliceVal (nodes .ptr)
-        (length (nodes .now)) ∷ [])) ∷ ‵ (T-search-line .own line (sliceVal (line .ptr) (length (line .now)) ∷ [])) ∷ ‵ (froom Outcome-L.mir l₀ 0) ∷
+        Walk.lands-then ! (Walk.init-as ! 31 refl (nothing-lawful 𝓤 H A W .typed r5 _ is5′ .0) (ap only (nothing-tells r5 _ is5′))) (
+        let is5 : Is Nothing r5 (vunit ∷ []) = subst (λ (vs : List Val). Is Nothing r5 vs) (nothing-tells r5 _ is5′) is5′ in
+        Walk.written-out ! (‵ (T-search-dead .own (at-last dead (ws5 .0)) (sliceVal (dead .ptr) (length (ws5 .0)) ∷ [])) ∷ ‵ (flft κ₁ q₁) ∷
+        ‵ (fat fullShare Y-search-dead l₄ 0 (sliceVal (dead .ptr) (length (ws5 .0)))) ∷ ‵ (T-search-notes .own (at-last notes (ws4 .1 .1 .1 .1 .0))
+        (sliceVal (notes .ptr) (length (ws4 .1 .1 .1 .1 .0)) ∷ [])) ∷ ‵ (flft κ₂ q₂) ∷ ‵ (fat fullShare Y-search-notes l₅ 0 (sliceVal (notes .ptr)
+        (length (ws4 .1 .1 .1 .1 .0)))) ∷ ‵ (flft κ₀ q₀) ∷ ‵ (flft κ₃ q₃) ∷ ‵ (T-search-nodes .own nodes (sliceVal (nodes .ptr)
+        (length (nodes .now)) ∷ [])) ∷ ‵ (T-search-line .own line (sliceVal (line .ptr) (length (line .now)) ∷ [])) ∷ ‵ (froom (tyInt w64) l₀ 0) ∷
         ‵ (fat fullShare (tyInt w8) l₁ 0 (vint w8 left)) ∷ ‵ (fat fullShare (tyInt w8) l₂ 0 (vint w8 right)) ∷
         ‵ (fat fullShare Y-search-nodes l₃ 0 (sliceVal (nodes .ptr) (length (nodes .now)))) ∷
         ‵ (fat fullShare Y-search-line l₆ 0 (sliceVal (line .ptr) (length (line .now)))) ∷ ‵ (fat fullShare (tyInt w64) l₇ 0 (vint w64 end)) ∷
         ‵ (fat fullShare (tyInt w64) l₈ 0 (vint w64 node)) ∷ ‵ (fat fullShare (tyInt w64) l₉ 0 (vint w64 at)) ∷
-        ‵ (fat fullShare (tyInt w64) l₁₀ 0 (vint w64 r1)) ∷ ‵ (fat fullShare Outcome-L.mir l₁₁ 0 (Outcome-L.lowered r5)) ∷
+        ‵ (fat fullShare (tyInt w64) l₁₀ 0 (vint w64 r1)) ∷ ‵ (fat fullShare (tyInt w64) l₁₁ 0 (vint w64 r4)) ∷
         ‵ (fat fullShare tyBool l₁₂ 0 (vbool r2)) ∷ ‵ (fat fullShare (tyRef erased imm (pointee ((UInt w8) .written))) l₁₃ 0 (vptr (dead .ptr .0)
         (dead .ptr .1))) ∷ ‵ (fat fullShare (sliceTy (tyRef erased imm (pointee ((UInt w8) .written)))) l₁₄ 0 (sliceVal (dead .ptr)
         (length (dead .now)))) ∷ ‵ (fat fullShare tyUnit l₁₅ 0 vunit) ∷
@@ -599,21 +561,20 @@ module _ {M : Type 1} (𝓤 : URA M) (H : Heap 𝓤) (A : Atoms 𝓤) (W : Given
         ‵ (fat fullShare (tyRef erased mut (pointee ((UInt w8) .written))) l₁₈ 0 (vptr (dead .ptr .0) (dead .ptr .1))) ∷
         ‵ (fat fullShare (sliceTy (tyRef erased mut (pointee ((UInt w8) .written)))) l₁₉ 0 (sliceVal (dead .ptr) (length (dead .now)))) ∷
         ‵ (fat fullShare (tyRef erased mut (pointee ((UInt w64) .written))) l₂₀ 0 (vptr (notes .ptr .0) (notes .ptr .1))) ∷
-        ‵ (fat fullShare (sliceTy (tyRef erased mut (pointee ((UInt w64) .written)))) l₂₁ 0 (sliceVal (notes .ptr) (length (ws4 .0)))) ∷
-        ‵ (fat fullShare tyBool l₂₂ 0 (vbool (eqb (r5 .node) 0))) ∷ ‵ (fat fullShare tyUnit l₂₃ 0 vunit) ∷
+        ‵ (fat fullShare (sliceTy (tyRef erased mut (pointee ((UInt w64) .written)))) l₂₁ 0 (sliceVal (notes .ptr) (length (ws3 .0)))) ∷
+        ‵ (fat fullShare tyBool l₂₂ 0 (vbool (eqb r4 0))) ∷ ‵ (fat fullShare tyUnit l₂₃ 0 vunit) ∷
         ‵ (fat fullShare (tyRef erased mut (pointee ((UInt w8) .written))) l₂₄ 0 (vptr (dead .ptr .0) (dead .ptr .1))) ∷
-        ‵ (fat fullShare (sliceTy (tyRef erased mut (pointee ((UInt w8) .written)))) l₂₅ 0 (sliceVal (dead .ptr) (length (ws5 .1 .1 .1 .0)))) ∷
+        ‵ (fat fullShare (sliceTy (tyRef erased mut (pointee ((UInt w8) .written)))) l₂₅ 0 (sliceVal (dead .ptr) (length (ws4 .1 .1 .1 .0)))) ∷
         ‵ Fd ∷ []) refl (
-        Walk.sets ! (Run.of-opd ! (Walk.local ! 19 refl))
-        (Run.init ! 10 refl (LL.lawful Outcome-T.the-type Outcome-L.the-laws 𝓤 H A W .typed r5 _ is5 .0)) (
+        Walk.sets ! (Run.of-opd ! (Walk.local ! 19 refl)) (Run.init ! 10 refl ((tt, record { fits = is4 .1 }))) (
         Walk.returns-by ! Post-search refl (Run.look ! 10 refl) (
         Walk.move ! (10 ∷ 10 ∷ 10 ∷ 10 ∷ 2 ∷ 4 ∷ 8 ∷ 8 ∷ 8 ∷ 8 ∷ 8 ∷ 8 ∷ 8 ∷ 8 ∷ 8 ∷ 8 ∷ 8 ∷ 8 ∷ 8 ∷ 8 ∷ 8 ∷ 8 ∷ 8 ∷ 8 ∷ 8 ∷ 8 ∷ 8 ∷ []) (
-        Walk.frees-gathered ! (Walk.full Outcome-L.mir l₀ (Outcome-L.lowered r5) ∷ Walk.full (tyInt w8) l₁ (vint w8 left) ∷
+        Walk.frees-gathered ! (Walk.full (tyInt w64) l₀ (vint w64 r4) ∷ Walk.full (tyInt w8) l₁ (vint w8 left) ∷
         Walk.full (tyInt w8) l₂ (vint w8 right) ∷ Walk.full Y-search-nodes l₃ (sliceVal (nodes .ptr) (length (nodes .now))) ∷
-        Walk.full Y-search-dead l₄ (sliceVal (dead .ptr) (length (ws6 .0))) ∷ Walk.full Y-search-notes l₅ (sliceVal (notes .ptr)
-        (length (ws5 .1 .1 .1 .1 .0))) ∷ Walk.full Y-search-line l₆ (sliceVal (line .ptr) (length (line .now))) ∷
+        Walk.full Y-search-dead l₄ (sliceVal (dead .ptr) (length (ws5 .0))) ∷ Walk.full Y-search-notes l₅ (sliceVal (notes .ptr)
+        (length (ws4 .1 .1 .1 .1 .0))) ∷ Walk.full Y-search-line l₆ (sliceVal (line .ptr) (length (line .now))) ∷
         Walk.full (tyInt w64) l₇ (vint w64 end) ∷ Walk.full (tyInt w64) l₈ (vint w64 node) ∷ Walk.full (tyInt w64) l₉ (vint w64 at) ∷
-        Walk.full (tyInt w64) l₁₀ (vint w64 r1) ∷ Walk.full Outcome-L.mir l₁₁ (Outcome-L.lowered r5) ∷ Walk.full tyBool l₁₂ (vbool r2) ∷
+        Walk.full (tyInt w64) l₁₀ (vint w64 r1) ∷ Walk.full (tyInt w64) l₁₁ (vint w64 r4) ∷ Walk.full tyBool l₁₂ (vbool r2) ∷
         Walk.full (tyRef erased imm (pointee ((UInt w8) .written))) l₁₃ (vptr (dead .ptr .0) (dead .ptr .1)) ∷
         Walk.full (sliceTy (tyRef erased imm (pointee ((UInt w8) .written)))) l₁₄ (sliceVal (dead .ptr) (length (dead .now))) ∷
         Walk.full tyUnit l₁₅ vunit ∷ Walk.full (tyRef erased mut (pointee ((UInt w64) .written))) l₁₆ (vptr (notes .ptr .0) (notes .ptr .1)) ∷
@@ -621,38 +582,35 @@ module _ {M : Type 1} (𝓤 : URA M) (H : Heap 𝓤) (A : Atoms 𝓤) (W : Given
         Walk.full (tyRef erased mut (pointee ((UInt w8) .written))) l₁₈ (vptr (dead .ptr .0) (dead .ptr .1)) ∷
         Walk.full (sliceTy (tyRef erased mut (pointee ((UInt w8) .written)))) l₁₉ (sliceVal (dead .ptr) (length (dead .now))) ∷
         Walk.full (tyRef erased mut (pointee ((UInt w64) .written))) l₂₀ (vptr (notes .ptr .0) (notes .ptr .1)) ∷
-        Walk.full (sliceTy (tyRef erased mut (pointee ((UInt w64) .written)))) l₂₁ (sliceVal (notes .ptr) (length (ws4 .0))) ∷
-        Walk.full tyBool l₂₂ (vbool (eqb (r5 .node) 0)) ∷ Walk.full tyUnit l₂₃ vunit ∷
+        Walk.full (sliceTy (tyRef erased mut (pointee ((UInt w64) .written)))) l₂₁ (sliceVal (notes .ptr) (length (ws3 .0))) ∷
+        Walk.full tyBool l₂₂ (vbool (eqb r4 0)) ∷ Walk.full tyUnit l₂₃ vunit ∷
         Walk.full (tyRef erased mut (pointee ((UInt w8) .written))) l₂₄ (vptr (dead .ptr .0) (dead .ptr .1)) ∷
-        Walk.full (sliceTy (tyRef erased mut (pointee ((UInt w8) .written)))) l₂₅ (sliceVal (dead .ptr) (length (ws5 .1 .1 .1 .0))) ∷
-        []) Fd ed (‵ (T-search-dead .own (at-last dead (ws6 .0)) (sliceVal (dead .ptr) (length (ws6 .0)) ∷ [])) ∷ ‵ (flft κ₁ q₁) ∷
-        ‵ (T-search-notes .own (at-last notes (ws5 .1 .1 .1 .1 .0)) (sliceVal (notes .ptr) (length (ws5 .1 .1 .1 .1 .0)) ∷ [])) ∷ ‵ (flft κ₂ q₂) ∷
+        Walk.full (sliceTy (tyRef erased mut (pointee ((UInt w8) .written)))) l₂₅ (sliceVal (dead .ptr) (length (ws4 .1 .1 .1 .0))) ∷
+        []) Fd ed (‵ (T-search-dead .own (at-last dead (ws5 .0)) (sliceVal (dead .ptr) (length (ws5 .0)) ∷ [])) ∷ ‵ (flft κ₁ q₁) ∷
+        ‵ (T-search-notes .own (at-last notes (ws4 .1 .1 .1 .1 .0)) (sliceVal (notes .ptr) (length (ws4 .1 .1 .1 .1 .0)) ∷ [])) ∷ ‵ (flft κ₂ q₂) ∷
         ‵ (flft κ₀ q₀) ∷ ‵ (flft κ₃ q₃) ∷ ‵ (T-search-nodes .own nodes (sliceVal (nodes .ptr) (length (nodes .now)) ∷ [])) ∷
         ‵ (T-search-line .own line (sliceVal (line .ptr) (length (line .now)) ∷ [])) ∷ []) (
         Walk.move ! (0 ∷ 1 ∷ []) (
-        Walk.gives W (Walk.nothing ∷ Walk.nothing ∷ Walk.nothing ∷ Walk.turned (T-search-dead .own (at-last dead (ws6 .0)) (sliceVal (dead .ptr)
-        (length (ws6 .0)) ∷ [])) (finally (UInt w8) (dead .name) (ws6 .0)) (Walk.ended-slice 𝓤 H A W (named 1) κ₁ (UInt w8) dead (ws6 .0) _) ∷
-        Walk.turned (T-search-notes .own (at-last notes (ws5 .1 .1 .1 .1 .0)) (sliceVal (notes .ptr) (length (ws5 .1 .1 .1 .1 .0)) ∷ []))
-        (finally (UInt w64) (notes .name) (ws5 .1 .1 .1 .1 .0)) (Walk.ended-slice 𝓤 H A W (named 2) κ₂ (UInt w64) notes (ws5 .1 .1 .1 .1 .0) _) ∷
+        Walk.gives W (Walk.nothing ∷ Walk.nothing ∷ Walk.nothing ∷ Walk.turned (T-search-dead .own (at-last dead (ws5 .0)) (sliceVal (dead .ptr)
+        (length (ws5 .0)) ∷ [])) (finally (UInt w8) (dead .name) (ws5 .0)) (Walk.ended-slice 𝓤 H A W (named 1) κ₁ (UInt w8) dead (ws5 .0) _) ∷
+        Walk.turned (T-search-notes .own (at-last notes (ws4 .1 .1 .1 .1 .0)) (sliceVal (notes .ptr) (length (ws4 .1 .1 .1 .1 .0)) ∷ []))
+        (finally (UInt w64) (notes .name) (ws4 .1 .1 .1 .1 .0)) (Walk.ended-slice 𝓤 H A W (named 2) κ₂ (UInt w64) notes (ws4 .1 .1 .1 .1 .0) _) ∷
         Walk.nothing ∷ Walk.nothing ∷ Walk.nothing ∷ Walk.nothing ∷ []) _ ! (
         Walk.move ! (3 ∷ 1 ∷ 1 ∷ 1 ∷ []) (
         Walk.tokens-in W ((κ₀, q₀) ∷ (κ₁, q₁) ∷ (κ₂, q₂) ∷ (κ₃, q₃) ∷ []) _ ! (alive 𝓤 H A f-search.signature (κ₀, (κ₁, (κ₂, (κ₃, tt))))
         (q₀, (q₁, (q₂, (q₃, tt))))) (id⊢ 𝓤 _) (
-        Walk.use0 W ! (‵ (Outcome-T.the-row .own r5 ((Outcome-L.lowered r5) ∷ []))) (LL.makes Outcome-T.the-type Outcome-L.the-plain 𝓤 H A r5 _ is5) (
-        Walk.keep ! (1 ∷ 1 ∷ 0 ∷ []) (
-        Kit.by ! (Walk.leave-by 𝓤 H A W f-search.ended (f-search.clauses 𝓤 H A mem run) stayed-search bound-search (Outcome-L.lowered r5) r5 (tt, (tt, (tt, ((ws6 .0), ((ws5 .1 .1 .1 .1 .0), (tt, (tt, (tt, (tt, tt))))))))) (tt, (tt, (tt, ((len5 ∙ (len3 ∙ refl)), ((len4 ∙ (len2 ∙ refl)), (tt, (tt, (tt, (tt, tt))))))))) (factI 𝓤 _ (emp 𝓤) (leads-nowhere pre e1 e2 t1 e4 e5 (eqb-true (r5 .node) 0 t2) e6)))))))))))))))))))))))))))
-        (λ h2. let t2 : (eqb (r5 .node) 0) ≡ false = Walk.is-false _ h2 in
-        Walk.skips-then ! (
-        Walk.sets ! (Run.of-opd ! (Walk.local ! 19 refl))
-        (Run.init ! 10 refl (LL.lawful Outcome-T.the-type Outcome-L.the-laws 𝓤 H A W .typed r5 _ is5 .0)) (
+        Walk.use0 W ! (‵ ((UInt w64) .own r4 ((vint w64 r4) ∷ []))) (uint-makes 𝓤 H A W w64 r4 _ (refl, is4 .1)) (Walk.keep ! (1 ∷ 1 ∷ 0 ∷ []) (
+        Kit.by ! (Walk.leave-by 𝓤 H A W f-search.ended (f-search.clauses 𝓤 H A mem run) stayed-search bound-search (vint w64 r4) r4 (tt, (tt, (tt, ((ws5 .0), ((ws4 .1 .1 .1 .1 .0), (tt, (tt, (tt, (tt, tt))))))))) (tt, (tt, (tt, ((len5 ∙ (len3 ∙ refl)), ((len4 ∙ (len2 ∙ refl)), (tt, (tt, (tt, (tt, tt))))))))) (factI 𝓤 _ (emp 𝓤) (leads-nowhere pre e1 e2 t1 e3 e4 (eqb-true r4 0 t2) e5)))))))))))))))))))))))))))
+        (λ h2. let t2 : (eqb r4 0) ≡ false = Walk.is-false _ h2 in
+        Walk.skips-then ! (Walk.sets ! (Run.of-opd ! (Walk.local ! 19 refl)) (Run.init ! 10 refl ((tt, record { fits = is4 .1 }))) (
         Walk.returns-by ! Post-search refl (Run.look ! 10 refl) (
         Walk.move ! (10 ∷ 10 ∷ 10 ∷ 10 ∷ 5 ∷ 2 ∷ 8 ∷ 8 ∷ 8 ∷ 8 ∷ 8 ∷ 8 ∷ 8 ∷ 8 ∷ 8 ∷ 8 ∷ 8 ∷ 8 ∷ 8 ∷ 8 ∷ 8 ∷ 8 ∷ 8 ∷ 8 ∷ 8 ∷ 8 ∷ 8 ∷ []) (
-        Walk.frees-gathered ! (Walk.full Outcome-L.mir l₀ (Outcome-L.lowered r5) ∷ Walk.full (tyInt w8) l₁ (vint w8 left) ∷
+        Walk.frees-gathered ! (Walk.full (tyInt w64) l₀ (vint w64 r4) ∷ Walk.full (tyInt w8) l₁ (vint w8 left) ∷
         Walk.full (tyInt w8) l₂ (vint w8 right) ∷ Walk.full Y-search-nodes l₃ (sliceVal (nodes .ptr) (length (nodes .now))) ∷
-        Walk.full Y-search-dead l₄ (sliceVal (dead .ptr) (length (ws5 .1 .1 .1 .0))) ∷ Walk.full Y-search-notes l₅ (sliceVal (notes .ptr)
-        (length (ws5 .1 .1 .1 .1 .0))) ∷ Walk.full Y-search-line l₆ (sliceVal (line .ptr) (length (line .now))) ∷
+        Walk.full Y-search-dead l₄ (sliceVal (dead .ptr) (length (ws4 .1 .1 .1 .0))) ∷ Walk.full Y-search-notes l₅ (sliceVal (notes .ptr)
+        (length (ws4 .1 .1 .1 .1 .0))) ∷ Walk.full Y-search-line l₆ (sliceVal (line .ptr) (length (line .now))) ∷
         Walk.full (tyInt w64) l₇ (vint w64 end) ∷ Walk.full (tyInt w64) l₈ (vint w64 node) ∷ Walk.full (tyInt w64) l₉ (vint w64 at) ∷
-        Walk.full (tyInt w64) l₁₀ (vint w64 r1) ∷ Walk.full Outcome-L.mir l₁₁ (Outcome-L.lowered r5) ∷ Walk.full tyBool l₁₂ (vbool r2) ∷
+        Walk.full (tyInt w64) l₁₀ (vint w64 r1) ∷ Walk.full (tyInt w64) l₁₁ (vint w64 r4) ∷ Walk.full tyBool l₁₂ (vbool r2) ∷
         Walk.full (tyRef erased imm (pointee ((UInt w8) .written))) l₁₃ (vptr (dead .ptr .0) (dead .ptr .1)) ∷
         Walk.full (sliceTy (tyRef erased imm (pointee ((UInt w8) .written)))) l₁₄ (sliceVal (dead .ptr) (length (dead .now))) ∷
         Walk.full tyUnit l₁₅ vunit ∷ Walk.full (tyRef erased mut (pointee ((UInt w64) .written))) l₁₆ (vptr (notes .ptr .0) (notes .ptr .1)) ∷
@@ -660,26 +618,25 @@ module _ {M : Type 1} (𝓤 : URA M) (H : Heap 𝓤) (A : Atoms 𝓤) (W : Given
         Walk.full (tyRef erased mut (pointee ((UInt w8) .written))) l₁₈ (vptr (dead .ptr .0) (dead .ptr .1)) ∷
         Walk.full (sliceTy (tyRef erased mut (pointee ((UInt w8) .written)))) l₁₉ (sliceVal (dead .ptr) (length (dead .now))) ∷
         Walk.full (tyRef erased mut (pointee ((UInt w64) .written))) l₂₀ (vptr (notes .ptr .0) (notes .ptr .1)) ∷
-        Walk.full (sliceTy (tyRef erased mut (pointee ((UInt w64) .written)))) l₂₁ (sliceVal (notes .ptr) (length (ws4 .0))) ∷
-        Walk.full tyBool l₂₂ (vbool (eqb (r5 .node) 0)) ∷ Walk.bare tyUnit l₂₃ ∷ Walk.bare (tyRef erased mut (pointee ((UInt w8) .written))) l₂₄ ∷
+        Walk.full (sliceTy (tyRef erased mut (pointee ((UInt w64) .written)))) l₂₁ (sliceVal (notes .ptr) (length (ws3 .0))) ∷
+        Walk.full tyBool l₂₂ (vbool (eqb r4 0)) ∷ Walk.bare tyUnit l₂₃ ∷ Walk.bare (tyRef erased mut (pointee ((UInt w8) .written))) l₂₄ ∷
         Walk.bare (sliceTy (tyRef erased mut (pointee ((UInt w8) .written)))) l₂₅ ∷
-        []) Fd ed (‵ (T-search-notes .own (at-last notes (ws5 .1 .1 .1 .1 .0)) (sliceVal (notes .ptr) (length (ws5 .1 .1 .1 .1 .0)) ∷ [])) ∷
-        ‵ (flft κ₂ q₂) ∷ ‵ (T-search-dead .own (at-last dead (ws5 .1 .1 .1 .0)) (sliceVal (dead .ptr) (length (ws5 .1 .1 .1 .0)) ∷ [])) ∷
+        []) Fd ed (‵ (T-search-notes .own (at-last notes (ws4 .1 .1 .1 .1 .0)) (sliceVal (notes .ptr) (length (ws4 .1 .1 .1 .1 .0)) ∷ [])) ∷
+        ‵ (flft κ₂ q₂) ∷ ‵ (T-search-dead .own (at-last dead (ws4 .1 .1 .1 .0)) (sliceVal (dead .ptr) (length (ws4 .1 .1 .1 .0)) ∷ [])) ∷
         ‵ (flft κ₁ q₁) ∷ ‵ (flft κ₀ q₀) ∷ ‵ (flft κ₃ q₃) ∷ ‵ (T-search-nodes .own nodes (sliceVal (nodes .ptr) (length (nodes .now)) ∷ [])) ∷
         ‵ (T-search-line .own line (sliceVal (line .ptr) (length (line .now)) ∷ [])) ∷ []) (
         Walk.move ! (2 ∷ 0 ∷ []) (
-        Walk.gives W (Walk.nothing ∷ Walk.nothing ∷ Walk.nothing ∷ Walk.turned (T-search-dead .own (at-last dead (ws5 .1 .1 .1 .0))
-        (sliceVal (dead .ptr) (length (ws5 .1 .1 .1 .0)) ∷ [])) (finally (UInt w8) (dead .name) (ws5 .1 .1 .1 .0))
-        (Walk.ended-slice 𝓤 H A W (named 1) κ₁ (UInt w8) dead (ws5 .1 .1 .1 .0) _) ∷
-        Walk.turned (T-search-notes .own (at-last notes (ws5 .1 .1 .1 .1 .0)) (sliceVal (notes .ptr) (length (ws5 .1 .1 .1 .1 .0)) ∷ []))
-        (finally (UInt w64) (notes .name) (ws5 .1 .1 .1 .1 .0)) (Walk.ended-slice 𝓤 H A W (named 2) κ₂ (UInt w64) notes (ws5 .1 .1 .1 .1 .0) _) ∷
+        Walk.gives W (Walk.nothing ∷ Walk.nothing ∷ Walk.nothing ∷ Walk.turned (T-search-dead .own (at-last dead (ws4 .1 .1 .1 .0))
+        (sliceVal (dead .ptr) (length (ws4 .1 .1 .1 .0)) ∷ [])) (finally (UInt w8) (dead .name) (ws4 .1 .1 .1 .0))
+        (Walk.ended-slice 𝓤 H A W (named 1) κ₁ (UInt w8) dead (ws4 .1 .1 .1 .0) _) ∷
+        Walk.turned (T-search-notes .own (at-last notes (ws4 .1 .1 .1 .1 .0)) (sliceVal (notes .ptr) (length (ws4 .1 .1 .1 .1 .0)) ∷ []))
+        (finally (UInt w64) (notes .name) (ws4 .1 .1 .1 .1 .0)) (Walk.ended-slice 𝓤 H A W (named 2) κ₂ (UInt w64) notes (ws4 .1 .1 .1 .1 .0) _) ∷
         Walk.nothing ∷ Walk.nothing ∷ Walk.nothing ∷ Walk.nothing ∷ []) _ ! (
         Walk.move ! (3 ∷ 2 ∷ 1 ∷ 1 ∷ []) (
         Walk.tokens-in W ((κ₀, q₀) ∷ (κ₁, q₁) ∷ (κ₂, q₂) ∷ (κ₃, q₃) ∷ []) _ ! (alive 𝓤 H A f-search.signature (κ₀, (κ₁, (κ₂, (κ₃, tt))))
         (q₀, (q₁, (q₂, (q₃, tt))))) (id⊢ 𝓤 _) (
-        Walk.use0 W ! (‵ (Outcome-T.the-row .own r5 ((Outcome-L.lowered r5) ∷ []))) (LL.makes Outcome-T.the-type Outcome-L.the-plain 𝓤 H A r5 _ is5) (
-        Walk.keep ! (1 ∷ 1 ∷ 0 ∷ []) (
-        Kit.by ! (Walk.leave-by 𝓤 H A W f-search.ended (f-search.clauses 𝓤 H A mem run) stayed-search bound-search (Outcome-L.lowered r5) r5 (tt, (tt, (tt, ((ws5 .1 .1 .1 .0), ((ws5 .1 .1 .1 .1 .0), (tt, (tt, (tt, (tt, tt))))))))) (tt, (tt, (tt, ((len3 ∙ refl), ((len4 ∙ (len2 ∙ refl)), (tt, (tt, (tt, (tt, tt))))))))) (factI 𝓤 _ (emp 𝓤) (leads-on pre e1 e2 t1 e4 e5 (eqb-false (r5 .node) 0 t2)))))))))))))))))))))))))))))))))))))))))))))))))))))))))))))))))))))))))))))))))))))))))))))))))))))))))))))))))))))
+        Walk.use0 W ! (‵ ((UInt w64) .own r4 ((vint w64 r4) ∷ []))) (uint-makes 𝓤 H A W w64 r4 _ (refl, is4 .1)) (Walk.keep ! (1 ∷ 1 ∷ 0 ∷ []) (
+        Kit.by ! (Walk.leave-by 𝓤 H A W f-search.ended (f-search.clauses 𝓤 H A mem run) stayed-search bound-search (vint w64 r4) r4 (tt, (tt, (tt, ((ws4 .1 .1 .1 .0), ((ws4 .1 .1 .1 .1 .0), (tt, (tt, (tt, (tt, tt))))))))) (tt, (tt, (tt, ((len3 ∙ refl), ((len4 ∙ (len2 ∙ refl)), (tt, (tt, (tt, (tt, tt))))))))) (factI 𝓤 _ (emp 𝓤) (leads-on pre e1 e2 t1 e3 e4 (eqb-false r4 0 t2)))))))))))))))))))))))))))))))))))))))))))))))))))))))))))))))))))))))))))))))))))))))))))))))))))))))))))))))))))))
 
 module _ {M : Type 1} (𝓤 : URA M) (H : Heap 𝓤) (A : Atoms 𝓤) (W : Given 𝓤 H A) (mem : Memory → SProp 𝓤) (run : Routine → Fun 𝓤) (κ₀ : Lft)
     (q₀ : Share) (κ₁ : Lft) (q₁ : Share) (κ₂ : Lft) (q₂ : Share) (κ₃ : Lft) (q₃ : Share) (left : ℕ) (right : ℕ) (nodes : RefT (List Node))
@@ -728,8 +685,7 @@ module _ {M : Type 1} (𝓤 : URA M) (H : Heap 𝓤) (A : Atoms 𝓤) (W : Given
 
   module _ (C : Calls 𝓤 H) (Λ : Loops 𝓤 H) (fm : FmC 𝓤 H (W .laws) C) (known-node-at : Triple 𝓤 (C #g-node-at)
       (Walk.Of 𝓤 H A g-node-at.ended (g-node-at.clauses 𝓤 H A mem run))) (known-has-element : Triple 𝓤 (C #g-has-element)
-      (Walk.Of 𝓤 H A g-has-element.ended (g-has-element.clauses 𝓤 H A mem run))) (known-no-piece : Triple 𝓤 (C #g-no-piece)
-      (Walk.Of 𝓤 H A g-no-piece.ended (g-no-piece.clauses 𝓤 H A mem run))) (known-find-atom : Triple 𝓤 (C #g-find-atom)
+      (Walk.Of 𝓤 H A g-has-element.ended (g-has-element.clauses 𝓤 H A mem run))) (known-find-atom : Triple 𝓤 (C #g-find-atom)
       (Walk.Of 𝓤 H A g-find-atom.ended (g-find-atom.clauses 𝓤 H A mem run))) (known-count-bytes : Triple 𝓤 (C #g-count-bytes)
       (Walk.Of 𝓤 H A g-count-bytes.ended (g-count-bytes.clauses 𝓤 H A mem run))) (known-pass-atom : Triple 𝓤 (C #g-pass-atom)
       (Walk.Of 𝓤 H A g-pass-atom.ended (g-pass-atom.clauses 𝓤 H A mem run)))
@@ -779,21 +735,23 @@ module _ {M : Type 1} (𝓤 : URA M) (H : Heap 𝓤) (A : Atoms 𝓤) (W : Given
         Walk.move ! (4 ∷ []) (Walk.tokens-out W ((κ₀, q₀) ∷ (κ₁, q₁) ∷ (κ₂, q₂) ∷ (κ₃, q₃) ∷ []) ! (id⊢ 𝓤 _) (
         Walk.enter ! C Λ code.search-atom-function ((vint w8 left) ∷ (vint w8 right) ∷ v-search-atom-nodes ∷ v-search-atom-dead ∷
         v-search-atom-notes ∷ v-search-atom-line ∷ (vint w64 end) ∷ (vint w64 node) ∷ (vint w64 at) ∷ []) Post-search-atom (
-        Run.alloc1 ! (λ l₀. Run.alloc1 ! (λ l₁. Run.alloc1 ! (λ l₂. Run.alloc1 ! (λ l₃. Run.alloc1 ! (λ l₄. Run.alloc1 ! (λ l₅. Run.alloc1 ! (λ l₆. Run.alloc1 ! (λ l₇. Run.alloc1 ! (λ l₈. Run.alloc1 ! (λ l₉. Run.alloc1 ! (λ l₁₀. Run.alloc1 ! (λ l₁₁. Run.alloc1 ! (λ l₁₂. Run.alloc1 ! (λ l₁₃. Run.alloc1 ! (λ l₁₄. Run.alloc1 ! (λ l₁₅. Run.alloc1 ! (λ l₁₆. Run.alloc1 ! (λ l₁₇. Run.alloc1 ! (λ l₁₈. Run.alloc1 ! (λ l₁₉. Run.alloc1 ! (λ l₂₀. Run.alloc1 ! (λ l₂₁. Run.alloc1 ! (λ l₂₂. Run.alloc1 ! (λ l₂₃.
+        Run.alloc1 ! (λ l₀. Run.alloc1 ! (λ l₁. Run.alloc1 ! (λ l₂. Run.alloc1 ! (λ l₃. Run.alloc1 ! (λ l₄. Run.alloc1 ! (λ l₅. Run.alloc1 ! (λ l₆. Run.alloc1 ! (λ l₇. Run.alloc1 ! (λ l₈. Run.alloc1 ! (λ l₉. Run.alloc1 ! (λ l₁₀. Run.alloc1 ! (λ l₁₁. Run.alloc1 ! (λ l₁₂. Run.alloc1 ! (λ l₁₃. Run.alloc1 ! (λ l₁₄. Run.alloc1 ! (λ l₁₅. Run.alloc1 ! (λ l₁₆. Run.alloc1 ! (λ l₁₇. Run.alloc1 ! (λ l₁₈. Run.alloc1 ! (λ l₁₉. Run.alloc1 ! (λ l₂₀. Run.alloc1 ! (λ l₂₁. Run.alloc1 ! (λ l₂₂. Run.alloc1 ! (λ l₂₃. Run.alloc1 ! (λ l₂₄. Run.alloc1 ! (λ l₂₅.
         let E : Env 𝓤 H = Walk.at-addresses (code.search-atom-function .locals) (l₀ ∷ l₁ ∷ l₂ ∷ l₃ ∷ l₄ ∷ l₅ ∷ l₆ ∷ l₇ ∷ l₈ ∷ l₉ ∷ l₁₀ ∷ l₁₁ ∷ l₁₂ ∷
-        l₁₃ ∷ l₁₄ ∷ l₁₅ ∷ l₁₆ ∷ l₁₇ ∷ l₁₈ ∷ l₁₉ ∷ l₂₀ ∷ l₂₁ ∷ l₂₂ ∷ l₂₃ ∷ []) in
-        Walk.move ! (46 ∷ 46 ∷ 44 ∷ 44 ∷ 42 ∷ 42 ∷ 40 ∷ 40 ∷ 38 ∷ 38 ∷ 36 ∷ 36 ∷ 34 ∷ 34 ∷ 32 ∷ 32 ∷ 30 ∷ 30 ∷ 28 ∷ 28 ∷ 26 ∷ 26 ∷ 24 ∷ 24 ∷ 22 ∷
-        22 ∷ 20 ∷ 20 ∷ 18 ∷ 18 ∷ 16 ∷ 16 ∷ 14 ∷ 14 ∷ 12 ∷ 12 ∷ 10 ∷ 10 ∷ 8 ∷ 8 ∷ 6 ∷ 6 ∷ 4 ∷ 4 ∷ 2 ∷ 2 ∷ 0 ∷ 0 ∷ []) (
-        Walk.gathers ! (Walk.bare Outcome-L.mir l₀ ∷ Walk.bare (tyInt w8) l₁ ∷ Walk.bare (tyInt w8) l₂ ∷ Walk.bare Y-search-atom-nodes l₃ ∷
+        l₁₃ ∷ l₁₄ ∷ l₁₅ ∷ l₁₆ ∷ l₁₇ ∷ l₁₈ ∷ l₁₉ ∷ l₂₀ ∷ l₂₁ ∷ l₂₂ ∷ l₂₃ ∷ l₂₄ ∷ l₂₅ ∷ []) in
+        Walk.move ! (50 ∷ 50 ∷ 48 ∷ 48 ∷ 46 ∷ 46 ∷ 44 ∷ 44 ∷ 42 ∷ 42 ∷ 40 ∷ 40 ∷ 38 ∷ 38 ∷ 36 ∷ 36 ∷ 34 ∷ 34 ∷ 32 ∷ 32 ∷ 30 ∷ 30 ∷ 28 ∷ 28 ∷ 26 ∷
+        26 ∷ 24 ∷ 24 ∷ 22 ∷ 22 ∷ 20 ∷ 20 ∷ 18 ∷ 18 ∷ 16 ∷ 16 ∷ 14 ∷ 14 ∷ 12 ∷ 12 ∷ 10 ∷ 10 ∷ 8 ∷ 8 ∷ 6 ∷ 6 ∷ 4 ∷ 4 ∷ 2 ∷ 2 ∷ 0 ∷ 0 ∷ []) (
+        Walk.gathers ! (Walk.bare (tyInt w64) l₀ ∷ Walk.bare (tyInt w8) l₁ ∷ Walk.bare (tyInt w8) l₂ ∷ Walk.bare Y-search-atom-nodes l₃ ∷
         Walk.bare Y-search-atom-dead l₄ ∷ Walk.bare Y-search-atom-notes l₅ ∷ Walk.bare Y-search-atom-line l₆ ∷ Walk.bare (tyInt w64) l₇ ∷
-        Walk.bare (tyInt w64) l₈ ∷ Walk.bare (tyInt w64) l₉ ∷ Walk.bare Scanned-L.mir l₁₀ ∷ Walk.bare (tyInt w64) l₁₁ ∷
-        Walk.bare Outcome-L.mir l₁₂ ∷ Walk.bare tyBool l₁₃ ∷ Walk.bare Node-L.mir l₁₄ ∷ Walk.bare tyBool l₁₅ ∷ Walk.bare tyUnit l₁₆ ∷
+        Walk.bare (tyInt w64) l₈ ∷ Walk.bare (tyInt w64) l₉ ∷ Walk.bare Scanned-L.mir l₁₀ ∷ Walk.bare (tyInt w64) l₁₁ ∷ Walk.bare (tyInt w64) l₁₂ ∷
+        Walk.bare tyBool l₁₃ ∷ Walk.bare Node-L.mir l₁₄ ∷ Walk.bare tyBool l₁₅ ∷ Walk.bare tyUnit l₁₆ ∷
         Walk.bare (tyRef erased mut (pointee ((UInt w64) .written))) l₁₇ ∷
         Walk.bare (sliceTy (tyRef erased mut (pointee ((UInt w64) .written)))) l₁₈ ∷
         Walk.bare (tyRef erased mut (pointee ((UInt w8) .written))) l₁₉ ∷
         Walk.bare (sliceTy (tyRef erased mut (pointee ((UInt w8) .written)))) l₂₀ ∷
         Walk.bare (tyRef erased mut (pointee ((UInt w64) .written))) l₂₁ ∷
-        Walk.bare (sliceTy (tyRef erased mut (pointee ((UInt w64) .written)))) l₂₂ ∷ Walk.bare (tyInt w64) l₂₃ ∷ []) (‵ (flft κ₀ q₀) ∷
+        Walk.bare (sliceTy (tyRef erased mut (pointee ((UInt w64) .written)))) l₂₂ ∷
+        Walk.bare (tyRef erased mut (pointee ((UInt w64) .written))) l₂₃ ∷
+        Walk.bare (sliceTy (tyRef erased mut (pointee ((UInt w64) .written)))) l₂₄ ∷ Walk.bare (tyInt w64) l₂₅ ∷ []) (‵ (flft κ₀ q₀) ∷
         ‵ (flft κ₁ q₁) ∷ ‵ (flft κ₂ q₂) ∷ ‵ (flft κ₃ q₃) ∷ ‵ (T-search-atom-line .own line (sliceVal (line .ptr) (length (line .now)) ∷ [])) ∷
         ‵ (T-search-atom-notes .own notes (sliceVal (notes .ptr) (length (notes .now)) ∷ [])) ∷
         ‵ (T-search-atom-dead .own dead (sliceVal (dead .ptr) (length (dead .now)) ∷ [])) ∷ ‵ (T-search-atom-nodes .own nodes (sliceVal (nodes .ptr)
@@ -808,11 +766,11 @@ module _ {M : Type 1} (𝓤 : URA M) (H : Heap 𝓤) (A : Atoms 𝓤) (W : Given
         Walk.pass ! (Run.init ! 9 refl ((tt, record { fits = fits-at }))) (Walk.passed ! (
         -- [the locals; their ends; κ₀; κ₁; κ₂; κ₃; line; notes; dead; nodes]
         -- call 1: node_at (nodes, node)
-        Walk.move ! (32 ∷ []) (
+        Walk.move ! (34 ∷ []) (
         Walk.gives W (Walk.copied (T-search-atom-nodes .own nodes (v-search-atom-nodes ∷ []))
         (shr-slice-copy 𝓤 H A W (named 0) κ₀ Node-T.the-row .twice nodes _) ∷ Walk.made ((UInt w64) .own node ((vint w64 node) ∷ []))
         (uint-makes 𝓤 H A W w64 node _ (refl, fits-node)) ∷ []) _ ! (
-        Walk.move ! (27 ∷ []) (Walk.tokens-in W ((κ₀, q₀) ∷ []) _ ! (alive 𝓤 H A g-node-at.signature (κ₀, tt) (q₀, tt)) (id⊢ 𝓤 _) (
+        Walk.move ! (29 ∷ []) (Walk.tokens-in W ((κ₀, q₀) ∷ []) _ ! (alive 𝓤 H A g-node-at.signature (κ₀, tt) (q₀, tt)) (id⊢ 𝓤 _) (
         Walk.asks W ! fm g-node-at.ended (g-node-at.clauses 𝓤 H A mem run)
         (((κ₀, tt), (q₀, tt), tt, (nodes, (node, tt)), (v-search-atom-nodes ∷ [], ((vint w64 node) ∷ [], tt))), tt) _ (known-node-at (((κ₀, tt), (q₀, tt), tt, (nodes, (node, tt)), (v-search-atom-nodes ∷ [], ((vint w64 node) ∷ [], tt))), tt)) (factI 𝓤 _ (emp 𝓤) (asks-node pre)) (λ r ws. id⊢ 𝓤 _)
         (Run.and-then ! (Walk.local ! 5 refl) (Run.and-then ! (Walk.local ! 10 refl) (Run.no-more !))) (λ u1 r1 is1′ e1.
@@ -822,20 +780,22 @@ module _ {M : Type 1} (𝓤 : URA M) (H : Heap 𝓤) (A : Atoms 𝓤) (W : Given
         let is1 : Is Node-T.the-row r1 ((Node-L.lowered r1) ∷ []) = subst (λ (vs : List Val). Is Node-T.the-row r1 vs)
         (LL.tells Node-T.the-type Node-L.the-laws r1 _ is1′) is1′ in
         Walk.written-out ! (‵ (flft κ₀ q₀) ∷ ‵ (T-search-atom-nodes .own nodes (sliceVal (nodes .ptr) (length (nodes .now)) ∷ [])) ∷
-        ‵ (froom Outcome-L.mir l₀ 0) ∷ ‵ (fat fullShare (tyInt w8) l₁ 0 (vint w8 left)) ∷ ‵ (fat fullShare (tyInt w8) l₂ 0 (vint w8 right)) ∷
+        ‵ (froom (tyInt w64) l₀ 0) ∷ ‵ (fat fullShare (tyInt w8) l₁ 0 (vint w8 left)) ∷ ‵ (fat fullShare (tyInt w8) l₂ 0 (vint w8 right)) ∷
         ‵ (fat fullShare Y-search-atom-nodes l₃ 0 (sliceVal (nodes .ptr) (length (nodes .now)))) ∷
         ‵ (fat fullShare Y-search-atom-dead l₄ 0 (sliceVal (dead .ptr) (length (dead .now)))) ∷
         ‵ (fat fullShare Y-search-atom-notes l₅ 0 (sliceVal (notes .ptr) (length (notes .now)))) ∷
         ‵ (fat fullShare Y-search-atom-line l₆ 0 (sliceVal (line .ptr) (length (line .now)))) ∷ ‵ (fat fullShare (tyInt w64) l₇ 0 (vint w64 end)) ∷
         ‵ (fat fullShare (tyInt w64) l₈ 0 (vint w64 node)) ∷ ‵ (fat fullShare (tyInt w64) l₉ 0 (vint w64 at)) ∷ ‵ (froom Scanned-L.mir l₁₀ 0) ∷
-        ‵ (froom (tyInt w64) l₁₁ 0) ∷ ‵ (froom Outcome-L.mir l₁₂ 0) ∷ ‵ (froom tyBool l₁₃ 0) ∷
+        ‵ (froom (tyInt w64) l₁₁ 0) ∷ ‵ (froom (tyInt w64) l₁₂ 0) ∷ ‵ (froom tyBool l₁₃ 0) ∷
         ‵ (fat fullShare Node-L.mir l₁₄ 0 (Node-L.lowered r1)) ∷ ‵ (froom tyBool l₁₅ 0) ∷ ‵ (froom tyUnit l₁₆ 0) ∷
         ‵ (froom (tyRef erased mut (pointee ((UInt w64) .written))) l₁₇ 0) ∷
         ‵ (froom (sliceTy (tyRef erased mut (pointee ((UInt w64) .written)))) l₁₈ 0) ∷
         ‵ (froom (tyRef erased mut (pointee ((UInt w8) .written))) l₁₉ 0) ∷
         ‵ (froom (sliceTy (tyRef erased mut (pointee ((UInt w8) .written)))) l₂₀ 0) ∷
         ‵ (froom (tyRef erased mut (pointee ((UInt w64) .written))) l₂₁ 0) ∷
-        ‵ (froom (sliceTy (tyRef erased mut (pointee ((UInt w64) .written)))) l₂₂ 0) ∷ ‵ (froom (tyInt w64) l₂₃ 0) ∷ ‵ Fd ∷ ‵ (flft κ₁ q₁) ∷
+        ‵ (froom (sliceTy (tyRef erased mut (pointee ((UInt w64) .written)))) l₂₂ 0) ∷
+        ‵ (froom (tyRef erased mut (pointee ((UInt w64) .written))) l₂₃ 0) ∷
+        ‵ (froom (sliceTy (tyRef erased mut (pointee ((UInt w64) .written)))) l₂₄ 0) ∷ ‵ (froom (tyInt w64) l₂₅ 0) ∷ ‵ Fd ∷ ‵ (flft κ₁ q₁) ∷
         ‵ (flft κ₂ q₂) ∷ ‵ (flft κ₃ q₃) ∷ ‵ (T-search-atom-line .own line (sliceVal (line .ptr) (length (line .now)) ∷ [])) ∷
         ‵ (T-search-atom-notes .own notes (sliceVal (notes .ptr) (length (notes .now)) ∷ [])) ∷
         ‵ (T-search-atom-dead .own dead (sliceVal (dead .ptr) (length (dead .now)) ∷ [])) ∷ []) refl (
@@ -851,71 +811,45 @@ module _ {M : Type 1} (𝓤 : URA M) (H : Heap 𝓤) (A : Atoms 𝓤) (W : Given
         Walk.lands-in ! (Walk.init-as ! 15 refl (bool-lawful 𝓤 H A W .typed r2 _ is2′ .0) (ap only (bool-tells r2 _ is2′))) (
         let is2 : Is Boolean r2 ((vbool r2) ∷ []) = subst (λ (vs : List Val). Is Boolean r2 vs) (bool-tells r2 _ is2′) is2′ in
         Walk.written-out ! (‵ (flft κ₀ q₀) ∷ ‵ (T-search-atom-nodes .own nodes (sliceVal (nodes .ptr) (length (nodes .now)) ∷ [])) ∷
-        ‵ (froom Outcome-L.mir l₀ 0) ∷ ‵ (fat fullShare (tyInt w8) l₁ 0 (vint w8 left)) ∷ ‵ (fat fullShare (tyInt w8) l₂ 0 (vint w8 right)) ∷
+        ‵ (froom (tyInt w64) l₀ 0) ∷ ‵ (fat fullShare (tyInt w8) l₁ 0 (vint w8 left)) ∷ ‵ (fat fullShare (tyInt w8) l₂ 0 (vint w8 right)) ∷
         ‵ (fat fullShare Y-search-atom-nodes l₃ 0 (sliceVal (nodes .ptr) (length (nodes .now)))) ∷
         ‵ (fat fullShare Y-search-atom-dead l₄ 0 (sliceVal (dead .ptr) (length (dead .now)))) ∷
         ‵ (fat fullShare Y-search-atom-notes l₅ 0 (sliceVal (notes .ptr) (length (notes .now)))) ∷
         ‵ (fat fullShare Y-search-atom-line l₆ 0 (sliceVal (line .ptr) (length (line .now)))) ∷ ‵ (fat fullShare (tyInt w64) l₇ 0 (vint w64 end)) ∷
         ‵ (fat fullShare (tyInt w64) l₈ 0 (vint w64 node)) ∷ ‵ (fat fullShare (tyInt w64) l₉ 0 (vint w64 at)) ∷ ‵ (froom Scanned-L.mir l₁₀ 0) ∷
-        ‵ (froom (tyInt w64) l₁₁ 0) ∷ ‵ (froom Outcome-L.mir l₁₂ 0) ∷ ‵ (fat fullShare tyBool l₁₃ 0 (vbool r2)) ∷
+        ‵ (froom (tyInt w64) l₁₁ 0) ∷ ‵ (froom (tyInt w64) l₁₂ 0) ∷ ‵ (fat fullShare tyBool l₁₃ 0 (vbool r2)) ∷
         ‵ (fat fullShare Node-L.mir l₁₄ 0 (Node-L.lowered r1)) ∷ ‵ (froom tyBool l₁₅ 0) ∷ ‵ (froom tyUnit l₁₆ 0) ∷
         ‵ (froom (tyRef erased mut (pointee ((UInt w64) .written))) l₁₇ 0) ∷
         ‵ (froom (sliceTy (tyRef erased mut (pointee ((UInt w64) .written)))) l₁₈ 0) ∷
         ‵ (froom (tyRef erased mut (pointee ((UInt w8) .written))) l₁₉ 0) ∷
         ‵ (froom (sliceTy (tyRef erased mut (pointee ((UInt w8) .written)))) l₂₀ 0) ∷
         ‵ (froom (tyRef erased mut (pointee ((UInt w64) .written))) l₂₁ 0) ∷
-        ‵ (froom (sliceTy (tyRef erased mut (pointee ((UInt w64) .written)))) l₂₂ 0) ∷ ‵ (froom (tyInt w64) l₂₃ 0) ∷ ‵ Fd ∷ ‵ (flft κ₁ q₁) ∷
+        ‵ (froom (sliceTy (tyRef erased mut (pointee ((UInt w64) .written)))) l₂₂ 0) ∷
+        ‵ (froom (tyRef erased mut (pointee ((UInt w64) .written))) l₂₃ 0) ∷
+        ‵ (froom (sliceTy (tyRef erased mut (pointee ((UInt w64) .written)))) l₂₄ 0) ∷ ‵ (froom (tyInt w64) l₂₅ 0) ∷ ‵ Fd ∷ ‵ (flft κ₁ q₁) ∷
         ‵ (flft κ₂ q₂) ∷ ‵ (flft κ₃ q₃) ∷ ‵ (T-search-atom-line .own line (sliceVal (line .ptr) (length (line .now)) ∷ [])) ∷
         ‵ (T-search-atom-notes .own notes (sliceVal (notes .ptr) (length (notes .now)) ∷ [])) ∷
         ‵ (T-search-atom-dead .own dead (sliceVal (dead .ptr) (length (dead .now)) ∷ [])) ∷ []) refl (
         Walk.sets ! (Run.un ! (Walk.local ! 15 refl) tt) (Run.init ! 17 refl ((tt, tt))) (Walk.first-then ! (Run.branches ! (Walk.local ! 17 refl)
         (λ h1. let t1 : (not r2) ≡ true = Walk.is-true _ h1 in
-        -- [κ₀; nodes; the locals; their ends; κ₁; κ₂; κ₃; line; notes; dead]
-        -- call 3: no_piece (0)
-        Walk.gives W (Walk.made ((UInt w64) .own 0 ((vint w64 0) ∷ [])) (uint-makes 𝓤 H A W w64 0 _ (refl, lit< tt)) ∷ []) _ ! (
-        Walk.tokens-in W ([]) _ ! (alive 𝓤 H A g-no-piece.signature tt tt) (id⊢ 𝓤 _) (
-        Walk.asks W ! fm g-no-piece.ended (g-no-piece.clauses 𝓤 H A mem run)
-        ((tt, tt, tt, (0, tt), ((vint w64 0) ∷ [], tt)), tt) _ (known-no-piece ((tt, tt, tt, (0, tt), ((vint w64 0) ∷ [], tt)), tt)) (id⊢ 𝓤 (emp 𝓤))
-        (λ r ws. id⊢ 𝓤 _)
-        (Run.and-then ! (Run.lit ! tt) (Run.no-more !)) (λ u3 r3 is3′ e3.
-        Walk.tokens-out W ([]) ! (id⊢ 𝓤 _) (
-        Walk.lands-in ! (Walk.init-as ! 2 refl (LL.lawful Outcome-T.the-type Outcome-L.the-laws 𝓤 H A W .typed r3 _ is3′ .0)
-        (ap only (LL.tells Outcome-T.the-type Outcome-L.the-laws r3 _ is3′))) (
-        let is3 : Is Outcome-T.the-row r3 ((Outcome-L.lowered r3) ∷ []) = subst (λ (vs : List Val). Is Outcome-T.the-row r3 vs)
-        (LL.tells Outcome-T.the-type Outcome-L.the-laws r3 _ is3′) is3′ in
-        Walk.written-out ! (‵ (flft κ₀ q₀) ∷ ‵ (T-search-atom-nodes .own nodes (sliceVal (nodes .ptr) (length (nodes .now)) ∷ [])) ∷
-        ‵ (fat fullShare Outcome-L.mir l₀ 0 (Outcome-L.lowered r3)) ∷ ‵ (fat fullShare (tyInt w8) l₁ 0 (vint w8 left)) ∷
-        ‵ (fat fullShare (tyInt w8) l₂ 0 (vint w8 right)) ∷ ‵ (fat fullShare Y-search-atom-nodes l₃ 0 (sliceVal (nodes .ptr)
-        (length (nodes .now)))) ∷ ‵ (fat fullShare Y-search-atom-dead l₄ 0 (sliceVal (dead .ptr) (length (dead .now)))) ∷
-        ‵ (fat fullShare Y-search-atom-notes l₅ 0 (sliceVal (notes .ptr) (length (notes .now)))) ∷
-        ‵ (fat fullShare Y-search-atom-line l₆ 0 (sliceVal (line .ptr) (length (line .now)))) ∷ ‵ (fat fullShare (tyInt w64) l₇ 0 (vint w64 end)) ∷
-        ‵ (fat fullShare (tyInt w64) l₈ 0 (vint w64 node)) ∷ ‵ (fat fullShare (tyInt w64) l₉ 0 (vint w64 at)) ∷ ‵ (froom Scanned-L.mir l₁₀ 0) ∷
-        ‵ (froom (tyInt w64) l₁₁ 0) ∷ ‵ (froom Outcome-L.mir l₁₂ 0) ∷ ‵ (fat fullShare tyBool l₁₃ 0 (vbool r2)) ∷
-        ‵ (fat fullShare Node-L.mir l₁₄ 0 (Node-L.lowered r1)) ∷ ‵ (fat fullShare tyBool l₁₅ 0 (vbool (not r2))) ∷ ‵ (froom tyUnit l₁₆ 0) ∷
-        ‵ (froom (tyRef erased mut (pointee ((UInt w64) .written))) l₁₇ 0) ∷
-        ‵ (froom (sliceTy (tyRef erased mut (pointee ((UInt w64) .written)))) l₁₈ 0) ∷
-        ‵ (froom (tyRef erased mut (pointee ((UInt w8) .written))) l₁₉ 0) ∷
-        ‵ (froom (sliceTy (tyRef erased mut (pointee ((UInt w8) .written)))) l₂₀ 0) ∷
-        ‵ (froom (tyRef erased mut (pointee ((UInt w64) .written))) l₂₁ 0) ∷
-        ‵ (froom (sliceTy (tyRef erased mut (pointee ((UInt w64) .written)))) l₂₂ 0) ∷ ‵ (froom (tyInt w64) l₂₃ 0) ∷ ‵ Fd ∷ ‵ (flft κ₁ q₁) ∷
-        ‵ (flft κ₂ q₂) ∷ ‵ (flft κ₃ q₃) ∷ ‵ (T-search-atom-line .own line (sliceVal (line .ptr) (length (line .now)) ∷ [])) ∷
-        ‵ (T-search-atom-notes .own notes (sliceVal (notes .ptr) (length (notes .now)) ∷ [])) ∷
-        ‵ (T-search-atom-dead .own dead (sliceVal (dead .ptr) (length (dead .now)) ∷ [])) ∷ []) refl (
+        Walk.sets ! (Run.of-opd ! (Run.lit ! tt)) (Run.init ! 2 refl ((tt, record { fits = lit< tt }))) (
         Walk.returns-by ! Post-search-atom (Walk.through 𝓤 H C Λ E _ _ Post-search-atom refl) (Run.look ! 2 refl) (
-        Walk.move ! (2 ∷ 2 ∷ 2 ∷ 2 ∷ 2 ∷ 2 ∷ 2 ∷ 2 ∷ 2 ∷ 2 ∷ 2 ∷ 2 ∷ 2 ∷ 2 ∷ 2 ∷ 2 ∷ 2 ∷ 2 ∷ 2 ∷ 2 ∷ 2 ∷ 2 ∷ 2 ∷ 2 ∷ 2 ∷ []) (
-        Walk.frees-gathered ! (Walk.full Outcome-L.mir l₀ (Outcome-L.lowered r3) ∷ Walk.full (tyInt w8) l₁ (vint w8 left) ∷
+        Walk.move ! (2 ∷ 2 ∷ 2 ∷ 2 ∷ 2 ∷ 2 ∷ 2 ∷ 2 ∷ 2 ∷ 2 ∷ 2 ∷ 2 ∷ 2 ∷ 2 ∷ 2 ∷ 2 ∷ 2 ∷ 2 ∷ 2 ∷ 2 ∷ 2 ∷ 2 ∷ 2 ∷ 2 ∷ 2 ∷ 2 ∷ 2 ∷ []) (
+        Walk.frees-gathered ! (Walk.full (tyInt w64) l₀ (vint w64 0) ∷ Walk.full (tyInt w8) l₁ (vint w8 left) ∷
         Walk.full (tyInt w8) l₂ (vint w8 right) ∷ Walk.full Y-search-atom-nodes l₃ (sliceVal (nodes .ptr) (length (nodes .now))) ∷
         Walk.full Y-search-atom-dead l₄ (sliceVal (dead .ptr) (length (dead .now))) ∷ Walk.full Y-search-atom-notes l₅ (sliceVal (notes .ptr)
         (length (notes .now))) ∷ Walk.full Y-search-atom-line l₆ (sliceVal (line .ptr) (length (line .now))) ∷
         Walk.full (tyInt w64) l₇ (vint w64 end) ∷ Walk.full (tyInt w64) l₈ (vint w64 node) ∷ Walk.full (tyInt w64) l₉ (vint w64 at) ∷
-        Walk.bare Scanned-L.mir l₁₀ ∷ Walk.bare (tyInt w64) l₁₁ ∷ Walk.bare Outcome-L.mir l₁₂ ∷ Walk.full tyBool l₁₃ (vbool r2) ∷
+        Walk.bare Scanned-L.mir l₁₀ ∷ Walk.bare (tyInt w64) l₁₁ ∷ Walk.bare (tyInt w64) l₁₂ ∷ Walk.full tyBool l₁₃ (vbool r2) ∷
         Walk.full Node-L.mir l₁₄ (Node-L.lowered r1) ∷ Walk.full tyBool l₁₅ (vbool (not r2)) ∷ Walk.bare tyUnit l₁₆ ∷
         Walk.bare (tyRef erased mut (pointee ((UInt w64) .written))) l₁₇ ∷
         Walk.bare (sliceTy (tyRef erased mut (pointee ((UInt w64) .written)))) l₁₈ ∷
         Walk.bare (tyRef erased mut (pointee ((UInt w8) .written))) l₁₉ ∷
         Walk.bare (sliceTy (tyRef erased mut (pointee ((UInt w8) .written)))) l₂₀ ∷
         Walk.bare (tyRef erased mut (pointee ((UInt w64) .written))) l₂₁ ∷
-        Walk.bare (sliceTy (tyRef erased mut (pointee ((UInt w64) .written)))) l₂₂ ∷ Walk.bare (tyInt w64) l₂₃ ∷ []) Fd ed (‵ (flft κ₀ q₀) ∷
+        Walk.bare (sliceTy (tyRef erased mut (pointee ((UInt w64) .written)))) l₂₂ ∷
+        Walk.bare (tyRef erased mut (pointee ((UInt w64) .written))) l₂₃ ∷
+        Walk.bare (sliceTy (tyRef erased mut (pointee ((UInt w64) .written)))) l₂₄ ∷ Walk.bare (tyInt w64) l₂₅ ∷ []) Fd ed (‵ (flft κ₀ q₀) ∷
         ‵ (T-search-atom-nodes .own nodes (sliceVal (nodes .ptr) (length (nodes .now)) ∷ [])) ∷ ‵ (flft κ₁ q₁) ∷ ‵ (flft κ₂ q₂) ∷ ‵ (flft κ₃ q₃) ∷
         ‵ (T-search-atom-line .own line (sliceVal (line .ptr) (length (line .now)) ∷ [])) ∷ ‵ (T-search-atom-notes .own notes (sliceVal (notes .ptr)
         (length (notes .now)) ∷ [])) ∷ ‵ (T-search-atom-dead .own dead (sliceVal (dead .ptr) (length (dead .now)) ∷ [])) ∷ []) (
@@ -929,38 +863,37 @@ module _ {M : Type 1} (𝓤 : URA M) (H : Heap 𝓤) (A : Atoms 𝓤) (W : Given
         Walk.move ! (1 ∷ 2 ∷ 2 ∷ 2 ∷ []) (
         Walk.tokens-in W ((κ₀, q₀) ∷ (κ₁, q₁) ∷ (κ₂, q₂) ∷ (κ₃, q₃) ∷ []) _ ! (alive 𝓤 H A f-search-atom.signature (κ₀, (κ₁, (κ₂, (κ₃, tt))))
         (q₀, (q₁, (q₂, (q₃, tt))))) (id⊢ 𝓤 _) (
-        Walk.use0 W ! (‵ (Outcome-T.the-row .own r3 ((Outcome-L.lowered r3) ∷ []))) (LL.makes Outcome-T.the-type Outcome-L.the-plain 𝓤 H A r3 _ is3) (
-        Walk.keep ! (1 ∷ 1 ∷ 0 ∷ []) (
-        Kit.by ! (Walk.leave-by 𝓤 H A W f-search-atom.ended (f-search-atom.clauses 𝓤 H A mem run) stayed-search-atom bound-search-atom (Outcome-L.lowered r3) r3 (tt, (tt, (tt, ((dead .now), ((notes .now), (tt, (tt, (tt, (tt, tt))))))))) (tt, (tt, (tt, (refl, (refl, (tt, (tt, (tt, (tt, tt))))))))) (factI 𝓤 _ (emp 𝓤) (atom-not e1 e2 (not-true _ t1) e3)))))))))))))))))))
+        Walk.use0 W ! (‵ ((UInt w64) .own 0 ((vint w64 0) ∷ []))) (uint-makes 𝓤 H A W w64 0 _ (refl, lit< tt)) (Walk.keep ! (1 ∷ 1 ∷ 0 ∷ []) (
+        Kit.by ! (Walk.leave-by 𝓤 H A W f-search-atom.ended (f-search-atom.clauses 𝓤 H A mem run) stayed-search-atom bound-search-atom (vint w64 0) 0 (tt, (tt, (tt, ((dead .now), ((notes .now), (tt, (tt, (tt, (tt, tt))))))))) (tt, (tt, (tt, (refl, (refl, (tt, (tt, (tt, (tt, tt))))))))) (factI 𝓤 _ (emp 𝓤) (atom-not e1 e2 (not-true _ t1) refl))))))))))))))
         (λ h1. let t1 : (not r2) ≡ false = Walk.is-false _ h1 in
         Walk.skips-then ! (
         -- [κ₀; nodes; the locals; their ends; κ₁; κ₂; κ₃; line; notes; dead]
-        -- call 4: find_atom (left, right, line, end, at)
-        Walk.move ! (30 ∷ []) (
+        -- call 3: find_atom (left, right, line, end, at)
+        Walk.move ! (32 ∷ []) (
         Walk.gives W (Walk.made ((UInt w8) .own left ((vint w8 left) ∷ [])) (uint-makes 𝓤 H A W w8 left _ (refl, fits-left)) ∷
         Walk.made ((UInt w8) .own right ((vint w8 right) ∷ [])) (uint-makes 𝓤 H A W w8 right _ (refl, fits-right)) ∷
         Walk.copied (T-search-atom-line .own line (v-search-atom-line ∷ [])) (shr-slice-copy 𝓤 H A W (named 3) κ₃ (UInt w8) .twice line _) ∷
         Walk.made ((UInt w64) .own end ((vint w64 end) ∷ [])) (uint-makes 𝓤 H A W w64 end _ (refl, fits-end)) ∷
         Walk.made ((UInt w64) .own at ((vint w64 at) ∷ [])) (uint-makes 𝓤 H A W w64 at _ (refl, fits-at)) ∷ []) _ ! (
-        Walk.move ! (31 ∷ []) (Walk.tokens-in W ((κ₃, q₃) ∷ []) _ ! (alive 𝓤 H A g-find-atom.signature (κ₃, tt) (q₃, tt)) (id⊢ 𝓤 _) (
+        Walk.move ! (33 ∷ []) (Walk.tokens-in W ((κ₃, q₃) ∷ []) _ ! (alive 𝓤 H A g-find-atom.signature (κ₃, tt) (q₃, tt)) (id⊢ 𝓤 _) (
         Walk.asks W ! fm g-find-atom.ended (g-find-atom.clauses 𝓤 H A mem run)
         (((κ₃, tt), (q₃, tt), tt, (left, (right, (line, (end, (at, tt))))), ((vint w8 left) ∷ [], ((vint w8 right) ∷ [], (v-search-atom-line ∷ [], ((vint w64 end) ∷ [], ((vint w64 at) ∷ [], tt)))))), tt) _ (known-find-atom (((κ₃, tt), (q₃, tt), tt, (left, (right, (line, (end, (at, tt))))), ((vint w8 left) ∷ [], ((vint w8 right) ∷ [], (v-search-atom-line ∷ [], ((vint w64 end) ∷ [], ((vint w64 at) ∷ [], tt)))))), tt)) (factI 𝓤 _ (emp 𝓤) ((pre .low, pre .high))) (λ r ws. id⊢ 𝓤 _)
         (Run.and-then ! (Walk.local ! 5 refl) (Run.and-then ! (Walk.local ! 6 refl) (Run.and-then ! (Walk.local ! 10 refl)
-        (Run.and-then ! (Walk.local ! 11 refl) (Run.and-then ! (Walk.local ! 13 refl) (Run.no-more !)))))) (λ u4 r4 is4′ e4.
+        (Run.and-then ! (Walk.local ! 11 refl) (Run.and-then ! (Walk.local ! 13 refl) (Run.no-more !)))))) (λ u3 r3 is3′ e3.
         Walk.tokens-out W ((κ₃, q₃) ∷ []) ! (id⊢ 𝓤 _) (
-        Walk.lands-in ! (Walk.init-as ! 14 refl (LL.lawful Scanned-T.the-type Scanned-L.the-laws 𝓤 H A W .typed r4 _ is4′ .0)
-        (ap only (LL.tells Scanned-T.the-type Scanned-L.the-laws r4 _ is4′))) (
-        let is4 : Is Scanned-T.the-row r4 ((Scanned-L.lowered r4) ∷ []) = subst (λ (vs : List Val). Is Scanned-T.the-row r4 vs)
-        (LL.tells Scanned-T.the-type Scanned-L.the-laws r4 _ is4′) is4′ in
+        Walk.lands-in ! (Walk.init-as ! 14 refl (LL.lawful Scanned-T.the-type Scanned-L.the-laws 𝓤 H A W .typed r3 _ is3′ .0)
+        (ap only (LL.tells Scanned-T.the-type Scanned-L.the-laws r3 _ is3′))) (
+        let is3 : Is Scanned-T.the-row r3 ((Scanned-L.lowered r3) ∷ []) = subst (λ (vs : List Val). Is Scanned-T.the-row r3 vs)
+        (LL.tells Scanned-T.the-type Scanned-L.the-laws r3 _ is3′) is3′ in
         Walk.written-out ! (‵ (flft κ₃ q₃) ∷ ‵ (T-search-atom-line .own line (sliceVal (line .ptr) (length (line .now)) ∷ [])) ∷ ‵ (flft κ₀ q₀) ∷
-        ‵ (T-search-atom-nodes .own nodes (sliceVal (nodes .ptr) (length (nodes .now)) ∷ [])) ∷ ‵ (froom Outcome-L.mir l₀ 0) ∷
+        ‵ (T-search-atom-nodes .own nodes (sliceVal (nodes .ptr) (length (nodes .now)) ∷ [])) ∷ ‵ (froom (tyInt w64) l₀ 0) ∷
         ‵ (fat fullShare (tyInt w8) l₁ 0 (vint w8 left)) ∷ ‵ (fat fullShare (tyInt w8) l₂ 0 (vint w8 right)) ∷
         ‵ (fat fullShare Y-search-atom-nodes l₃ 0 (sliceVal (nodes .ptr) (length (nodes .now)))) ∷
         ‵ (fat fullShare Y-search-atom-dead l₄ 0 (sliceVal (dead .ptr) (length (dead .now)))) ∷
         ‵ (fat fullShare Y-search-atom-notes l₅ 0 (sliceVal (notes .ptr) (length (notes .now)))) ∷
         ‵ (fat fullShare Y-search-atom-line l₆ 0 (sliceVal (line .ptr) (length (line .now)))) ∷ ‵ (fat fullShare (tyInt w64) l₇ 0 (vint w64 end)) ∷
         ‵ (fat fullShare (tyInt w64) l₈ 0 (vint w64 node)) ∷ ‵ (fat fullShare (tyInt w64) l₉ 0 (vint w64 at)) ∷
-        ‵ (fat fullShare Scanned-L.mir l₁₀ 0 (Scanned-L.lowered r4)) ∷ ‵ (froom (tyInt w64) l₁₁ 0) ∷ ‵ (froom Outcome-L.mir l₁₂ 0) ∷
+        ‵ (fat fullShare Scanned-L.mir l₁₀ 0 (Scanned-L.lowered r3)) ∷ ‵ (froom (tyInt w64) l₁₁ 0) ∷ ‵ (froom (tyInt w64) l₁₂ 0) ∷
         ‵ (fat fullShare tyBool l₁₃ 0 (vbool r2)) ∷ ‵ (fat fullShare Node-L.mir l₁₄ 0 (Node-L.lowered r1)) ∷
         ‵ (fat fullShare tyBool l₁₅ 0 (vbool (not r2))) ∷ ‵ (froom tyUnit l₁₆ 0) ∷
         ‵ (froom (tyRef erased mut (pointee ((UInt w64) .written))) l₁₇ 0) ∷
@@ -968,7 +901,9 @@ module _ {M : Type 1} (𝓤 : URA M) (H : Heap 𝓤) (A : Atoms 𝓤) (W : Given
         ‵ (froom (tyRef erased mut (pointee ((UInt w8) .written))) l₁₉ 0) ∷
         ‵ (froom (sliceTy (tyRef erased mut (pointee ((UInt w8) .written)))) l₂₀ 0) ∷
         ‵ (froom (tyRef erased mut (pointee ((UInt w64) .written))) l₂₁ 0) ∷
-        ‵ (froom (sliceTy (tyRef erased mut (pointee ((UInt w64) .written)))) l₂₂ 0) ∷ ‵ (froom (tyInt w64) l₂₃ 0) ∷ ‵ Fd ∷ ‵ (flft κ₁ q₁) ∷
+        ‵ (froom (sliceTy (tyRef erased mut (pointee ((UInt w64) .written)))) l₂₂ 0) ∷
+        ‵ (froom (tyRef erased mut (pointee ((UInt w64) .written))) l₂₃ 0) ∷
+        ‵ (froom (sliceTy (tyRef erased mut (pointee ((UInt w64) .written)))) l₂₄ 0) ∷ ‵ (froom (tyInt w64) l₂₅ 0) ∷ ‵ Fd ∷ ‵ (flft κ₁ q₁) ∷
         ‵ (flft κ₂ q₂) ∷ ‵ (T-search-atom-notes .own notes (sliceVal (notes .ptr) (length (notes .now)) ∷ [])) ∷
         ‵ (T-search-atom-dead .own dead (sliceVal (dead .ptr) (length (dead .now)) ∷ [])) ∷ []) refl (
         Walk.sets ! (Run.addr ! (Run.from ! (Run.fld ! refl (Run.hop ! (Part.look-in ! 9 (Part.sub ! 0 refl (Part.whole !))) (Run.stop !)))))
@@ -976,31 +911,31 @@ module _ {M : Type 1} (𝓤 : URA M) (H : Heap 𝓤) (A : Atoms 𝓤) (W : Given
         Walk.sets ! (Part.agg ! (Run.and-then ! (Walk.local ! 21 refl) (Run.and-then ! (Walk.part ! 9 refl refl refl) (Run.no-more !))))
         (Run.init ! 22 refl ((tt, (tt, (record { fits = is-notes .0 .1 .0 }, tt))))) (
         -- [κ₃; line; κ₀; nodes; the locals; their ends; κ₁; κ₂; notes; dead]
-        -- call 5: count_bytes (notes, r4 .read)
-        Walk.move ! (31 ∷ 30 ∷ []) (Again.lends W (UInt w64) κ₂ q₂ notes (named 2) (named 0) (notes .now) ! tt (λ ν1 δ1.
+        -- call 4: count_bytes (notes, r3 .read)
+        Walk.move ! (33 ∷ 32 ∷ []) (Again.lends W (UInt w64) κ₂ q₂ notes (named 2) (named 0) (notes .now) ! tt (λ ν1 δ1.
         Walk.gives W (Walk.kept (MutSlice (named 0) (ν1 ∷ []) (UInt w64) .own (record { ptr = (notes .ptr); name = δ1; now = (notes .now) })
-        ((sliceVal (notes .ptr) (length (notes .now))) ∷ [])) ∷ Walk.made ((UInt w64) .own (r4 .read) ((vint w64 (r4 .read)) ∷ []))
-        (uint-makes 𝓤 H A W w64 (r4 .read) _ (refl, LL.owed Scanned-T.the-type Scanned-L.the-laws r4 _ is4 .1 .0 .1)) ∷ []) _ ! (
+        ((sliceVal (notes .ptr) (length (notes .now))) ∷ [])) ∷ Walk.made ((UInt w64) .own (r3 .read) ((vint w64 (r3 .read)) ∷ []))
+        (uint-makes 𝓤 H A W w64 (r3 .read) _ (refl, LL.owed Scanned-T.the-type Scanned-L.the-laws r3 _ is3 .1 .0 .1)) ∷ []) _ ! (
         Walk.move ! (2 ∷ []) (
         Walk.tokens-in W (((ν1 ∷ []), fullShare) ∷ []) _ ! (alive 𝓤 H A g-count-bytes.signature ((ν1 ∷ []), tt) (fullShare, tt)) (id⊢ 𝓤 _) (
         Walk.asksˡ W ! fm g-count-bytes.ended (g-count-bytes.clauses 𝓤 H A mem run)
-        ((((ν1 ∷ []), tt), (fullShare, tt), tt, ((record { ptr = (notes .ptr); name = δ1; now = (notes .now) }), ((r4 .read), tt)), ((sliceVal (notes .ptr) (length (notes .now))) ∷ [], ((vint w64 (r4 .read)) ∷ [], tt))), tt) _ (known-count-bytes ((((ν1 ∷ []), tt), (fullShare, tt), tt, ((record { ptr = (notes .ptr); name = δ1; now = (notes .now) }), ((r4 .read), tt)), ((sliceVal (notes .ptr) (length (notes .now))) ∷ [], ((vint w64 (r4 .read)) ∷ [], tt))), tt)) (factI 𝓤 _ (emp 𝓤) (pre .twenty)) (λ r ws. id⊢ 𝓤 _)
-        (Run.and-then ! (Walk.local ! 24 refl) (Run.and-then ! (Walk.part ! 16 refl refl refl) (Run.no-more !))) (λ u5 r5 ws5 is5′ e5.
-        Walk.returned W (((ν1 ∷ []), fullShare) ∷ []) (Walk.final (finally (UInt w64) δ1 (ws5 .0)) (length (ws5 .0)) (length (notes .now)) ∷
+        ((((ν1 ∷ []), tt), (fullShare, tt), tt, ((record { ptr = (notes .ptr); name = δ1; now = (notes .now) }), ((r3 .read), tt)), ((sliceVal (notes .ptr) (length (notes .now))) ∷ [], ((vint w64 (r3 .read)) ∷ [], tt))), tt) _ (known-count-bytes ((((ν1 ∷ []), tt), (fullShare, tt), tt, ((record { ptr = (notes .ptr); name = δ1; now = (notes .now) }), ((r3 .read), tt)), ((sliceVal (notes .ptr) (length (notes .now))) ∷ [], ((vint w64 (r3 .read)) ∷ [], tt))), tt)) (factI 𝓤 _ (emp 𝓤) (pre .all-notes)) (λ r ws. id⊢ 𝓤 _)
+        (Run.and-then ! (Walk.local ! 24 refl) (Run.and-then ! (Walk.part ! 16 refl refl refl) (Run.no-more !))) (λ u4 r4 ws4 is4′ e4.
+        Walk.returned W (((ν1 ∷ []), fullShare) ∷ []) (Walk.final (finally (UInt w64) δ1 (ws4 .0)) (length (ws4 .0)) (length (notes .now)) ∷
         Walk.gone _ ∷ []) ! (id⊢ 𝓤 _) (λ len1.
-        Walk.move ! (1 ∷ 1 ∷ 0 ∷ 9 ∷ []) (Again.backs W (UInt w64) κ₂ q₂ notes (named 2) (named 0) (notes .now) ! tt (ws5 .0) (is-notes .0 .1) len1 (
-        Walk.lands-in ! (Walk.init-as ! 22 refl (nothing-lawful 𝓤 H A W .typed r5 _ is5′ .0) (ap only (nothing-tells r5 _ is5′))) (
-        let is5 : Is Nothing r5 (vunit ∷ []) = subst (λ (vs : List Val). Is Nothing r5 vs) (nothing-tells r5 _ is5′) is5′ in
-        Walk.written-out ! (‵ (T-search-atom-notes .own (at-last notes (ws5 .0)) (sliceVal (notes .ptr) (length (ws5 .0)) ∷ [])) ∷ ‵ (flft κ₂ q₂) ∷
-        ‵ (fat fullShare Y-search-atom-notes l₅ 0 (sliceVal (notes .ptr) (length (ws5 .0)))) ∷ ‵ (flft κ₃ q₃) ∷
+        Walk.move ! (1 ∷ 1 ∷ 0 ∷ 9 ∷ []) (Again.backs W (UInt w64) κ₂ q₂ notes (named 2) (named 0) (notes .now) ! tt (ws4 .0) (is-notes .0 .1) len1 (
+        Walk.lands-in ! (Walk.init-as ! 22 refl (nothing-lawful 𝓤 H A W .typed r4 _ is4′ .0) (ap only (nothing-tells r4 _ is4′))) (
+        let is4 : Is Nothing r4 (vunit ∷ []) = subst (λ (vs : List Val). Is Nothing r4 vs) (nothing-tells r4 _ is4′) is4′ in
+        Walk.written-out ! (‵ (T-search-atom-notes .own (at-last notes (ws4 .0)) (sliceVal (notes .ptr) (length (ws4 .0)) ∷ [])) ∷ ‵ (flft κ₂ q₂) ∷
+        ‵ (fat fullShare Y-search-atom-notes l₅ 0 (sliceVal (notes .ptr) (length (ws4 .0)))) ∷ ‵ (flft κ₃ q₃) ∷
         ‵ (T-search-atom-line .own line (sliceVal (line .ptr) (length (line .now)) ∷ [])) ∷ ‵ (flft κ₀ q₀) ∷
-        ‵ (T-search-atom-nodes .own nodes (sliceVal (nodes .ptr) (length (nodes .now)) ∷ [])) ∷ ‵ (froom Outcome-L.mir l₀ 0) ∷
+        ‵ (T-search-atom-nodes .own nodes (sliceVal (nodes .ptr) (length (nodes .now)) ∷ [])) ∷ ‵ (froom (tyInt w64) l₀ 0) ∷
         ‵ (fat fullShare (tyInt w8) l₁ 0 (vint w8 left)) ∷ ‵ (fat fullShare (tyInt w8) l₂ 0 (vint w8 right)) ∷
         ‵ (fat fullShare Y-search-atom-nodes l₃ 0 (sliceVal (nodes .ptr) (length (nodes .now)))) ∷
         ‵ (fat fullShare Y-search-atom-dead l₄ 0 (sliceVal (dead .ptr) (length (dead .now)))) ∷
         ‵ (fat fullShare Y-search-atom-line l₆ 0 (sliceVal (line .ptr) (length (line .now)))) ∷ ‵ (fat fullShare (tyInt w64) l₇ 0 (vint w64 end)) ∷
         ‵ (fat fullShare (tyInt w64) l₈ 0 (vint w64 node)) ∷ ‵ (fat fullShare (tyInt w64) l₉ 0 (vint w64 at)) ∷
-        ‵ (fat fullShare Scanned-L.mir l₁₀ 0 (Scanned-L.lowered r4)) ∷ ‵ (froom (tyInt w64) l₁₁ 0) ∷ ‵ (froom Outcome-L.mir l₁₂ 0) ∷
+        ‵ (fat fullShare Scanned-L.mir l₁₀ 0 (Scanned-L.lowered r3)) ∷ ‵ (froom (tyInt w64) l₁₁ 0) ∷ ‵ (froom (tyInt w64) l₁₂ 0) ∷
         ‵ (fat fullShare tyBool l₁₃ 0 (vbool r2)) ∷ ‵ (fat fullShare Node-L.mir l₁₄ 0 (Node-L.lowered r1)) ∷
         ‵ (fat fullShare tyBool l₁₅ 0 (vbool (not r2))) ∷ ‵ (fat fullShare tyUnit l₁₆ 0 vunit) ∷
         ‵ (fat fullShare (tyRef erased mut (pointee ((UInt w64) .written))) l₁₇ 0 (vptr (notes .ptr .0) (notes .ptr .1))) ∷
@@ -1008,77 +943,49 @@ module _ {M : Type 1} (𝓤 : URA M) (H : Heap 𝓤) (A : Atoms 𝓤) (W : Given
         ‵ (froom (tyRef erased mut (pointee ((UInt w8) .written))) l₁₉ 0) ∷
         ‵ (froom (sliceTy (tyRef erased mut (pointee ((UInt w8) .written)))) l₂₀ 0) ∷
         ‵ (froom (tyRef erased mut (pointee ((UInt w64) .written))) l₂₁ 0) ∷
-        ‵ (froom (sliceTy (tyRef erased mut (pointee ((UInt w64) .written)))) l₂₂ 0) ∷ ‵ (froom (tyInt w64) l₂₃ 0) ∷ ‵ Fd ∷ ‵ (flft κ₁ q₁) ∷
+        ‵ (froom (sliceTy (tyRef erased mut (pointee ((UInt w64) .written)))) l₂₂ 0) ∷
+        ‵ (froom (tyRef erased mut (pointee ((UInt w64) .written))) l₂₃ 0) ∷
+        ‵ (froom (sliceTy (tyRef erased mut (pointee ((UInt w64) .written)))) l₂₄ 0) ∷ ‵ (froom (tyInt w64) l₂₅ 0) ∷ ‵ Fd ∷ ‵ (flft κ₁ q₁) ∷
         ‵ (T-search-atom-dead .own dead (sliceVal (dead .ptr) (length (dead .now)) ∷ [])) ∷ []) refl (
         Walk.sets ! (Run.of-opd ! (Walk.part ! 16 refl refl refl))
-        (Run.init ! 17 refl ((tt, record { fits = LL.owed Scanned-T.the-type Scanned-L.the-laws r4 _ is4 .0 .1 }))) (
+        (Run.init ! 17 refl ((tt, record { fits = LL.owed Scanned-T.the-type Scanned-L.the-laws r3 _ is3 .0 .1 }))) (
         Walk.sets ! (Run.bin ! (Walk.local ! 17 refl) (Run.lit ! tt) tt) (Run.store ! 19 refl ((tt, tt))) (Walk.first-then ! (
         Run.branches ! (Walk.local ! 19 refl)
-        (λ h2. let t2 : (eqb (r4 .end) 0) ≡ true = Walk.is-true _ h2 in
-        -- [notes; κ₂; the locals; κ₃; line; κ₀; nodes; their ends; κ₁; dead]
-        -- call 6: no_piece (0)
-        Walk.gives W (Walk.made ((UInt w64) .own 0 ((vint w64 0) ∷ [])) (uint-makes 𝓤 H A W w64 0 _ (refl, lit< tt)) ∷ []) _ ! (
-        Walk.tokens-in W ([]) _ ! (alive 𝓤 H A g-no-piece.signature tt tt) (id⊢ 𝓤 _) (
-        Walk.asks W ! fm g-no-piece.ended (g-no-piece.clauses 𝓤 H A mem run)
-        ((tt, tt, tt, (0, tt), ((vint w64 0) ∷ [], tt)), tt) _ (known-no-piece ((tt, tt, tt, (0, tt), ((vint w64 0) ∷ [], tt)), tt)) (id⊢ 𝓤 (emp 𝓤))
-        (λ r ws. id⊢ 𝓤 _)
-        (Run.and-then ! (Run.lit ! tt) (Run.no-more !)) (λ u6 r6 is6′ e6.
-        Walk.tokens-out W ([]) ! (id⊢ 𝓤 _) (
-        Walk.lands-in ! (Walk.init-as ! 7 refl (LL.lawful Outcome-T.the-type Outcome-L.the-laws 𝓤 H A W .typed r6 _ is6′ .0)
-        (ap only (LL.tells Outcome-T.the-type Outcome-L.the-laws r6 _ is6′))) (
-        let is6 : Is Outcome-T.the-row r6 ((Outcome-L.lowered r6) ∷ []) = subst (λ (vs : List Val). Is Outcome-T.the-row r6 vs)
-        (LL.tells Outcome-T.the-type Outcome-L.the-laws r6 _ is6′) is6′ in
-        Walk.written-out ! (‵ (T-search-atom-notes .own (at-last notes (ws5 .0)) (sliceVal (notes .ptr) (length (ws5 .0)) ∷ [])) ∷ ‵ (flft κ₂ q₂) ∷
-        ‵ (fat fullShare Y-search-atom-notes l₅ 0 (sliceVal (notes .ptr) (length (ws5 .0)))) ∷ ‵ (flft κ₃ q₃) ∷
-        ‵ (T-search-atom-line .own line (sliceVal (line .ptr) (length (line .now)) ∷ [])) ∷ ‵ (flft κ₀ q₀) ∷
-        ‵ (T-search-atom-nodes .own nodes (sliceVal (nodes .ptr) (length (nodes .now)) ∷ [])) ∷
-        ‵ (fat fullShare Outcome-L.mir l₀ 0 (Outcome-L.lowered r6)) ∷ ‵ (fat fullShare (tyInt w8) l₁ 0 (vint w8 left)) ∷
-        ‵ (fat fullShare (tyInt w8) l₂ 0 (vint w8 right)) ∷ ‵ (fat fullShare Y-search-atom-nodes l₃ 0 (sliceVal (nodes .ptr)
-        (length (nodes .now)))) ∷ ‵ (fat fullShare Y-search-atom-dead l₄ 0 (sliceVal (dead .ptr) (length (dead .now)))) ∷
-        ‵ (fat fullShare Y-search-atom-line l₆ 0 (sliceVal (line .ptr) (length (line .now)))) ∷ ‵ (fat fullShare (tyInt w64) l₇ 0 (vint w64 end)) ∷
-        ‵ (fat fullShare (tyInt w64) l₈ 0 (vint w64 node)) ∷ ‵ (fat fullShare (tyInt w64) l₉ 0 (vint w64 at)) ∷
-        ‵ (fat fullShare Scanned-L.mir l₁₀ 0 (Scanned-L.lowered r4)) ∷ ‵ (fat fullShare (tyInt w64) l₁₁ 0 (vint w64 (r4 .end))) ∷
-        ‵ (froom Outcome-L.mir l₁₂ 0) ∷ ‵ (fat fullShare tyBool l₁₃ 0 (vbool (eqb (r4 .end) 0))) ∷
-        ‵ (fat fullShare Node-L.mir l₁₄ 0 (Node-L.lowered r1)) ∷ ‵ (fat fullShare tyBool l₁₅ 0 (vbool (not r2))) ∷
-        ‵ (fat fullShare tyUnit l₁₆ 0 vunit) ∷ ‵ (fat fullShare (tyRef erased mut (pointee ((UInt w64) .written))) l₁₇ 0 (vptr (notes .ptr .0)
-        (notes .ptr .1))) ∷ ‵ (fat fullShare (sliceTy (tyRef erased mut (pointee ((UInt w64) .written)))) l₁₈ 0 (sliceVal (notes .ptr)
-        (length (notes .now)))) ∷ ‵ (froom (tyRef erased mut (pointee ((UInt w8) .written))) l₁₉ 0) ∷
-        ‵ (froom (sliceTy (tyRef erased mut (pointee ((UInt w8) .written)))) l₂₀ 0) ∷
-        ‵ (froom (tyRef erased mut (pointee ((UInt w64) .written))) l₂₁ 0) ∷
-        ‵ (froom (sliceTy (tyRef erased mut (pointee ((UInt w64) .written)))) l₂₂ 0) ∷ ‵ (froom (tyInt w64) l₂₃ 0) ∷ ‵ Fd ∷ ‵ (flft κ₁ q₁) ∷
-        ‵ (T-search-atom-dead .own dead (sliceVal (dead .ptr) (length (dead .now)) ∷ [])) ∷ []) refl (
+        (λ h2. let t2 : (eqb (r3 .end) 0) ≡ true = Walk.is-true _ h2 in
+        Walk.sets ! (Run.of-opd ! (Run.lit ! tt)) (Run.init ! 7 refl ((tt, record { fits = lit< tt }))) (
         Walk.returns-by ! Post-search-atom (Walk.through 𝓤 H C Λ E _ _ Post-search-atom refl) (Run.look ! 7 refl) (
-        Walk.move ! (7 ∷ 7 ∷ 7 ∷ 7 ∷ 7 ∷ 2 ∷ 6 ∷ 6 ∷ 6 ∷ 6 ∷ 6 ∷ 6 ∷ 6 ∷ 6 ∷ 6 ∷ 6 ∷ 6 ∷ 6 ∷ 6 ∷ 6 ∷ 6 ∷ 6 ∷ 6 ∷ 6 ∷ 6 ∷ []) (
-        Walk.frees-gathered ! (Walk.full Outcome-L.mir l₀ (Outcome-L.lowered r6) ∷ Walk.full (tyInt w8) l₁ (vint w8 left) ∷
+        Walk.move ! (7 ∷ 7 ∷ 7 ∷ 7 ∷ 7 ∷ 2 ∷ 6 ∷ 6 ∷ 6 ∷ 6 ∷ 6 ∷ 6 ∷ 6 ∷ 6 ∷ 6 ∷ 6 ∷ 6 ∷ 6 ∷ 6 ∷ 6 ∷ 6 ∷ 6 ∷ 6 ∷ 6 ∷ 6 ∷ 6 ∷ 6 ∷ []) (
+        Walk.frees-gathered ! (Walk.full (tyInt w64) l₀ (vint w64 0) ∷ Walk.full (tyInt w8) l₁ (vint w8 left) ∷
         Walk.full (tyInt w8) l₂ (vint w8 right) ∷ Walk.full Y-search-atom-nodes l₃ (sliceVal (nodes .ptr) (length (nodes .now))) ∷
         Walk.full Y-search-atom-dead l₄ (sliceVal (dead .ptr) (length (dead .now))) ∷ Walk.full Y-search-atom-notes l₅ (sliceVal (notes .ptr)
-        (length (ws5 .0))) ∷ Walk.full Y-search-atom-line l₆ (sliceVal (line .ptr) (length (line .now))) ∷ Walk.full (tyInt w64) l₇ (vint w64 end) ∷
-        Walk.full (tyInt w64) l₈ (vint w64 node) ∷ Walk.full (tyInt w64) l₉ (vint w64 at) ∷ Walk.full Scanned-L.mir l₁₀ (Scanned-L.lowered r4) ∷
-        Walk.full (tyInt w64) l₁₁ (vint w64 (r4 .end)) ∷ Walk.bare Outcome-L.mir l₁₂ ∷ Walk.full tyBool l₁₃ (vbool (eqb (r4 .end) 0)) ∷
+        (length (ws4 .0))) ∷ Walk.full Y-search-atom-line l₆ (sliceVal (line .ptr) (length (line .now))) ∷ Walk.full (tyInt w64) l₇ (vint w64 end) ∷
+        Walk.full (tyInt w64) l₈ (vint w64 node) ∷ Walk.full (tyInt w64) l₉ (vint w64 at) ∷ Walk.full Scanned-L.mir l₁₀ (Scanned-L.lowered r3) ∷
+        Walk.full (tyInt w64) l₁₁ (vint w64 (r3 .end)) ∷ Walk.bare (tyInt w64) l₁₂ ∷ Walk.full tyBool l₁₃ (vbool (eqb (r3 .end) 0)) ∷
         Walk.full Node-L.mir l₁₄ (Node-L.lowered r1) ∷ Walk.full tyBool l₁₅ (vbool (not r2)) ∷ Walk.full tyUnit l₁₆ vunit ∷
         Walk.full (tyRef erased mut (pointee ((UInt w64) .written))) l₁₇ (vptr (notes .ptr .0) (notes .ptr .1)) ∷
         Walk.full (sliceTy (tyRef erased mut (pointee ((UInt w64) .written)))) l₁₈ (sliceVal (notes .ptr) (length (notes .now))) ∷
         Walk.bare (tyRef erased mut (pointee ((UInt w8) .written))) l₁₉ ∷
         Walk.bare (sliceTy (tyRef erased mut (pointee ((UInt w8) .written)))) l₂₀ ∷
         Walk.bare (tyRef erased mut (pointee ((UInt w64) .written))) l₂₁ ∷
-        Walk.bare (sliceTy (tyRef erased mut (pointee ((UInt w64) .written)))) l₂₂ ∷ Walk.bare (tyInt w64) l₂₃ ∷
-        []) Fd ed (‵ (T-search-atom-notes .own (at-last notes (ws5 .0)) (sliceVal (notes .ptr) (length (ws5 .0)) ∷ [])) ∷ ‵ (flft κ₂ q₂) ∷
+        Walk.bare (sliceTy (tyRef erased mut (pointee ((UInt w64) .written)))) l₂₂ ∷
+        Walk.bare (tyRef erased mut (pointee ((UInt w64) .written))) l₂₃ ∷
+        Walk.bare (sliceTy (tyRef erased mut (pointee ((UInt w64) .written)))) l₂₄ ∷ Walk.bare (tyInt w64) l₂₅ ∷
+        []) Fd ed (‵ (T-search-atom-notes .own (at-last notes (ws4 .0)) (sliceVal (notes .ptr) (length (ws4 .0)) ∷ [])) ∷ ‵ (flft κ₂ q₂) ∷
         ‵ (flft κ₃ q₃) ∷ ‵ (T-search-atom-line .own line (sliceVal (line .ptr) (length (line .now)) ∷ [])) ∷ ‵ (flft κ₀ q₀) ∷
         ‵ (T-search-atom-nodes .own nodes (sliceVal (nodes .ptr) (length (nodes .now)) ∷ [])) ∷ ‵ (flft κ₁ q₁) ∷
         ‵ (T-search-atom-dead .own dead (sliceVal (dead .ptr) (length (dead .now)) ∷ [])) ∷ []) (
         Walk.move ! (7 ∷ 0 ∷ []) (
         Walk.gives W (Walk.nothing ∷ Walk.nothing ∷ Walk.nothing ∷ Walk.turned (T-search-atom-dead .own dead (sliceVal (dead .ptr)
         (length (dead .now)) ∷ [])) (finally (UInt w8) (dead .name) (dead .now))
-        (Walk.ended-slice 𝓤 H A W (named 1) κ₁ (UInt w8) dead (dead .now) _) ∷ Walk.turned (T-search-atom-notes .own (at-last notes (ws5 .0))
-        (sliceVal (notes .ptr) (length (ws5 .0)) ∷ [])) (finally (UInt w64) (notes .name) (ws5 .0))
-        (Walk.ended-slice 𝓤 H A W (named 2) κ₂ (UInt w64) notes (ws5 .0) _) ∷ Walk.nothing ∷ Walk.nothing ∷ Walk.nothing ∷ Walk.nothing ∷ []) _ ! (
+        (Walk.ended-slice 𝓤 H A W (named 1) κ₁ (UInt w8) dead (dead .now) _) ∷ Walk.turned (T-search-atom-notes .own (at-last notes (ws4 .0))
+        (sliceVal (notes .ptr) (length (ws4 .0)) ∷ [])) (finally (UInt w64) (notes .name) (ws4 .0))
+        (Walk.ended-slice 𝓤 H A W (named 2) κ₂ (UInt w64) notes (ws4 .0) _) ∷ Walk.nothing ∷ Walk.nothing ∷ Walk.nothing ∷ Walk.nothing ∷ []) _ ! (
         Walk.move ! (4 ∷ 5 ∷ 1 ∷ 1 ∷ []) (
         Walk.tokens-in W ((κ₀, q₀) ∷ (κ₁, q₁) ∷ (κ₂, q₂) ∷ (κ₃, q₃) ∷ []) _ ! (alive 𝓤 H A f-search-atom.signature (κ₀, (κ₁, (κ₂, (κ₃, tt))))
         (q₀, (q₁, (q₂, (q₃, tt))))) (id⊢ 𝓤 _) (
-        Walk.use0 W ! (‵ (Outcome-T.the-row .own r6 ((Outcome-L.lowered r6) ∷ []))) (LL.makes Outcome-T.the-type Outcome-L.the-plain 𝓤 H A r6 _ is6) (
-        Walk.keep ! (1 ∷ 1 ∷ 0 ∷ []) (
-        Kit.by ! (Walk.leave-by 𝓤 H A W f-search-atom.ended (f-search-atom.clauses 𝓤 H A mem run) stayed-search-atom bound-search-atom (Outcome-L.lowered r6) r6 (tt, (tt, (tt, ((dead .now), ((ws5 .0), (tt, (tt, (tt, (tt, tt))))))))) (tt, (tt, (tt, (refl, ((len1 ∙ refl), (tt, (tt, (tt, (tt, tt))))))))) (factI 𝓤 _ (emp 𝓤) (atom-none e1 e2 (not-false _ t1) e4 e5 (eqb-true (r4 .end) 0 t2) e6)))))))))))))))))))
-        (λ h2. let t2 : (eqb (r4 .end) 0) ≡ false = Walk.is-false _ h2 in
+        Walk.use0 W ! (‵ ((UInt w64) .own 0 ((vint w64 0) ∷ []))) (uint-makes 𝓤 H A W w64 0 _ (refl, lit< tt)) (Walk.keep ! (1 ∷ 1 ∷ 0 ∷ []) (
+        Kit.by ! (Walk.leave-by 𝓤 H A W f-search-atom.ended (f-search-atom.clauses 𝓤 H A mem run) stayed-search-atom bound-search-atom (vint w64 0) 0 (tt, (tt, (tt, ((dead .now), ((ws4 .0), (tt, (tt, (tt, (tt, tt))))))))) (tt, (tt, (tt, (refl, ((len1 ∙ refl), (tt, (tt, (tt, (tt, tt))))))))) (factI 𝓤 _ (emp 𝓤) (atom-none e1 e2 (not-false _ t1) e3 e4 (eqb-true (r3 .end) 0 t2) refl))))))))))))))
+        (λ h2. let t2 : (eqb (r3 .end) 0) ≡ false = Walk.is-false _ h2 in
         Walk.skips-then ! (
         Walk.sets ! (Run.addr ! (Run.from ! (Run.fld ! refl (Run.hop ! (Part.look-in ! 11 (Part.sub ! 0 refl (Part.whole !))) (Run.stop !)))))
         (Run.init ! 25 refl ((tt, tt))) (
@@ -1089,135 +996,183 @@ module _ {M : Type 1} (𝓤 : URA M) (H : Heap 𝓤) (A : Atoms 𝓤) (W : Given
         Walk.sets ! (Part.agg ! (Run.and-then ! (Walk.local ! 27 refl) (Run.and-then ! (Walk.part ! 2 refl refl refl) (Run.no-more !))))
         (Run.init ! 28 refl ((tt, (tt, (record { fits = (subst (Slice.Room (UInt w64)) (sym len1) (is-notes .0 .1)) .0 }, tt))))) (
         -- [notes; κ₂; the locals; κ₃; line; κ₀; nodes; their ends; κ₁; dead]
-        -- call 7: search (left, right, nodes, dead, notes, line, end, node, r4 .end)
-        Walk.move ! (32 ∷ 31 ∷ []) (Again.lends W (UInt w8) κ₁ q₁ dead (named 1) (named 1) (dead .now) ! tt (λ ν2 δ2.
-        Walk.move ! (3 ∷ 3 ∷ []) (Again.lends W (UInt w64) κ₂ q₂ notes (named 2) (named 2) (ws5 .0) ! tt (λ ν3 δ3.
+        -- call 5: search (left, right, nodes, dead, notes, line, end, node, r3 .end)
+        Walk.move ! (34 ∷ 33 ∷ []) (Again.lends W (UInt w8) κ₁ q₁ dead (named 1) (named 1) (dead .now) ! tt (λ ν2 δ2.
+        Walk.move ! (3 ∷ 3 ∷ []) (Again.lends W (UInt w64) κ₂ q₂ notes (named 2) (named 2) (ws4 .0) ! tt (λ ν3 δ3.
         Walk.move ! (10 ∷ 3 ∷ 0 ∷ 6 ∷ []) (
         Walk.gives W (Walk.made ((UInt w8) .own left ((vint w8 left) ∷ [])) (uint-makes 𝓤 H A W w8 left _ (refl, fits-left)) ∷
         Walk.made ((UInt w8) .own right ((vint w8 right) ∷ [])) (uint-makes 𝓤 H A W w8 right _ (refl, fits-right)) ∷
         Walk.copied (T-search-atom-nodes .own nodes (v-search-atom-nodes ∷ []))
         (shr-slice-copy 𝓤 H A W (named 0) κ₀ Node-T.the-row .twice nodes _) ∷ Walk.kept (MutSlice (named 1) (ν2 ∷ [])
         (UInt w8) .own (record { ptr = (dead .ptr); name = δ2; now = (dead .now) }) ((sliceVal (dead .ptr) (length (dead .now))) ∷ [])) ∷
-        Walk.kept (MutSlice (named 2) (ν3 ∷ []) (UInt w64) .own (record { ptr = (notes .ptr); name = δ3; now = (ws5 .0) }) ((sliceVal (notes .ptr)
-        (length (ws5 .0))) ∷ [])) ∷ Walk.copied (T-search-atom-line .own line (v-search-atom-line ∷ []))
+        Walk.kept (MutSlice (named 2) (ν3 ∷ []) (UInt w64) .own (record { ptr = (notes .ptr); name = δ3; now = (ws4 .0) }) ((sliceVal (notes .ptr)
+        (length (ws4 .0))) ∷ [])) ∷ Walk.copied (T-search-atom-line .own line (v-search-atom-line ∷ []))
         (shr-slice-copy 𝓤 H A W (named 3) κ₃ (UInt w8) .twice line _) ∷ Walk.made ((UInt w64) .own end ((vint w64 end) ∷ []))
         (uint-makes 𝓤 H A W w64 end _ (refl, fits-end)) ∷ Walk.made ((UInt w64) .own node ((vint w64 node) ∷ []))
-        (uint-makes 𝓤 H A W w64 node _ (refl, fits-node)) ∷ Walk.made ((UInt w64) .own (r4 .end) ((vint w64 (r4 .end)) ∷ []))
-        (uint-makes 𝓤 H A W w64 (r4 .end) _ (refl, LL.owed Scanned-T.the-type Scanned-L.the-laws r4 _ is4 .0 .1)) ∷ []) _ ! (
+        (uint-makes 𝓤 H A W w64 node _ (refl, fits-node)) ∷ Walk.made ((UInt w64) .own (r3 .end) ((vint w64 (r3 .end)) ∷ []))
+        (uint-makes 𝓤 H A W w64 (r3 .end) _ (refl, LL.owed Scanned-T.the-type Scanned-L.the-laws r3 _ is3 .0 .1)) ∷ []) _ ! (
         Walk.move ! (9 ∷ 6 ∷ 4 ∷ 6 ∷ []) (
         Walk.tokens-in W ((κ₀, q₀) ∷ ((ν2 ∷ []), fullShare) ∷ ((ν3 ∷ []), fullShare) ∷ (κ₃, q₃) ∷
         []) _ ! (alive 𝓤 H A f-search.signature (κ₀, ((ν2 ∷ []), ((ν3 ∷ []), (κ₃, tt)))) (q₀, (fullShare, (fullShare, (q₃, tt))))) (id⊢ 𝓤 _) (
         Walk.asksˡ W ! fm f-search.ended (f-search.clauses 𝓤 H A mem run)
-        (((κ₀, ((ν2 ∷ []), ((ν3 ∷ []), (κ₃, tt)))), (q₀, (fullShare, (fullShare, (q₃, tt)))), tt, (left, (right, (nodes, ((record { ptr = (dead .ptr); name = δ2; now = (dead .now) }), ((record { ptr = (notes .ptr); name = δ3; now = (ws5 .0) }), (line, (end, (node, ((r4 .end), tt))))))))), ((vint w8 left) ∷ [], ((vint w8 right) ∷ [], (v-search-atom-nodes ∷ [], ((sliceVal (dead .ptr) (length (dead .now))) ∷ [], ((sliceVal (notes .ptr) (length (ws5 .0))) ∷ [], (v-search-atom-line ∷ [], ((vint w64 end) ∷ [], ((vint w64 node) ∷ [], ((vint w64 (r4 .end)) ∷ [], tt)))))))))), tt) _ (known-search (((κ₀, ((ν2 ∷ []), ((ν3 ∷ []), (κ₃, tt)))), (q₀, (fullShare, (fullShare, (q₃, tt)))), tt, (left, (right, (nodes, ((record { ptr = (dead .ptr); name = δ2; now = (dead .now) }), ((record { ptr = (notes .ptr); name = δ3; now = (ws5 .0) }), (line, (end, (node, ((r4 .end), tt))))))))), ((vint w8 left) ∷ [], ((vint w8 right) ∷ [], (v-search-atom-nodes ∷ [], ((sliceVal (dead .ptr) (length (dead .now))) ∷ [], ((sliceVal (notes .ptr) (length (ws5 .0))) ∷ [], (v-search-atom-line ∷ [], ((vint w64 end) ∷ [], ((vint w64 node) ∷ [], ((vint w64 (r4 .end)) ∷ [], tt)))))))))), tt) (atom-less pre e4 (eqb-false (r4 .end) 0 t2))) (factI 𝓤 _ (emp 𝓤) (asks-atom pre e4 (eqb-false (r4 .end) 0 t2) len1)) (λ r ws. id⊢ 𝓤 _)
+        (((κ₀, ((ν2 ∷ []), ((ν3 ∷ []), (κ₃, tt)))), (q₀, (fullShare, (fullShare, (q₃, tt)))), tt, (left, (right, (nodes, ((record { ptr = (dead .ptr); name = δ2; now = (dead .now) }), ((record { ptr = (notes .ptr); name = δ3; now = (ws4 .0) }), (line, (end, (node, ((r3 .end), tt))))))))), ((vint w8 left) ∷ [], ((vint w8 right) ∷ [], (v-search-atom-nodes ∷ [], ((sliceVal (dead .ptr) (length (dead .now))) ∷ [], ((sliceVal (notes .ptr) (length (ws4 .0))) ∷ [], (v-search-atom-line ∷ [], ((vint w64 end) ∷ [], ((vint w64 node) ∷ [], ((vint w64 (r3 .end)) ∷ [], tt)))))))))), tt) _ (known-search (((κ₀, ((ν2 ∷ []), ((ν3 ∷ []), (κ₃, tt)))), (q₀, (fullShare, (fullShare, (q₃, tt)))), tt, (left, (right, (nodes, ((record { ptr = (dead .ptr); name = δ2; now = (dead .now) }), ((record { ptr = (notes .ptr); name = δ3; now = (ws4 .0) }), (line, (end, (node, ((r3 .end), tt))))))))), ((vint w8 left) ∷ [], ((vint w8 right) ∷ [], (v-search-atom-nodes ∷ [], ((sliceVal (dead .ptr) (length (dead .now))) ∷ [], ((sliceVal (notes .ptr) (length (ws4 .0))) ∷ [], (v-search-atom-line ∷ [], ((vint w64 end) ∷ [], ((vint w64 node) ∷ [], ((vint w64 (r3 .end)) ∷ [], tt)))))))))), tt) (atom-less pre e3 (eqb-false (r3 .end) 0 t2))) (factI 𝓤 _ (emp 𝓤) (asks-atom pre e3 (eqb-false (r3 .end) 0 t2) len1)) (λ r ws. id⊢ 𝓤 _)
         (Run.and-then ! (Walk.local ! 7 refl) (Run.and-then ! (Walk.local ! 8 refl) (Run.and-then ! (Walk.local ! 9 refl)
         (Run.and-then ! (Walk.local ! 25 refl) (Run.and-then ! (Walk.local ! 27 refl) (Run.and-then ! (Walk.local ! 11 refl)
         (Run.and-then ! (Walk.local ! 12 refl) (Run.and-then ! (Walk.local ! 13 refl) (Run.and-then ! (Walk.local ! 16 refl)
-        (Run.no-more !)))))))))) (λ u7 r7 ws7 is7′ e7.
+        (Run.no-more !)))))))))) (λ u5 r5 ws5 is5′ e5.
         Walk.returned W ((κ₀, q₀) ∷ ((ν2 ∷ []), fullShare) ∷ ((ν3 ∷ []), fullShare) ∷ (κ₃, q₃) ∷ []) (Walk.gone _ ∷ Walk.gone _ ∷ Walk.gone _ ∷
-        Walk.final (finally (UInt w8) δ2 (ws7 .1 .1 .1 .0)) (length (ws7 .1 .1 .1 .0)) (length (dead .now)) ∷
-        Walk.final (finally (UInt w64) δ3 (ws7 .1 .1 .1 .1 .0)) (length (ws7 .1 .1 .1 .1 .0)) (length (ws5 .0)) ∷ Walk.gone _ ∷ Walk.gone _ ∷
+        Walk.final (finally (UInt w8) δ2 (ws5 .1 .1 .1 .0)) (length (ws5 .1 .1 .1 .0)) (length (dead .now)) ∷
+        Walk.final (finally (UInt w64) δ3 (ws5 .1 .1 .1 .1 .0)) (length (ws5 .1 .1 .1 .1 .0)) (length (ws4 .0)) ∷ Walk.gone _ ∷ Walk.gone _ ∷
         Walk.gone _ ∷ Walk.gone _ ∷ []) ! (id⊢ 𝓤 _) (λ len2 len3.
         Walk.move ! (3 ∷ 8 ∷ 1 ∷ 12 ∷ []) (
-        Again.backs W (UInt w8) κ₁ q₁ dead (named 1) (named 1) (dead .now) ! tt (ws7 .1 .1 .1 .0) (is-dead .0 .1) len2 (
+        Again.backs W (UInt w8) κ₁ q₁ dead (named 1) (named 1) (dead .now) ! tt (ws5 .1 .1 .1 .0) (is-dead .0 .1) len2 (
         Walk.move ! (5 ∷ 8 ∷ 3 ∷ 7 ∷ []) (
-        Again.backs W (UInt w64) κ₂ q₂ notes (named 2) (named 2) (ws5 .0) ! tt (ws7 .1 .1 .1 .1 .0) ((subst (Slice.Room (UInt w64)) (sym len1)
+        Again.backs W (UInt w64) κ₂ q₂ notes (named 2) (named 2) (ws4 .0) ! tt (ws5 .1 .1 .1 .1 .0) ((subst (Slice.Room (UInt w64)) (sym len1)
         (is-notes .0 .1))) len3 (
-        Walk.lands-in ! (Walk.init-as ! 20 refl (LL.lawful Outcome-T.the-type Outcome-L.the-laws 𝓤 H A W .typed r7 _ is7′ .0)
-        (ap only (LL.tells Outcome-T.the-type Outcome-L.the-laws r7 _ is7′))) (
-        let is7 : Is Outcome-T.the-row r7 ((Outcome-L.lowered r7) ∷ []) = subst (λ (vs : List Val). Is Outcome-T.the-row r7 vs)
-        (LL.tells Outcome-T.the-type Outcome-L.the-laws r7 _ is7′) is7′ in
-        Walk.written-out ! (‵ (T-search-atom-notes .own (at-last notes (ws7 .1 .1 .1 .1 .0)) (sliceVal (notes .ptr) (length (ws7 .1 .1 .1 .1 .0)) ∷
-        [])) ∷ ‵ (flft κ₂ q₂) ∷ ‵ (fat fullShare Y-search-atom-notes l₅ 0 (sliceVal (notes .ptr) (length (ws7 .1 .1 .1 .1 .0)))) ∷
-        ‵ (T-search-atom-dead .own (at-last dead (ws7 .1 .1 .1 .0)) (sliceVal (dead .ptr) (length (ws7 .1 .1 .1 .0)) ∷ [])) ∷ ‵ (flft κ₁ q₁) ∷
-        ‵ (fat fullShare Y-search-atom-dead l₄ 0 (sliceVal (dead .ptr) (length (ws7 .1 .1 .1 .0)))) ∷ ‵ (flft κ₀ q₀) ∷ ‵ (flft κ₃ q₃) ∷
+        Walk.lands-in ! (Walk.init-as ! 20 refl (uint-lawful 𝓤 H A W w64 .typed r5 _ is5′ .0) (ap only (uint-tells w64 r5 _ is5′))) (
+        let is5 : Is (UInt w64) r5 ((vint w64 r5) ∷ []) = subst (λ (vs : List Val). Is (UInt w64) r5 vs) (uint-tells w64 r5 _ is5′) is5′ in
+        Walk.written-out ! (‵ (T-search-atom-notes .own (at-last notes (ws5 .1 .1 .1 .1 .0)) (sliceVal (notes .ptr) (length (ws5 .1 .1 .1 .1 .0)) ∷
+        [])) ∷ ‵ (flft κ₂ q₂) ∷ ‵ (fat fullShare Y-search-atom-notes l₅ 0 (sliceVal (notes .ptr) (length (ws5 .1 .1 .1 .1 .0)))) ∷
+        ‵ (T-search-atom-dead .own (at-last dead (ws5 .1 .1 .1 .0)) (sliceVal (dead .ptr) (length (ws5 .1 .1 .1 .0)) ∷ [])) ∷ ‵ (flft κ₁ q₁) ∷
+        ‵ (fat fullShare Y-search-atom-dead l₄ 0 (sliceVal (dead .ptr) (length (ws5 .1 .1 .1 .0)))) ∷ ‵ (flft κ₀ q₀) ∷ ‵ (flft κ₃ q₃) ∷
         ‵ (T-search-atom-nodes .own nodes (sliceVal (nodes .ptr) (length (nodes .now)) ∷ [])) ∷
-        ‵ (T-search-atom-line .own line (sliceVal (line .ptr) (length (line .now)) ∷ [])) ∷ ‵ (froom Outcome-L.mir l₀ 0) ∷
+        ‵ (T-search-atom-line .own line (sliceVal (line .ptr) (length (line .now)) ∷ [])) ∷ ‵ (froom (tyInt w64) l₀ 0) ∷
         ‵ (fat fullShare (tyInt w8) l₁ 0 (vint w8 left)) ∷ ‵ (fat fullShare (tyInt w8) l₂ 0 (vint w8 right)) ∷
         ‵ (fat fullShare Y-search-atom-nodes l₃ 0 (sliceVal (nodes .ptr) (length (nodes .now)))) ∷
         ‵ (fat fullShare Y-search-atom-line l₆ 0 (sliceVal (line .ptr) (length (line .now)))) ∷ ‵ (fat fullShare (tyInt w64) l₇ 0 (vint w64 end)) ∷
         ‵ (fat fullShare (tyInt w64) l₈ 0 (vint w64 node)) ∷ ‵ (fat fullShare (tyInt w64) l₉ 0 (vint w64 at)) ∷
-        ‵ (fat fullShare Scanned-L.mir l₁₀ 0 (Scanned-L.lowered r4)) ∷ ‵ (fat fullShare (tyInt w64) l₁₁ 0 (vint w64 (r4 .end))) ∷
-        ‵ (fat fullShare Outcome-L.mir l₁₂ 0 (Outcome-L.lowered r7)) ∷ ‵ (fat fullShare tyBool l₁₃ 0 (vbool (eqb (r4 .end) 0))) ∷
+        ‵ (fat fullShare Scanned-L.mir l₁₀ 0 (Scanned-L.lowered r3)) ∷ ‵ (fat fullShare (tyInt w64) l₁₁ 0 (vint w64 (r3 .end))) ∷
+        ‵ (fat fullShare (tyInt w64) l₁₂ 0 (vint w64 r5)) ∷ ‵ (fat fullShare tyBool l₁₃ 0 (vbool (eqb (r3 .end) 0))) ∷
         ‵ (fat fullShare Node-L.mir l₁₄ 0 (Node-L.lowered r1)) ∷ ‵ (fat fullShare tyBool l₁₅ 0 (vbool (not r2))) ∷
         ‵ (fat fullShare tyUnit l₁₆ 0 vunit) ∷ ‵ (fat fullShare (tyRef erased mut (pointee ((UInt w64) .written))) l₁₇ 0 (vptr (notes .ptr .0)
         (notes .ptr .1))) ∷ ‵ (fat fullShare (sliceTy (tyRef erased mut (pointee ((UInt w64) .written)))) l₁₈ 0 (sliceVal (notes .ptr)
         (length (notes .now)))) ∷ ‵ (fat fullShare (tyRef erased mut (pointee ((UInt w8) .written))) l₁₉ 0 (vptr (dead .ptr .0) (dead .ptr .1))) ∷
         ‵ (fat fullShare (sliceTy (tyRef erased mut (pointee ((UInt w8) .written)))) l₂₀ 0 (sliceVal (dead .ptr) (length (dead .now)))) ∷
         ‵ (fat fullShare (tyRef erased mut (pointee ((UInt w64) .written))) l₂₁ 0 (vptr (notes .ptr .0) (notes .ptr .1))) ∷
-        ‵ (fat fullShare (sliceTy (tyRef erased mut (pointee ((UInt w64) .written)))) l₂₂ 0 (sliceVal (notes .ptr) (length (ws5 .0)))) ∷
-        ‵ (froom (tyInt w64) l₂₃ 0) ∷ ‵ Fd ∷ []) refl (
-        let sub1 : at ≤ (r4 .end) = atom-before pre e4 (eqb-false (r4 .end) 0 t2) in
-        let sub1-fits : ((r4 .end) - at) < 2 ^ 64 = omega (arith, LL.owed Scanned-T.the-type Scanned-L.the-laws r4 _ is4 .0 .1) in
-        Walk.sets ! (Run.bin ! (Walk.local ! 19 refl) (Walk.local ! 17 refl) sub1) (Run.init ! 31 refl ((tt, record { fits = sub1-fits }))) (
-        -- [notes; κ₂; the locals; dead; κ₁; κ₀; κ₃; nodes; line; their ends]
-        -- call 8: pass_atom (r7, (r4 .end) - at)
-        Walk.gives W (Walk.made (Outcome-T.the-row .own r7 ((Outcome-L.lowered r7) ∷ []))
-        (LL.makes Outcome-T.the-type Outcome-L.the-plain 𝓤 H A r7 _ is7) ∷ Walk.made ((UInt w64) .own ((r4 .end) - at)
-        ((vint w64 ((r4 .end) - at)) ∷ [])) (uint-makes 𝓤 H A W w64 ((r4 .end) - at) _ (refl, sub1-fits)) ∷ []) _ ! (
-        Walk.tokens-in W ([]) _ ! (alive 𝓤 H A g-pass-atom.signature tt tt) (id⊢ 𝓤 _) (
-        Walk.asks W ! fm g-pass-atom.ended (g-pass-atom.clauses 𝓤 H A mem run)
-        ((tt, tt, tt, (r7, (((r4 .end) - at), tt)), ((Outcome-L.lowered r7) ∷ [], ((vint w64 ((r4 .end) - at)) ∷ [], tt))), tt) _ (known-pass-atom ((tt, tt, tt, (r7, (((r4 .end) - at), tt)), ((Outcome-L.lowered r7) ∷ [], ((vint w64 ((r4 .end) - at)) ∷ [], tt))), tt)) (factI 𝓤 _ (emp 𝓤) (atom-fits pre e4 (eqb-false (r4 .end) 0 t2) e7)) (λ r ws. id⊢ 𝓤 _)
-        (Run.and-then ! (Walk.local ! 21 refl) (Run.and-then ! (Walk.local ! 32 refl) (Run.no-more !))) (λ u8 r8 is8′ e8.
-        Walk.tokens-out W ([]) ! (id⊢ 𝓤 _) (
-        Walk.lands-in ! (Walk.init-as ! 10 refl (LL.lawful Outcome-T.the-type Outcome-L.the-laws 𝓤 H A W .typed r8 _ is8′ .0)
-        (ap only (LL.tells Outcome-T.the-type Outcome-L.the-laws r8 _ is8′))) (
-        let is8 : Is Outcome-T.the-row r8 ((Outcome-L.lowered r8) ∷ []) = subst (λ (vs : List Val). Is Outcome-T.the-row r8 vs)
-        (LL.tells Outcome-T.the-type Outcome-L.the-laws r8 _ is8′) is8′ in
-        Walk.written-out ! (‵ (T-search-atom-notes .own (at-last notes (ws7 .1 .1 .1 .1 .0)) (sliceVal (notes .ptr) (length (ws7 .1 .1 .1 .1 .0)) ∷
-        [])) ∷ ‵ (flft κ₂ q₂) ∷ ‵ (fat fullShare Y-search-atom-notes l₅ 0 (sliceVal (notes .ptr) (length (ws7 .1 .1 .1 .1 .0)))) ∷
-        ‵ (T-search-atom-dead .own (at-last dead (ws7 .1 .1 .1 .0)) (sliceVal (dead .ptr) (length (ws7 .1 .1 .1 .0)) ∷ [])) ∷ ‵ (flft κ₁ q₁) ∷
-        ‵ (fat fullShare Y-search-atom-dead l₄ 0 (sliceVal (dead .ptr) (length (ws7 .1 .1 .1 .0)))) ∷ ‵ (flft κ₀ q₀) ∷ ‵ (flft κ₃ q₃) ∷
-        ‵ (T-search-atom-nodes .own nodes (sliceVal (nodes .ptr) (length (nodes .now)) ∷ [])) ∷
-        ‵ (T-search-atom-line .own line (sliceVal (line .ptr) (length (line .now)) ∷ [])) ∷
-        ‵ (fat fullShare Outcome-L.mir l₀ 0 (Outcome-L.lowered r8)) ∷ ‵ (fat fullShare (tyInt w8) l₁ 0 (vint w8 left)) ∷
-        ‵ (fat fullShare (tyInt w8) l₂ 0 (vint w8 right)) ∷ ‵ (fat fullShare Y-search-atom-nodes l₃ 0 (sliceVal (nodes .ptr)
-        (length (nodes .now)))) ∷ ‵ (fat fullShare Y-search-atom-line l₆ 0 (sliceVal (line .ptr) (length (line .now)))) ∷
-        ‵ (fat fullShare (tyInt w64) l₇ 0 (vint w64 end)) ∷ ‵ (fat fullShare (tyInt w64) l₈ 0 (vint w64 node)) ∷
-        ‵ (fat fullShare (tyInt w64) l₉ 0 (vint w64 at)) ∷ ‵ (fat fullShare Scanned-L.mir l₁₀ 0 (Scanned-L.lowered r4)) ∷
-        ‵ (fat fullShare (tyInt w64) l₁₁ 0 (vint w64 (r4 .end))) ∷ ‵ (fat fullShare Outcome-L.mir l₁₂ 0 (Outcome-L.lowered r7)) ∷
-        ‵ (fat fullShare tyBool l₁₃ 0 (vbool (eqb (r4 .end) 0))) ∷ ‵ (fat fullShare Node-L.mir l₁₄ 0 (Node-L.lowered r1)) ∷
-        ‵ (fat fullShare tyBool l₁₅ 0 (vbool (not r2))) ∷ ‵ (fat fullShare tyUnit l₁₆ 0 vunit) ∷
-        ‵ (fat fullShare (tyRef erased mut (pointee ((UInt w64) .written))) l₁₇ 0 (vptr (notes .ptr .0) (notes .ptr .1))) ∷
-        ‵ (fat fullShare (sliceTy (tyRef erased mut (pointee ((UInt w64) .written)))) l₁₈ 0 (sliceVal (notes .ptr) (length (notes .now)))) ∷
-        ‵ (fat fullShare (tyRef erased mut (pointee ((UInt w8) .written))) l₁₉ 0 (vptr (dead .ptr .0) (dead .ptr .1))) ∷
-        ‵ (fat fullShare (sliceTy (tyRef erased mut (pointee ((UInt w8) .written)))) l₂₀ 0 (sliceVal (dead .ptr) (length (dead .now)))) ∷
-        ‵ (fat fullShare (tyRef erased mut (pointee ((UInt w64) .written))) l₂₁ 0 (vptr (notes .ptr .0) (notes .ptr .1))) ∷
-        ‵ (fat fullShare (sliceTy (tyRef erased mut (pointee ((UInt w64) .written)))) l₂₂ 0 (sliceVal (notes .ptr) (length (ws5 .0)))) ∷
-        ‵ (fat fullShare (tyInt w64) l₂₃ 0 (vint w64 ((r4 .end) - at))) ∷ ‵ Fd ∷ []) refl (
-        Walk.returns-by ! Post-search-atom refl (Run.look ! 10 refl) (
-        Walk.move ! (10 ∷ 10 ∷ 10 ∷ 10 ∷ 5 ∷ 2 ∷ 8 ∷ 8 ∷ 8 ∷ 8 ∷ 8 ∷ 8 ∷ 8 ∷ 8 ∷ 8 ∷ 8 ∷ 8 ∷ 8 ∷ 8 ∷ 8 ∷ 8 ∷ 8 ∷ 8 ∷ 8 ∷ 8 ∷ []) (
-        Walk.frees-gathered ! (Walk.full Outcome-L.mir l₀ (Outcome-L.lowered r8) ∷ Walk.full (tyInt w8) l₁ (vint w8 left) ∷
+        ‵ (fat fullShare (sliceTy (tyRef erased mut (pointee ((UInt w64) .written)))) l₂₂ 0 (sliceVal (notes .ptr) (length (ws4 .0)))) ∷
+        ‵ (froom (tyRef erased mut (pointee ((UInt w64) .written))) l₂₃ 0) ∷
+        ‵ (froom (sliceTy (tyRef erased mut (pointee ((UInt w64) .written)))) l₂₄ 0) ∷ ‵ (froom (tyInt w64) l₂₅ 0) ∷ ‵ Fd ∷ []) refl (
+        Walk.sets ! (Run.bin ! (Walk.local ! 20 refl) (Run.lit ! tt) tt) (Run.store ! 23 refl ((tt, tt))) (Walk.first-then ! (
+        Run.branches ! (Walk.local ! 23 refl)
+        (λ h3. let t3 : (eqb r5 0) ≡ true = Walk.is-true _ h3 in
+        Walk.sets ! (Run.of-opd ! (Run.lit ! tt)) (Run.init ! 10 refl ((tt, record { fits = lit< tt }))) (
+        Walk.returns-by ! Post-search-atom (Walk.through 𝓤 H C Λ E _ _ Post-search-atom refl) (Run.look ! 10 refl) (
+        Walk.move ! (10 ∷ 10 ∷ 10 ∷ 10 ∷ 5 ∷ 2 ∷ 8 ∷ 8 ∷ 8 ∷ 8 ∷ 8 ∷ 8 ∷ 8 ∷ 8 ∷ 8 ∷ 8 ∷ 8 ∷ 8 ∷ 8 ∷ 8 ∷ 8 ∷ 8 ∷ 8 ∷ 8 ∷ 8 ∷ 8 ∷ 8 ∷ []) (
+        Walk.frees-gathered ! (Walk.full (tyInt w64) l₀ (vint w64 0) ∷ Walk.full (tyInt w8) l₁ (vint w8 left) ∷
         Walk.full (tyInt w8) l₂ (vint w8 right) ∷ Walk.full Y-search-atom-nodes l₃ (sliceVal (nodes .ptr) (length (nodes .now))) ∷
-        Walk.full Y-search-atom-dead l₄ (sliceVal (dead .ptr) (length (ws7 .1 .1 .1 .0))) ∷ Walk.full Y-search-atom-notes l₅ (sliceVal (notes .ptr)
-        (length (ws7 .1 .1 .1 .1 .0))) ∷ Walk.full Y-search-atom-line l₆ (sliceVal (line .ptr) (length (line .now))) ∷
+        Walk.full Y-search-atom-dead l₄ (sliceVal (dead .ptr) (length (ws5 .1 .1 .1 .0))) ∷ Walk.full Y-search-atom-notes l₅ (sliceVal (notes .ptr)
+        (length (ws5 .1 .1 .1 .1 .0))) ∷ Walk.full Y-search-atom-line l₆ (sliceVal (line .ptr) (length (line .now))) ∷
         Walk.full (tyInt w64) l₇ (vint w64 end) ∷ Walk.full (tyInt w64) l₈ (vint w64 node) ∷ Walk.full (tyInt w64) l₉ (vint w64 at) ∷
-        Walk.full Scanned-L.mir l₁₀ (Scanned-L.lowered r4) ∷ Walk.full (tyInt w64) l₁₁ (vint w64 (r4 .end)) ∷
-        Walk.full Outcome-L.mir l₁₂ (Outcome-L.lowered r7) ∷ Walk.full tyBool l₁₃ (vbool (eqb (r4 .end) 0)) ∷
-        Walk.full Node-L.mir l₁₄ (Node-L.lowered r1) ∷ Walk.full tyBool l₁₅ (vbool (not r2)) ∷ Walk.full tyUnit l₁₆ vunit ∷
+        Walk.full Scanned-L.mir l₁₀ (Scanned-L.lowered r3) ∷ Walk.full (tyInt w64) l₁₁ (vint w64 (r3 .end)) ∷
+        Walk.full (tyInt w64) l₁₂ (vint w64 r5) ∷ Walk.full tyBool l₁₃ (vbool (eqb (r3 .end) 0)) ∷ Walk.full Node-L.mir l₁₄ (Node-L.lowered r1) ∷
+        Walk.full tyBool l₁₅ (vbool (eqb r5 0)) ∷ Walk.full tyUnit l₁₆ vunit ∷
         Walk.full (tyRef erased mut (pointee ((UInt w64) .written))) l₁₇ (vptr (notes .ptr .0) (notes .ptr .1)) ∷
         Walk.full (sliceTy (tyRef erased mut (pointee ((UInt w64) .written)))) l₁₈ (sliceVal (notes .ptr) (length (notes .now))) ∷
         Walk.full (tyRef erased mut (pointee ((UInt w8) .written))) l₁₉ (vptr (dead .ptr .0) (dead .ptr .1)) ∷
         Walk.full (sliceTy (tyRef erased mut (pointee ((UInt w8) .written)))) l₂₀ (sliceVal (dead .ptr) (length (dead .now))) ∷
         Walk.full (tyRef erased mut (pointee ((UInt w64) .written))) l₂₁ (vptr (notes .ptr .0) (notes .ptr .1)) ∷
-        Walk.full (sliceTy (tyRef erased mut (pointee ((UInt w64) .written)))) l₂₂ (sliceVal (notes .ptr) (length (ws5 .0))) ∷
-        Walk.full (tyInt w64) l₂₃ (vint w64 ((r4 .end) - at)) ∷ []) Fd ed (‵ (T-search-atom-notes .own (at-last notes (ws7 .1 .1 .1 .1 .0))
-        (sliceVal (notes .ptr) (length (ws7 .1 .1 .1 .1 .0)) ∷ [])) ∷ ‵ (flft κ₂ q₂) ∷ ‵ (T-search-atom-dead .own (at-last dead (ws7 .1 .1 .1 .0))
-        (sliceVal (dead .ptr) (length (ws7 .1 .1 .1 .0)) ∷ [])) ∷ ‵ (flft κ₁ q₁) ∷ ‵ (flft κ₀ q₀) ∷ ‵ (flft κ₃ q₃) ∷
-        ‵ (T-search-atom-nodes .own nodes (sliceVal (nodes .ptr) (length (nodes .now)) ∷ [])) ∷
+        Walk.full (sliceTy (tyRef erased mut (pointee ((UInt w64) .written)))) l₂₂ (sliceVal (notes .ptr) (length (ws4 .0))) ∷
+        Walk.bare (tyRef erased mut (pointee ((UInt w64) .written))) l₂₃ ∷
+        Walk.bare (sliceTy (tyRef erased mut (pointee ((UInt w64) .written)))) l₂₄ ∷ Walk.bare (tyInt w64) l₂₅ ∷
+        []) Fd ed (‵ (T-search-atom-notes .own (at-last notes (ws5 .1 .1 .1 .1 .0)) (sliceVal (notes .ptr) (length (ws5 .1 .1 .1 .1 .0)) ∷ [])) ∷
+        ‵ (flft κ₂ q₂) ∷ ‵ (T-search-atom-dead .own (at-last dead (ws5 .1 .1 .1 .0)) (sliceVal (dead .ptr) (length (ws5 .1 .1 .1 .0)) ∷ [])) ∷
+        ‵ (flft κ₁ q₁) ∷ ‵ (flft κ₀ q₀) ∷ ‵ (flft κ₃ q₃) ∷ ‵ (T-search-atom-nodes .own nodes (sliceVal (nodes .ptr) (length (nodes .now)) ∷ [])) ∷
         ‵ (T-search-atom-line .own line (sliceVal (line .ptr) (length (line .now)) ∷ [])) ∷ []) (
         Walk.move ! (2 ∷ 0 ∷ []) (
-        Walk.gives W (Walk.nothing ∷ Walk.nothing ∷ Walk.nothing ∷ Walk.turned (T-search-atom-dead .own (at-last dead (ws7 .1 .1 .1 .0))
-        (sliceVal (dead .ptr) (length (ws7 .1 .1 .1 .0)) ∷ [])) (finally (UInt w8) (dead .name) (ws7 .1 .1 .1 .0))
-        (Walk.ended-slice 𝓤 H A W (named 1) κ₁ (UInt w8) dead (ws7 .1 .1 .1 .0) _) ∷
-        Walk.turned (T-search-atom-notes .own (at-last notes (ws7 .1 .1 .1 .1 .0)) (sliceVal (notes .ptr) (length (ws7 .1 .1 .1 .1 .0)) ∷ []))
-        (finally (UInt w64) (notes .name) (ws7 .1 .1 .1 .1 .0)) (Walk.ended-slice 𝓤 H A W (named 2) κ₂ (UInt w64) notes (ws7 .1 .1 .1 .1 .0) _) ∷
+        Walk.gives W (Walk.nothing ∷ Walk.nothing ∷ Walk.nothing ∷ Walk.turned (T-search-atom-dead .own (at-last dead (ws5 .1 .1 .1 .0))
+        (sliceVal (dead .ptr) (length (ws5 .1 .1 .1 .0)) ∷ [])) (finally (UInt w8) (dead .name) (ws5 .1 .1 .1 .0))
+        (Walk.ended-slice 𝓤 H A W (named 1) κ₁ (UInt w8) dead (ws5 .1 .1 .1 .0) _) ∷
+        Walk.turned (T-search-atom-notes .own (at-last notes (ws5 .1 .1 .1 .1 .0)) (sliceVal (notes .ptr) (length (ws5 .1 .1 .1 .1 .0)) ∷ []))
+        (finally (UInt w64) (notes .name) (ws5 .1 .1 .1 .1 .0)) (Walk.ended-slice 𝓤 H A W (named 2) κ₂ (UInt w64) notes (ws5 .1 .1 .1 .1 .0) _) ∷
         Walk.nothing ∷ Walk.nothing ∷ Walk.nothing ∷ Walk.nothing ∷ []) _ ! (
         Walk.move ! (3 ∷ 2 ∷ 1 ∷ 1 ∷ []) (
         Walk.tokens-in W ((κ₀, q₀) ∷ (κ₁, q₁) ∷ (κ₂, q₂) ∷ (κ₃, q₃) ∷ []) _ ! (alive 𝓤 H A f-search-atom.signature (κ₀, (κ₁, (κ₂, (κ₃, tt))))
         (q₀, (q₁, (q₂, (q₃, tt))))) (id⊢ 𝓤 _) (
-        Walk.use0 W ! (‵ (Outcome-T.the-row .own r8 ((Outcome-L.lowered r8) ∷ []))) (LL.makes Outcome-T.the-type Outcome-L.the-plain 𝓤 H A r8 _ is8) (
-        Walk.keep ! (1 ∷ 1 ∷ 0 ∷ []) (
-        Kit.by ! (Walk.leave-by 𝓤 H A W f-search-atom.ended (f-search-atom.clauses 𝓤 H A mem run) stayed-search-atom bound-search-atom (Outcome-L.lowered r8) r8 (tt, (tt, (tt, ((ws7 .1 .1 .1 .0), ((ws7 .1 .1 .1 .1 .0), (tt, (tt, (tt, (tt, tt))))))))) (tt, (tt, (tt, ((len2 ∙ refl), ((len3 ∙ (len1 ∙ refl)), (tt, (tt, (tt, (tt, tt))))))))) (factI 𝓤 _ (emp 𝓤) (atom-below e1 e2 (not-false _ t1) e4 e5 (eqb-false (r4 .end) 0 t2) e7 e8))))))))))))))))))))))))))))))))))))))))))))))))))))))))))))))))))))))))))))))))))))))))))))))))))))))))))))))))))))))))))))))
+        Walk.use0 W ! (‵ ((UInt w64) .own 0 ((vint w64 0) ∷ []))) (uint-makes 𝓤 H A W w64 0 _ (refl, lit< tt)) (Walk.keep ! (1 ∷ 1 ∷ 0 ∷ []) (
+        Kit.by ! (Walk.leave-by 𝓤 H A W f-search-atom.ended (f-search-atom.clauses 𝓤 H A mem run) stayed-search-atom bound-search-atom (vint w64 0) 0 (tt, (tt, (tt, ((ws5 .1 .1 .1 .0), ((ws5 .1 .1 .1 .1 .0), (tt, (tt, (tt, (tt, tt))))))))) (tt, (tt, (tt, ((len2 ∙ refl), ((len3 ∙ (len1 ∙ refl)), (tt, (tt, (tt, (tt, tt))))))))) (factI 𝓤 _ (emp 𝓤) (atom-nowhere e1 e2 (not-false _ t1) e3 e4 (eqb-false (r3 .end) 0 t2) e5 (eqb-true r5 0 t3) refl))))))))))))))
+        (λ h3. let t3 : (eqb r5 0) ≡ false = Walk.is-false _ h3 in
+        Walk.skips-then ! (
+        Walk.sets ! (Run.addr ! (Run.from ! (Run.fld ! refl (Run.hop ! (Part.look-in ! 2 (Part.sub ! 0 refl (Part.whole !))) (Run.stop !)))))
+        (Run.init ! 31 refl ((tt, tt))) (
+        Walk.sets ! (Part.agg ! (Run.and-then ! (Walk.local ! 31 refl) (Run.and-then ! (Walk.part ! 2 refl refl refl) (Run.no-more !))))
+        (Run.init ! 32 refl ((tt, (tt, (record { fits = (subst (Slice.Room (UInt w64)) (sym len3) ((subst (Slice.Room (UInt w64)) (sym len1) (is-notes .0 .1)))) .0 }, tt))))) (
+        let sub1 : at ≤ (r3 .end) = atom-before pre e3 (eqb-false (r3 .end) 0 t2) in
+        let sub1-fits : ((r3 .end) - at) < 2 ^ 64 = omega (arith, LL.owed Scanned-T.the-type Scanned-L.the-laws r3 _ is3 .0 .1) in
+        Walk.sets ! (Run.bin ! (Walk.local ! 19 refl) (Walk.local ! 17 refl) sub1) (Run.init ! 33 refl ((tt, record { fits = sub1-fits }))) (
+        -- [notes; κ₂; the locals; dead; κ₁; κ₀; κ₃; nodes; line; their ends]
+        -- call 6: pass_atom (notes, (r3 .end) - at)
+        Again.lends W (UInt w64) κ₂ q₂ notes (named 2) (named 0) (ws5 .1 .1 .1 .1 .0) ! tt (λ ν4 δ4.
+        Walk.gives W (Walk.kept (MutSlice (named 0) (ν4 ∷ []) (UInt w64) .own (record { ptr = (notes .ptr); name = δ4; now = (ws5 .1 .1 .1 .1 .0) })
+        ((sliceVal (notes .ptr) (length (ws5 .1 .1 .1 .1 .0))) ∷ [])) ∷ Walk.made ((UInt w64) .own ((r3 .end) - at) ((vint w64 ((r3 .end) - at)) ∷
+        [])) (uint-makes 𝓤 H A W w64 ((r3 .end) - at) _ (refl, sub1-fits)) ∷ []) _ ! (
+        Walk.move ! (2 ∷ []) (
+        Walk.tokens-in W (((ν4 ∷ []), fullShare) ∷ []) _ ! (alive 𝓤 H A g-pass-atom.signature ((ν4 ∷ []), tt) (fullShare, tt)) (id⊢ 𝓤 _) (
+        Walk.asksˡ W ! fm g-pass-atom.ended (g-pass-atom.clauses 𝓤 H A mem run)
+        ((((ν4 ∷ []), tt), (fullShare, tt), tt, ((record { ptr = (notes .ptr); name = δ4; now = (ws5 .1 .1 .1 .1 .0) }), (((r3 .end) - at), tt)), ((sliceVal (notes .ptr) (length (ws5 .1 .1 .1 .1 .0))) ∷ [], ((vint w64 ((r3 .end) - at)) ∷ [], tt))), tt) _ (known-pass-atom ((((ν4 ∷ []), tt), (fullShare, tt), tt, ((record { ptr = (notes .ptr); name = δ4; now = (ws5 .1 .1 .1 .1 .0) }), (((r3 .end) - at), tt)), ((sliceVal (notes .ptr) (length (ws5 .1 .1 .1 .1 .0))) ∷ [], ((vint w64 ((r3 .end) - at)) ∷ [], tt))), tt)) (factI 𝓤 _ (emp 𝓤) (atom-fits pre e3 (eqb-false (r3 .end) 0 t2) e5 (eqb-false r5 0 t3) len3 len1)) (λ r ws. id⊢ 𝓤 _)
+        (Run.and-then ! (Walk.local ! 32 refl) (Run.and-then ! (Walk.local ! 33 refl) (Run.no-more !))) (λ u6 r6 ws6 is6′ e6.
+        Walk.returned W (((ν4 ∷ []), fullShare) ∷ []) (Walk.final (finally (UInt w64) δ4 (ws6 .0)) (length (ws6 .0)) (length (ws5 .1 .1 .1 .1 .0)) ∷
+        Walk.gone _ ∷ []) ! (id⊢ 𝓤 _) (λ len4.
+        Walk.move ! (1 ∷ 1 ∷ 0 ∷ 0 ∷ []) (
+        Again.backs W (UInt w64) κ₂ q₂ notes (named 2) (named 0) (ws5 .1 .1 .1 .1 .0) ! tt (ws6 .0) ((subst (Slice.Room (UInt w64)) (sym len3)
+        ((subst (Slice.Room (UInt w64)) (sym len1) (is-notes .0 .1))))) len4 (
+        Walk.lands-in ! (Walk.store-as ! 24 refl (nothing-lawful 𝓤 H A W .typed r6 _ is6′ .0) (ap only (nothing-tells r6 _ is6′))) (
+        let is6 : Is Nothing r6 (vunit ∷ []) = subst (λ (vs : List Val). Is Nothing r6 vs) (nothing-tells r6 _ is6′) is6′ in
+        Walk.written-out ! (‵ (T-search-atom-notes .own (at-last notes (ws6 .0)) (sliceVal (notes .ptr) (length (ws6 .0)) ∷ [])) ∷ ‵ (flft κ₂ q₂) ∷
+        ‵ (fat fullShare Y-search-atom-notes l₅ 0 (sliceVal (notes .ptr) (length (ws6 .0)))) ∷
+        ‵ (T-search-atom-dead .own (at-last dead (ws5 .1 .1 .1 .0)) (sliceVal (dead .ptr) (length (ws5 .1 .1 .1 .0)) ∷ [])) ∷ ‵ (flft κ₁ q₁) ∷
+        ‵ (fat fullShare Y-search-atom-dead l₄ 0 (sliceVal (dead .ptr) (length (ws5 .1 .1 .1 .0)))) ∷ ‵ (flft κ₀ q₀) ∷ ‵ (flft κ₃ q₃) ∷
+        ‵ (T-search-atom-nodes .own nodes (sliceVal (nodes .ptr) (length (nodes .now)) ∷ [])) ∷
+        ‵ (T-search-atom-line .own line (sliceVal (line .ptr) (length (line .now)) ∷ [])) ∷ ‵ (froom (tyInt w64) l₀ 0) ∷
+        ‵ (fat fullShare (tyInt w8) l₁ 0 (vint w8 left)) ∷ ‵ (fat fullShare (tyInt w8) l₂ 0 (vint w8 right)) ∷
+        ‵ (fat fullShare Y-search-atom-nodes l₃ 0 (sliceVal (nodes .ptr) (length (nodes .now)))) ∷
+        ‵ (fat fullShare Y-search-atom-line l₆ 0 (sliceVal (line .ptr) (length (line .now)))) ∷ ‵ (fat fullShare (tyInt w64) l₇ 0 (vint w64 end)) ∷
+        ‵ (fat fullShare (tyInt w64) l₈ 0 (vint w64 node)) ∷ ‵ (fat fullShare (tyInt w64) l₉ 0 (vint w64 at)) ∷
+        ‵ (fat fullShare Scanned-L.mir l₁₀ 0 (Scanned-L.lowered r3)) ∷ ‵ (fat fullShare (tyInt w64) l₁₁ 0 (vint w64 (r3 .end))) ∷
+        ‵ (fat fullShare (tyInt w64) l₁₂ 0 (vint w64 r5)) ∷ ‵ (fat fullShare tyBool l₁₃ 0 (vbool (eqb (r3 .end) 0))) ∷
+        ‵ (fat fullShare Node-L.mir l₁₄ 0 (Node-L.lowered r1)) ∷ ‵ (fat fullShare tyBool l₁₅ 0 (vbool (eqb r5 0))) ∷
+        ‵ (fat fullShare tyUnit l₁₆ 0 vunit) ∷ ‵ (fat fullShare (tyRef erased mut (pointee ((UInt w64) .written))) l₁₇ 0 (vptr (notes .ptr .0)
+        (notes .ptr .1))) ∷ ‵ (fat fullShare (sliceTy (tyRef erased mut (pointee ((UInt w64) .written)))) l₁₈ 0 (sliceVal (notes .ptr)
+        (length (notes .now)))) ∷ ‵ (fat fullShare (tyRef erased mut (pointee ((UInt w8) .written))) l₁₉ 0 (vptr (dead .ptr .0) (dead .ptr .1))) ∷
+        ‵ (fat fullShare (sliceTy (tyRef erased mut (pointee ((UInt w8) .written)))) l₂₀ 0 (sliceVal (dead .ptr) (length (dead .now)))) ∷
+        ‵ (fat fullShare (tyRef erased mut (pointee ((UInt w64) .written))) l₂₁ 0 (vptr (notes .ptr .0) (notes .ptr .1))) ∷
+        ‵ (fat fullShare (sliceTy (tyRef erased mut (pointee ((UInt w64) .written)))) l₂₂ 0 (sliceVal (notes .ptr) (length (ws4 .0)))) ∷
+        ‵ (fat fullShare (tyRef erased mut (pointee ((UInt w64) .written))) l₂₃ 0 (vptr (notes .ptr .0) (notes .ptr .1))) ∷
+        ‵ (fat fullShare (sliceTy (tyRef erased mut (pointee ((UInt w64) .written)))) l₂₄ 0 (sliceVal (notes .ptr) (length (ws5 .1 .1 .1 .1 .0)))) ∷
+        ‵ (fat fullShare (tyInt w64) l₂₅ 0 (vint w64 ((r3 .end) - at))) ∷ ‵ Fd ∷ []) refl (
+        Walk.sets ! (Run.of-opd ! (Walk.local ! 20 refl)) (Run.init ! 10 refl ((tt, record { fits = is5 .1 }))) (
+        Walk.returns-by ! Post-search-atom refl (Run.look ! 10 refl) (
+        Walk.move ! (10 ∷ 10 ∷ 10 ∷ 10 ∷ 5 ∷ 2 ∷ 8 ∷ 8 ∷ 8 ∷ 8 ∷ 8 ∷ 8 ∷ 8 ∷ 8 ∷ 8 ∷ 8 ∷ 8 ∷ 8 ∷ 8 ∷ 8 ∷ 8 ∷ 8 ∷ 8 ∷ 8 ∷ 8 ∷ 8 ∷ 8 ∷ []) (
+        Walk.frees-gathered ! (Walk.full (tyInt w64) l₀ (vint w64 r5) ∷ Walk.full (tyInt w8) l₁ (vint w8 left) ∷
+        Walk.full (tyInt w8) l₂ (vint w8 right) ∷ Walk.full Y-search-atom-nodes l₃ (sliceVal (nodes .ptr) (length (nodes .now))) ∷
+        Walk.full Y-search-atom-dead l₄ (sliceVal (dead .ptr) (length (ws5 .1 .1 .1 .0))) ∷ Walk.full Y-search-atom-notes l₅ (sliceVal (notes .ptr)
+        (length (ws6 .0))) ∷ Walk.full Y-search-atom-line l₆ (sliceVal (line .ptr) (length (line .now))) ∷ Walk.full (tyInt w64) l₇ (vint w64 end) ∷
+        Walk.full (tyInt w64) l₈ (vint w64 node) ∷ Walk.full (tyInt w64) l₉ (vint w64 at) ∷ Walk.full Scanned-L.mir l₁₀ (Scanned-L.lowered r3) ∷
+        Walk.full (tyInt w64) l₁₁ (vint w64 (r3 .end)) ∷ Walk.full (tyInt w64) l₁₂ (vint w64 r5) ∷ Walk.full tyBool l₁₃ (vbool (eqb (r3 .end) 0)) ∷
+        Walk.full Node-L.mir l₁₄ (Node-L.lowered r1) ∷ Walk.full tyBool l₁₅ (vbool (eqb r5 0)) ∷ Walk.full tyUnit l₁₆ vunit ∷
+        Walk.full (tyRef erased mut (pointee ((UInt w64) .written))) l₁₇ (vptr (notes .ptr .0) (notes .ptr .1)) ∷
+        Walk.full (sliceTy (tyRef erased mut (pointee ((UInt w64) .written)))) l₁₈ (sliceVal (notes .ptr) (length (notes .now))) ∷
+        Walk.full (tyRef erased mut (pointee ((UInt w8) .written))) l₁₉ (vptr (dead .ptr .0) (dead .ptr .1)) ∷
+        Walk.full (sliceTy (tyRef erased mut (pointee ((UInt w8) .written)))) l₂₀ (sliceVal (dead .ptr) (length (dead .now))) ∷
+        Walk.full (tyRef erased mut (pointee ((UInt w64) .written))) l₂₁ (vptr (notes .ptr .0) (notes .ptr .1)) ∷
+        Walk.full (sliceTy (tyRef erased mut (pointee ((UInt w64) .written)))) l₂₂ (sliceVal (notes .ptr) (length (ws4 .0))) ∷
+        Walk.full (tyRef erased mut (pointee ((UInt w64) .written))) l₂₃ (vptr (notes .ptr .0) (notes .ptr .1)) ∷
+        Walk.full (sliceTy (tyRef erased mut (pointee ((UInt w64) .written)))) l₂₄ (sliceVal (notes .ptr) (length (ws5 .1 .1 .1 .1 .0))) ∷
+        Walk.full (tyInt w64) l₂₅ (vint w64 ((r3 .end) - at)) ∷ []) Fd ed (‵ (T-search-atom-notes .own (at-last notes (ws6 .0))
+        (sliceVal (notes .ptr) (length (ws6 .0)) ∷ [])) ∷ ‵ (flft κ₂ q₂) ∷ ‵ (T-search-atom-dead .own (at-last dead (ws5 .1 .1 .1 .0))
+        (sliceVal (dead .ptr) (length (ws5 .1 .1 .1 .0)) ∷ [])) ∷ ‵ (flft κ₁ q₁) ∷ ‵ (flft κ₀ q₀) ∷ ‵ (flft κ₃ q₃) ∷
+        ‵ (T-search-atom-nodes .own nodes (sliceVal (nodes .ptr) (length (nodes .now)) ∷ [])) ∷
+        ‵ (T-search-atom-line .own line (sliceVal (line .ptr) (length (line .now)) ∷ [])) ∷ []) (
+        Walk.move ! (2 ∷ 0 ∷ []) (
+        Walk.gives W (Walk.nothing ∷ Walk.nothing ∷ Walk.nothing ∷ Walk.turned (T-search-atom-dead .own (at-last dead (ws5 .1 .1 .1 .0))
+        (sliceVal (dead .ptr) (length (ws5 .1 .1 .1 .0)) ∷ [])) (finally (UInt w8) (dead .name) (ws5 .1 .1 .1 .0))
+        (Walk.ended-slice 𝓤 H A W (named 1) κ₁ (UInt w8) dead (ws5 .1 .1 .1 .0) _) ∷ Walk.turned (T-search-atom-notes .own (at-last notes (ws6 .0))
+        (sliceVal (notes .ptr) (length (ws6 .0)) ∷ [])) (finally (UInt w64) (notes .name) (ws6 .0))
+        (Walk.ended-slice 𝓤 H A W (named 2) κ₂ (UInt w64) notes (ws6 .0) _) ∷ Walk.nothing ∷ Walk.nothing ∷ Walk.nothing ∷ Walk.nothing ∷ []) _ ! (
+        Walk.move ! (3 ∷ 2 ∷ 1 ∷ 1 ∷ []) (
+        Walk.tokens-in W ((κ₀, q₀) ∷ (κ₁, q₁) ∷ (κ₂, q₂) ∷ (κ₃, q₃) ∷ []) _ ! (alive 𝓤 H A f-search-atom.signature (κ₀, (κ₁, (κ₂, (κ₃, tt))))
+        (q₀, (q₁, (q₂, (q₃, tt))))) (id⊢ 𝓤 _) (
+        Walk.use0 W ! (‵ ((UInt w64) .own r5 ((vint w64 r5) ∷ []))) (uint-makes 𝓤 H A W w64 r5 _ (refl, is5 .1)) (Walk.keep ! (1 ∷ 1 ∷ 0 ∷ []) (
+        Kit.by ! (Walk.leave-by 𝓤 H A W f-search-atom.ended (f-search-atom.clauses 𝓤 H A mem run) stayed-search-atom bound-search-atom (vint w64 r5) r5 (tt, (tt, (tt, ((ws5 .1 .1 .1 .0), ((ws6 .0), (tt, (tt, (tt, (tt, tt))))))))) (tt, (tt, (tt, ((len2 ∙ refl), ((len4 ∙ (len3 ∙ (len1 ∙ refl))), (tt, (tt, (tt, (tt, tt))))))))) (factI 𝓤 _ (emp 𝓤) (atom-below e1 e2 (not-false _ t1) e3 e4 (eqb-false (r3 .end) 0 t2) e5 (eqb-false r5 0 t3) e6)))))))))))))))))))))))))))))))))))))))))))))))))))))))))))))))))))))))))))))))))))))))))))))))))))))))))))))))))))))))))))))))))))))))))))
 
 module _ {M : Type 1} (𝓤 : URA M) (H : Heap 𝓤) (A : Atoms 𝓤) (W : Given 𝓤 H A) (mem : Memory → SProp 𝓤) (run : Routine → Fun 𝓤) (κ₀ : Lft)
     (q₀ : Share) (κ₁ : Lft) (q₁ : Share) (κ₂ : Lft) (q₂ : Share) (κ₃ : Lft) (q₃ : Share) (left : ℕ) (right : ℕ) (nodes : RefT (List Node))
@@ -1266,9 +1221,8 @@ module _ {M : Type 1} (𝓤 : URA M) (H : Heap 𝓤) (A : Atoms 𝓤) (W : Given
 
   module _ (C : Calls 𝓤 H) (Λ : Loops 𝓤 H) (fm : FmC 𝓤 H (W .laws) C) (known-element-at : Triple 𝓤 (C #g-element-at)
       (Walk.Of 𝓤 H A g-element-at.ended (g-element-at.clauses 𝓤 H A mem run))) (known-child : Triple 𝓤 (C #g-child)
-      (Walk.Of 𝓤 H A g-child.ended (g-child.clauses 𝓤 H A mem run))) (known-no-piece : Triple 𝓤 (C #g-no-piece)
-      (Walk.Of 𝓤 H A g-no-piece.ended (g-no-piece.clauses 𝓤 H A mem run))) (known-count-place : Triple 𝓤 (C #g-count-place)
-      (Walk.Of 𝓤 H A g-count-place.ended (g-count-place.clauses 𝓤 H A mem run)))
+      (Walk.Of 𝓤 H A g-child.ended (g-child.clauses 𝓤 H A mem run))) (known-end-template : Triple 𝓤 (C #g-end-template)
+      (Walk.Of 𝓤 H A g-end-template.ended (g-end-template.clauses 𝓤 H A mem run)))
       (known-search : (y : Walk.Of 𝓤 H A f-search.ended (f-search.clauses 𝓤 H A mem run) .Ghost)
       → μ-search 𝓤 H A mem run y < measure-search-byte left right nodes dead notes line end node at
       → ent 𝓤 (Walk.Of 𝓤 H A f-search.ended (f-search.clauses 𝓤 H A mem run) .pre y)
@@ -1320,7 +1274,7 @@ module _ {M : Type 1} (𝓤 : URA M) (H : Heap 𝓤) (A : Atoms 𝓤) (W : Given
         l₁₃ ∷ l₁₄ ∷ l₁₅ ∷ l₁₆ ∷ l₁₇ ∷ l₁₈ ∷ l₁₉ ∷ l₂₀ ∷ []) in
         Walk.move ! (40 ∷ 40 ∷ 38 ∷ 38 ∷ 36 ∷ 36 ∷ 34 ∷ 34 ∷ 32 ∷ 32 ∷ 30 ∷ 30 ∷ 28 ∷ 28 ∷ 26 ∷ 26 ∷ 24 ∷ 24 ∷ 22 ∷ 22 ∷ 20 ∷ 20 ∷ 18 ∷ 18 ∷ 16 ∷
         16 ∷ 14 ∷ 14 ∷ 12 ∷ 12 ∷ 10 ∷ 10 ∷ 8 ∷ 8 ∷ 6 ∷ 6 ∷ 4 ∷ 4 ∷ 2 ∷ 2 ∷ 0 ∷ 0 ∷ []) (
-        Walk.gathers ! (Walk.bare Outcome-L.mir l₀ ∷ Walk.bare (tyInt w8) l₁ ∷ Walk.bare (tyInt w8) l₂ ∷ Walk.bare Y-search-byte-nodes l₃ ∷
+        Walk.gathers ! (Walk.bare (tyInt w64) l₀ ∷ Walk.bare (tyInt w8) l₁ ∷ Walk.bare (tyInt w8) l₂ ∷ Walk.bare Y-search-byte-nodes l₃ ∷
         Walk.bare Y-search-byte-dead l₄ ∷ Walk.bare Y-search-byte-notes l₅ ∷ Walk.bare Y-search-byte-line l₆ ∷ Walk.bare (tyInt w64) l₇ ∷
         Walk.bare (tyInt w64) l₈ ∷ Walk.bare (tyInt w64) l₉ ∷ Walk.bare (tyInt w64) l₁₀ ∷ Walk.bare (tyInt w16) l₁₁ ∷ Walk.bare tyBool l₁₂ ∷
         Walk.bare tyUnit l₁₃ ∷ Walk.bare (tyRef erased mut (pointee ((UInt w64) .written))) l₁₄ ∷
@@ -1357,7 +1311,7 @@ module _ {M : Type 1} (𝓤 : URA M) (H : Heap 𝓤) (A : Atoms 𝓤) (W : Given
         Walk.lands-in ! (Walk.init-as ! 13 refl (uint-lawful 𝓤 H A W w16 .typed r1 _ is1′ .0) (ap only (uint-tells w16 r1 _ is1′))) (
         let is1 : Is (UInt w16) r1 ((vint w16 r1) ∷ []) = subst (λ (vs : List Val). Is (UInt w16) r1 vs) (uint-tells w16 r1 _ is1′) is1′ in
         Walk.written-out ! (‵ (flft κ₃ q₃) ∷ ‵ (T-search-byte-line .own line (sliceVal (line .ptr) (length (line .now)) ∷ [])) ∷
-        ‵ (froom Outcome-L.mir l₀ 0) ∷ ‵ (fat fullShare (tyInt w8) l₁ 0 (vint w8 left)) ∷ ‵ (fat fullShare (tyInt w8) l₂ 0 (vint w8 right)) ∷
+        ‵ (froom (tyInt w64) l₀ 0) ∷ ‵ (fat fullShare (tyInt w8) l₁ 0 (vint w8 left)) ∷ ‵ (fat fullShare (tyInt w8) l₂ 0 (vint w8 right)) ∷
         ‵ (fat fullShare Y-search-byte-nodes l₃ 0 (sliceVal (nodes .ptr) (length (nodes .now)))) ∷
         ‵ (fat fullShare Y-search-byte-dead l₄ 0 (sliceVal (dead .ptr) (length (dead .now)))) ∷
         ‵ (fat fullShare Y-search-byte-notes l₅ 0 (sliceVal (notes .ptr) (length (notes .now)))) ∷
@@ -1389,7 +1343,7 @@ module _ {M : Type 1} (𝓤 : URA M) (H : Heap 𝓤) (A : Atoms 𝓤) (W : Given
         Walk.lands-in ! (Walk.init-as ! 14 refl (uint-lawful 𝓤 H A W w64 .typed r2 _ is2′ .0) (ap only (uint-tells w64 r2 _ is2′))) (
         let is2 : Is (UInt w64) r2 ((vint w64 r2) ∷ []) = subst (λ (vs : List Val). Is (UInt w64) r2 vs) (uint-tells w64 r2 _ is2′) is2′ in
         Walk.written-out ! (‵ (flft κ₀ q₀) ∷ ‵ (T-search-byte-nodes .own nodes (sliceVal (nodes .ptr) (length (nodes .now)) ∷ [])) ∷
-        ‵ (flft κ₃ q₃) ∷ ‵ (T-search-byte-line .own line (sliceVal (line .ptr) (length (line .now)) ∷ [])) ∷ ‵ (froom Outcome-L.mir l₀ 0) ∷
+        ‵ (flft κ₃ q₃) ∷ ‵ (T-search-byte-line .own line (sliceVal (line .ptr) (length (line .now)) ∷ [])) ∷ ‵ (froom (tyInt w64) l₀ 0) ∷
         ‵ (fat fullShare (tyInt w8) l₁ 0 (vint w8 left)) ∷ ‵ (fat fullShare (tyInt w8) l₂ 0 (vint w8 right)) ∷
         ‵ (fat fullShare Y-search-byte-nodes l₃ 0 (sliceVal (nodes .ptr) (length (nodes .now)))) ∷
         ‵ (fat fullShare Y-search-byte-dead l₄ 0 (sliceVal (dead .ptr) (length (dead .now)))) ∷
@@ -1408,40 +1362,10 @@ module _ {M : Type 1} (𝓤 : URA M) (H : Heap 𝓤) (A : Atoms 𝓤) (W : Given
         Walk.sets ! (Run.bin ! (Walk.local ! 14 refl) (Run.lit ! tt) tt) (Run.init ! 16 refl ((tt, tt))) (Walk.first-then ! (
         Run.branches ! (Walk.local ! 16 refl)
         (λ h1. let t1 : (eqb r2 0) ≡ true = Walk.is-true _ h1 in
-        -- [κ₀; nodes; κ₃; line; the locals; their ends; κ₁; κ₂; notes; dead]
-        -- call 3: no_piece (0)
-        Walk.gives W (Walk.made ((UInt w64) .own 0 ((vint w64 0) ∷ [])) (uint-makes 𝓤 H A W w64 0 _ (refl, lit< tt)) ∷ []) _ ! (
-        Walk.tokens-in W ([]) _ ! (alive 𝓤 H A g-no-piece.signature tt tt) (id⊢ 𝓤 _) (
-        Walk.asks W ! fm g-no-piece.ended (g-no-piece.clauses 𝓤 H A mem run)
-        ((tt, tt, tt, (0, tt), ((vint w64 0) ∷ [], tt)), tt) _ (known-no-piece ((tt, tt, tt, (0, tt), ((vint w64 0) ∷ [], tt)), tt)) (id⊢ 𝓤 (emp 𝓤))
-        (λ r ws. id⊢ 𝓤 _)
-        (Run.and-then ! (Run.lit ! tt) (Run.no-more !)) (λ u3 r3 is3′ e3.
-        Walk.tokens-out W ([]) ! (id⊢ 𝓤 _) (
-        Walk.lands-in ! (Walk.init-as ! 4 refl (LL.lawful Outcome-T.the-type Outcome-L.the-laws 𝓤 H A W .typed r3 _ is3′ .0)
-        (ap only (LL.tells Outcome-T.the-type Outcome-L.the-laws r3 _ is3′))) (
-        let is3 : Is Outcome-T.the-row r3 ((Outcome-L.lowered r3) ∷ []) = subst (λ (vs : List Val). Is Outcome-T.the-row r3 vs)
-        (LL.tells Outcome-T.the-type Outcome-L.the-laws r3 _ is3′) is3′ in
-        Walk.written-out ! (‵ (flft κ₀ q₀) ∷ ‵ (T-search-byte-nodes .own nodes (sliceVal (nodes .ptr) (length (nodes .now)) ∷ [])) ∷
-        ‵ (flft κ₃ q₃) ∷ ‵ (T-search-byte-line .own line (sliceVal (line .ptr) (length (line .now)) ∷ [])) ∷
-        ‵ (fat fullShare Outcome-L.mir l₀ 0 (Outcome-L.lowered r3)) ∷ ‵ (fat fullShare (tyInt w8) l₁ 0 (vint w8 left)) ∷
-        ‵ (fat fullShare (tyInt w8) l₂ 0 (vint w8 right)) ∷ ‵ (fat fullShare Y-search-byte-nodes l₃ 0 (sliceVal (nodes .ptr)
-        (length (nodes .now)))) ∷ ‵ (fat fullShare Y-search-byte-dead l₄ 0 (sliceVal (dead .ptr) (length (dead .now)))) ∷
-        ‵ (fat fullShare Y-search-byte-notes l₅ 0 (sliceVal (notes .ptr) (length (notes .now)))) ∷
-        ‵ (fat fullShare Y-search-byte-line l₆ 0 (sliceVal (line .ptr) (length (line .now)))) ∷ ‵ (fat fullShare (tyInt w64) l₇ 0 (vint w64 end)) ∷
-        ‵ (fat fullShare (tyInt w64) l₈ 0 (vint w64 node)) ∷ ‵ (fat fullShare (tyInt w64) l₉ 0 (vint w64 at)) ∷
-        ‵ (fat fullShare (tyInt w64) l₁₀ 0 (vint w64 r2)) ∷ ‵ (fat fullShare (tyInt w16) l₁₁ 0 (vint w16 r1)) ∷
-        ‵ (fat fullShare tyBool l₁₂ 0 (vbool (eqb r2 0))) ∷ ‵ (froom tyUnit l₁₃ 0) ∷
-        ‵ (froom (tyRef erased mut (pointee ((UInt w64) .written))) l₁₄ 0) ∷
-        ‵ (froom (sliceTy (tyRef erased mut (pointee ((UInt w64) .written)))) l₁₅ 0) ∷
-        ‵ (froom (tyRef erased mut (pointee ((UInt w8) .written))) l₁₆ 0) ∷
-        ‵ (froom (sliceTy (tyRef erased mut (pointee ((UInt w8) .written)))) l₁₇ 0) ∷
-        ‵ (froom (tyRef erased mut (pointee ((UInt w64) .written))) l₁₈ 0) ∷
-        ‵ (froom (sliceTy (tyRef erased mut (pointee ((UInt w64) .written)))) l₁₉ 0) ∷ ‵ (froom (tyInt w64) l₂₀ 0) ∷ ‵ Fd ∷ ‵ (flft κ₁ q₁) ∷
-        ‵ (flft κ₂ q₂) ∷ ‵ (T-search-byte-notes .own notes (sliceVal (notes .ptr) (length (notes .now)) ∷ [])) ∷
-        ‵ (T-search-byte-dead .own dead (sliceVal (dead .ptr) (length (dead .now)) ∷ [])) ∷ []) refl (
+        Walk.sets ! (Run.of-opd ! (Run.lit ! tt)) (Run.init ! 4 refl ((tt, record { fits = lit< tt }))) (
         Walk.returns-by ! Post-search-byte (Walk.through 𝓤 H C Λ E _ _ Post-search-byte refl) (Run.look ! 4 refl) (
         Walk.move ! (4 ∷ 4 ∷ 4 ∷ 4 ∷ 4 ∷ 4 ∷ 4 ∷ 4 ∷ 4 ∷ 4 ∷ 4 ∷ 4 ∷ 4 ∷ 4 ∷ 4 ∷ 4 ∷ 4 ∷ 4 ∷ 4 ∷ 4 ∷ 4 ∷ 4 ∷ []) (
-        Walk.frees-gathered ! (Walk.full Outcome-L.mir l₀ (Outcome-L.lowered r3) ∷ Walk.full (tyInt w8) l₁ (vint w8 left) ∷
+        Walk.frees-gathered ! (Walk.full (tyInt w64) l₀ (vint w64 0) ∷ Walk.full (tyInt w8) l₁ (vint w8 left) ∷
         Walk.full (tyInt w8) l₂ (vint w8 right) ∷ Walk.full Y-search-byte-nodes l₃ (sliceVal (nodes .ptr) (length (nodes .now))) ∷
         Walk.full Y-search-byte-dead l₄ (sliceVal (dead .ptr) (length (dead .now))) ∷ Walk.full Y-search-byte-notes l₅ (sliceVal (notes .ptr)
         (length (notes .now))) ∷ Walk.full Y-search-byte-line l₆ (sliceVal (line .ptr) (length (line .now))) ∷
@@ -1467,9 +1391,8 @@ module _ {M : Type 1} (𝓤 : URA M) (H : Heap 𝓤) (A : Atoms 𝓤) (W : Given
         Walk.move ! (1 ∷ 4 ∷ 4 ∷ 2 ∷ []) (
         Walk.tokens-in W ((κ₀, q₀) ∷ (κ₁, q₁) ∷ (κ₂, q₂) ∷ (κ₃, q₃) ∷ []) _ ! (alive 𝓤 H A f-search-byte.signature (κ₀, (κ₁, (κ₂, (κ₃, tt))))
         (q₀, (q₁, (q₂, (q₃, tt))))) (id⊢ 𝓤 _) (
-        Walk.use0 W ! (‵ (Outcome-T.the-row .own r3 ((Outcome-L.lowered r3) ∷ []))) (LL.makes Outcome-T.the-type Outcome-L.the-plain 𝓤 H A r3 _ is3) (
-        Walk.keep ! (1 ∷ 1 ∷ 0 ∷ []) (
-        Kit.by ! (Walk.leave-by 𝓤 H A W f-search-byte.ended (f-search-byte.clauses 𝓤 H A mem run) stayed-search-byte bound-search-byte (Outcome-L.lowered r3) r3 (tt, (tt, (tt, ((dead .now), ((notes .now), (tt, (tt, (tt, (tt, tt))))))))) (tt, (tt, (tt, (refl, (refl, (tt, (tt, (tt, (tt, tt))))))))) (factI 𝓤 _ (emp 𝓤) (byte-none e2 e1 (eqb-true r2 0 t1) e3)))))))))))))))))))
+        Walk.use0 W ! (‵ ((UInt w64) .own 0 ((vint w64 0) ∷ []))) (uint-makes 𝓤 H A W w64 0 _ (refl, lit< tt)) (Walk.keep ! (1 ∷ 1 ∷ 0 ∷ []) (
+        Kit.by ! (Walk.leave-by 𝓤 H A W f-search-byte.ended (f-search-byte.clauses 𝓤 H A mem run) stayed-search-byte bound-search-byte (vint w64 0) 0 (tt, (tt, (tt, ((dead .now), ((notes .now), (tt, (tt, (tt, (tt, tt))))))))) (tt, (tt, (tt, (refl, (refl, (tt, (tt, (tt, (tt, tt))))))))) (factI 𝓤 _ (emp 𝓤) (byte-none e2 e1 (eqb-true r2 0 t1) refl))))))))))))))
         (λ h1. let t1 : (eqb r2 0) ≡ false = Walk.is-false _ h1 in
         Walk.skips-then ! (Walk.sets ! (Run.bin ! (Walk.local ! 13 refl) (Walk.local ! 11 refl) tt) (Run.store ! 16 refl ((tt, tt))) (
         Walk.first-then ! (Run.branches ! (Walk.local ! 16 refl)
@@ -1479,24 +1402,24 @@ module _ {M : Type 1} (𝓤 : URA M) (H : Heap 𝓤) (A : Atoms 𝓤) (W : Given
         Walk.sets ! (Part.agg ! (Run.and-then ! (Walk.local ! 18 refl) (Run.and-then ! (Walk.part ! 9 refl refl refl) (Run.no-more !))))
         (Run.init ! 19 refl ((tt, (tt, (record { fits = is-notes .0 .1 .0 }, tt))))) (
         -- [κ₀; nodes; κ₃; line; the locals; their ends; κ₁; κ₂; notes; dead]
-        -- call 4: count_place (notes)
+        -- call 3: end_template (notes)
         Walk.move ! (28 ∷ 27 ∷ []) (Again.lends W (UInt w64) κ₂ q₂ notes (named 2) (named 0) (notes .now) ! tt (λ ν1 δ1.
         Walk.gives W (Walk.kept (MutSlice (named 0) (ν1 ∷ []) (UInt w64) .own (record { ptr = (notes .ptr); name = δ1; now = (notes .now) })
         ((sliceVal (notes .ptr) (length (notes .now))) ∷ [])) ∷ []) _ ! (
         Walk.move ! (2 ∷ []) (
-        Walk.tokens-in W (((ν1 ∷ []), fullShare) ∷ []) _ ! (alive 𝓤 H A g-count-place.signature ((ν1 ∷ []), tt) (fullShare, tt)) (id⊢ 𝓤 _) (
-        Walk.asksˡ W ! fm g-count-place.ended (g-count-place.clauses 𝓤 H A mem run)
-        ((((ν1 ∷ []), tt), (fullShare, tt), tt, ((record { ptr = (notes .ptr); name = δ1; now = (notes .now) }), tt), ((sliceVal (notes .ptr) (length (notes .now))) ∷ [], tt)), tt) _ (known-count-place ((((ν1 ∷ []), tt), (fullShare, tt), tt, ((record { ptr = (notes .ptr); name = δ1; now = (notes .now) }), tt), ((sliceVal (notes .ptr) (length (notes .now))) ∷ [], tt)), tt)) (factI 𝓤 _ (emp 𝓤) (pre .twenty)) (λ r ws. id⊢ 𝓤 _)
-        (Run.and-then ! (Walk.local ! 21 refl) (Run.no-more !)) (λ u4 r4 ws4 is4′ e4.
-        Walk.returned W (((ν1 ∷ []), fullShare) ∷ []) (Walk.final (finally (UInt w64) δ1 (ws4 .0)) (length (ws4 .0)) (length (notes .now)) ∷
+        Walk.tokens-in W (((ν1 ∷ []), fullShare) ∷ []) _ ! (alive 𝓤 H A g-end-template.signature ((ν1 ∷ []), tt) (fullShare, tt)) (id⊢ 𝓤 _) (
+        Walk.asksˡ W ! fm g-end-template.ended (g-end-template.clauses 𝓤 H A mem run)
+        ((((ν1 ∷ []), tt), (fullShare, tt), tt, ((record { ptr = (notes .ptr); name = δ1; now = (notes .now) }), tt), ((sliceVal (notes .ptr) (length (notes .now))) ∷ [], tt)), tt) _ (known-end-template ((((ν1 ∷ []), tt), (fullShare, tt), tt, ((record { ptr = (notes .ptr); name = δ1; now = (notes .now) }), tt), ((sliceVal (notes .ptr) (length (notes .now))) ∷ [], tt)), tt)) (factI 𝓤 _ (emp 𝓤) (pre .all-notes)) (λ r ws. id⊢ 𝓤 _)
+        (Run.and-then ! (Walk.local ! 21 refl) (Run.no-more !)) (λ u3 r3 ws3 is3′ e3.
+        Walk.returned W (((ν1 ∷ []), fullShare) ∷ []) (Walk.final (finally (UInt w64) δ1 (ws3 .0)) (length (ws3 .0)) (length (notes .now)) ∷
         []) ! (id⊢ 𝓤 _) (λ len1.
-        Walk.move ! (1 ∷ 1 ∷ 0 ∷ 9 ∷ []) (Again.backs W (UInt w64) κ₂ q₂ notes (named 2) (named 0) (notes .now) ! tt (ws4 .0) (is-notes .0 .1) len1 (
-        Walk.lands-in ! (Walk.init-as ! 19 refl (nothing-lawful 𝓤 H A W .typed r4 _ is4′ .0) (ap only (nothing-tells r4 _ is4′))) (
-        let is4 : Is Nothing r4 (vunit ∷ []) = subst (λ (vs : List Val). Is Nothing r4 vs) (nothing-tells r4 _ is4′) is4′ in
-        Walk.written-out ! (‵ (T-search-byte-notes .own (at-last notes (ws4 .0)) (sliceVal (notes .ptr) (length (ws4 .0)) ∷ [])) ∷ ‵ (flft κ₂ q₂) ∷
-        ‵ (fat fullShare Y-search-byte-notes l₅ 0 (sliceVal (notes .ptr) (length (ws4 .0)))) ∷ ‵ (flft κ₀ q₀) ∷
+        Walk.move ! (1 ∷ 1 ∷ 0 ∷ 9 ∷ []) (Again.backs W (UInt w64) κ₂ q₂ notes (named 2) (named 0) (notes .now) ! tt (ws3 .0) (is-notes .0 .1) len1 (
+        Walk.lands-in ! (Walk.init-as ! 19 refl (nothing-lawful 𝓤 H A W .typed r3 _ is3′ .0) (ap only (nothing-tells r3 _ is3′))) (
+        let is3 : Is Nothing r3 (vunit ∷ []) = subst (λ (vs : List Val). Is Nothing r3 vs) (nothing-tells r3 _ is3′) is3′ in
+        Walk.written-out ! (‵ (T-search-byte-notes .own (at-last notes (ws3 .0)) (sliceVal (notes .ptr) (length (ws3 .0)) ∷ [])) ∷ ‵ (flft κ₂ q₂) ∷
+        ‵ (fat fullShare Y-search-byte-notes l₅ 0 (sliceVal (notes .ptr) (length (ws3 .0)))) ∷ ‵ (flft κ₀ q₀) ∷
         ‵ (T-search-byte-nodes .own nodes (sliceVal (nodes .ptr) (length (nodes .now)) ∷ [])) ∷ ‵ (flft κ₃ q₃) ∷
-        ‵ (T-search-byte-line .own line (sliceVal (line .ptr) (length (line .now)) ∷ [])) ∷ ‵ (froom Outcome-L.mir l₀ 0) ∷
+        ‵ (T-search-byte-line .own line (sliceVal (line .ptr) (length (line .now)) ∷ [])) ∷ ‵ (froom (tyInt w64) l₀ 0) ∷
         ‵ (fat fullShare (tyInt w8) l₁ 0 (vint w8 left)) ∷ ‵ (fat fullShare (tyInt w8) l₂ 0 (vint w8 right)) ∷
         ‵ (fat fullShare Y-search-byte-nodes l₃ 0 (sliceVal (nodes .ptr) (length (nodes .now)))) ∷
         ‵ (fat fullShare Y-search-byte-dead l₄ 0 (sliceVal (dead .ptr) (length (dead .now)))) ∷
@@ -1511,43 +1434,13 @@ module _ {M : Type 1} (𝓤 : URA M) (H : Heap 𝓤) (A : Atoms 𝓤) (W : Given
         ‵ (froom (tyRef erased mut (pointee ((UInt w64) .written))) l₁₈ 0) ∷
         ‵ (froom (sliceTy (tyRef erased mut (pointee ((UInt w64) .written)))) l₁₉ 0) ∷ ‵ (froom (tyInt w64) l₂₀ 0) ∷ ‵ Fd ∷ ‵ (flft κ₁ q₁) ∷
         ‵ (T-search-byte-dead .own dead (sliceVal (dead .ptr) (length (dead .now)) ∷ [])) ∷ []) refl (
-        -- [notes; κ₂; the locals; κ₀; nodes; κ₃; line; their ends; κ₁; dead]
-        -- call 5: no_piece (r2)
-        Walk.gives W (Walk.made ((UInt w64) .own r2 ((vint w64 r2) ∷ [])) (uint-makes 𝓤 H A W w64 r2 _ (refl, is2 .1)) ∷ []) _ ! (
-        Walk.tokens-in W ([]) _ ! (alive 𝓤 H A g-no-piece.signature tt tt) (id⊢ 𝓤 _) (
-        Walk.asks W ! fm g-no-piece.ended (g-no-piece.clauses 𝓤 H A mem run)
-        ((tt, tt, tt, (r2, tt), ((vint w64 r2) ∷ [], tt)), tt) _ (known-no-piece ((tt, tt, tt, (r2, tt), ((vint w64 r2) ∷ [], tt)), tt))
-        (id⊢ 𝓤 (emp 𝓤)) (λ r ws. id⊢ 𝓤 _)
-        (Run.and-then ! (Walk.local ! 17 refl) (Run.no-more !)) (λ u5 r5 is5′ e5.
-        Walk.tokens-out W ([]) ! (id⊢ 𝓤 _) (
-        Walk.lands-in ! (Walk.init-as ! 7 refl (LL.lawful Outcome-T.the-type Outcome-L.the-laws 𝓤 H A W .typed r5 _ is5′ .0)
-        (ap only (LL.tells Outcome-T.the-type Outcome-L.the-laws r5 _ is5′))) (
-        let is5 : Is Outcome-T.the-row r5 ((Outcome-L.lowered r5) ∷ []) = subst (λ (vs : List Val). Is Outcome-T.the-row r5 vs)
-        (LL.tells Outcome-T.the-type Outcome-L.the-laws r5 _ is5′) is5′ in
-        Walk.written-out ! (‵ (T-search-byte-notes .own (at-last notes (ws4 .0)) (sliceVal (notes .ptr) (length (ws4 .0)) ∷ [])) ∷ ‵ (flft κ₂ q₂) ∷
-        ‵ (fat fullShare Y-search-byte-notes l₅ 0 (sliceVal (notes .ptr) (length (ws4 .0)))) ∷ ‵ (flft κ₀ q₀) ∷
-        ‵ (T-search-byte-nodes .own nodes (sliceVal (nodes .ptr) (length (nodes .now)) ∷ [])) ∷ ‵ (flft κ₃ q₃) ∷
-        ‵ (T-search-byte-line .own line (sliceVal (line .ptr) (length (line .now)) ∷ [])) ∷
-        ‵ (fat fullShare Outcome-L.mir l₀ 0 (Outcome-L.lowered r5)) ∷ ‵ (fat fullShare (tyInt w8) l₁ 0 (vint w8 left)) ∷
-        ‵ (fat fullShare (tyInt w8) l₂ 0 (vint w8 right)) ∷ ‵ (fat fullShare Y-search-byte-nodes l₃ 0 (sliceVal (nodes .ptr)
-        (length (nodes .now)))) ∷ ‵ (fat fullShare Y-search-byte-dead l₄ 0 (sliceVal (dead .ptr) (length (dead .now)))) ∷
-        ‵ (fat fullShare Y-search-byte-line l₆ 0 (sliceVal (line .ptr) (length (line .now)))) ∷ ‵ (fat fullShare (tyInt w64) l₇ 0 (vint w64 end)) ∷
-        ‵ (fat fullShare (tyInt w64) l₈ 0 (vint w64 node)) ∷ ‵ (fat fullShare (tyInt w64) l₉ 0 (vint w64 at)) ∷
-        ‵ (fat fullShare (tyInt w64) l₁₀ 0 (vint w64 r2)) ∷ ‵ (fat fullShare (tyInt w16) l₁₁ 0 (vint w16 r1)) ∷
-        ‵ (fat fullShare tyBool l₁₂ 0 (vbool (eqb at end))) ∷ ‵ (fat fullShare tyUnit l₁₃ 0 vunit) ∷
-        ‵ (fat fullShare (tyRef erased mut (pointee ((UInt w64) .written))) l₁₄ 0 (vptr (notes .ptr .0) (notes .ptr .1))) ∷
-        ‵ (fat fullShare (sliceTy (tyRef erased mut (pointee ((UInt w64) .written)))) l₁₅ 0 (sliceVal (notes .ptr) (length (notes .now)))) ∷
-        ‵ (froom (tyRef erased mut (pointee ((UInt w8) .written))) l₁₆ 0) ∷
-        ‵ (froom (sliceTy (tyRef erased mut (pointee ((UInt w8) .written)))) l₁₇ 0) ∷
-        ‵ (froom (tyRef erased mut (pointee ((UInt w64) .written))) l₁₈ 0) ∷
-        ‵ (froom (sliceTy (tyRef erased mut (pointee ((UInt w64) .written)))) l₁₉ 0) ∷ ‵ (froom (tyInt w64) l₂₀ 0) ∷ ‵ Fd ∷ ‵ (flft κ₁ q₁) ∷
-        ‵ (T-search-byte-dead .own dead (sliceVal (dead .ptr) (length (dead .now)) ∷ [])) ∷ []) refl (
+        Walk.sets ! (Run.of-opd ! (Walk.local ! 16 refl)) (Run.init ! 7 refl ((tt, record { fits = is2 .1 }))) (
         Walk.returns-by ! Post-search-byte (Walk.through 𝓤 H C Λ E _ _ Post-search-byte refl) (Run.look ! 7 refl) (
         Walk.move ! (7 ∷ 7 ∷ 7 ∷ 7 ∷ 7 ∷ 2 ∷ 6 ∷ 6 ∷ 6 ∷ 6 ∷ 6 ∷ 6 ∷ 6 ∷ 6 ∷ 6 ∷ 6 ∷ 6 ∷ 6 ∷ 6 ∷ 6 ∷ 6 ∷ 6 ∷ []) (
-        Walk.frees-gathered ! (Walk.full Outcome-L.mir l₀ (Outcome-L.lowered r5) ∷ Walk.full (tyInt w8) l₁ (vint w8 left) ∷
+        Walk.frees-gathered ! (Walk.full (tyInt w64) l₀ (vint w64 r2) ∷ Walk.full (tyInt w8) l₁ (vint w8 left) ∷
         Walk.full (tyInt w8) l₂ (vint w8 right) ∷ Walk.full Y-search-byte-nodes l₃ (sliceVal (nodes .ptr) (length (nodes .now))) ∷
         Walk.full Y-search-byte-dead l₄ (sliceVal (dead .ptr) (length (dead .now))) ∷ Walk.full Y-search-byte-notes l₅ (sliceVal (notes .ptr)
-        (length (ws4 .0))) ∷ Walk.full Y-search-byte-line l₆ (sliceVal (line .ptr) (length (line .now))) ∷ Walk.full (tyInt w64) l₇ (vint w64 end) ∷
+        (length (ws3 .0))) ∷ Walk.full Y-search-byte-line l₆ (sliceVal (line .ptr) (length (line .now))) ∷ Walk.full (tyInt w64) l₇ (vint w64 end) ∷
         Walk.full (tyInt w64) l₈ (vint w64 node) ∷ Walk.full (tyInt w64) l₉ (vint w64 at) ∷ Walk.full (tyInt w64) l₁₀ (vint w64 r2) ∷
         Walk.full (tyInt w16) l₁₁ (vint w16 r1) ∷ Walk.full tyBool l₁₂ (vbool (eqb at end)) ∷ Walk.full tyUnit l₁₃ vunit ∷
         Walk.full (tyRef erased mut (pointee ((UInt w64) .written))) l₁₄ (vptr (notes .ptr .0) (notes .ptr .1)) ∷
@@ -1556,22 +1449,21 @@ module _ {M : Type 1} (𝓤 : URA M) (H : Heap 𝓤) (A : Atoms 𝓤) (W : Given
         Walk.bare (sliceTy (tyRef erased mut (pointee ((UInt w8) .written)))) l₁₇ ∷
         Walk.bare (tyRef erased mut (pointee ((UInt w64) .written))) l₁₈ ∷
         Walk.bare (sliceTy (tyRef erased mut (pointee ((UInt w64) .written)))) l₁₉ ∷ Walk.bare (tyInt w64) l₂₀ ∷
-        []) Fd ed (‵ (T-search-byte-notes .own (at-last notes (ws4 .0)) (sliceVal (notes .ptr) (length (ws4 .0)) ∷ [])) ∷ ‵ (flft κ₂ q₂) ∷
+        []) Fd ed (‵ (T-search-byte-notes .own (at-last notes (ws3 .0)) (sliceVal (notes .ptr) (length (ws3 .0)) ∷ [])) ∷ ‵ (flft κ₂ q₂) ∷
         ‵ (flft κ₀ q₀) ∷ ‵ (T-search-byte-nodes .own nodes (sliceVal (nodes .ptr) (length (nodes .now)) ∷ [])) ∷ ‵ (flft κ₃ q₃) ∷
         ‵ (T-search-byte-line .own line (sliceVal (line .ptr) (length (line .now)) ∷ [])) ∷ ‵ (flft κ₁ q₁) ∷
         ‵ (T-search-byte-dead .own dead (sliceVal (dead .ptr) (length (dead .now)) ∷ [])) ∷ []) (
         Walk.move ! (7 ∷ 0 ∷ []) (
         Walk.gives W (Walk.nothing ∷ Walk.nothing ∷ Walk.nothing ∷ Walk.turned (T-search-byte-dead .own dead (sliceVal (dead .ptr)
         (length (dead .now)) ∷ [])) (finally (UInt w8) (dead .name) (dead .now))
-        (Walk.ended-slice 𝓤 H A W (named 1) κ₁ (UInt w8) dead (dead .now) _) ∷ Walk.turned (T-search-byte-notes .own (at-last notes (ws4 .0))
-        (sliceVal (notes .ptr) (length (ws4 .0)) ∷ [])) (finally (UInt w64) (notes .name) (ws4 .0))
-        (Walk.ended-slice 𝓤 H A W (named 2) κ₂ (UInt w64) notes (ws4 .0) _) ∷ Walk.nothing ∷ Walk.nothing ∷ Walk.nothing ∷ Walk.nothing ∷ []) _ ! (
+        (Walk.ended-slice 𝓤 H A W (named 1) κ₁ (UInt w8) dead (dead .now) _) ∷ Walk.turned (T-search-byte-notes .own (at-last notes (ws3 .0))
+        (sliceVal (notes .ptr) (length (ws3 .0)) ∷ [])) (finally (UInt w64) (notes .name) (ws3 .0))
+        (Walk.ended-slice 𝓤 H A W (named 2) κ₂ (UInt w64) notes (ws3 .0) _) ∷ Walk.nothing ∷ Walk.nothing ∷ Walk.nothing ∷ Walk.nothing ∷ []) _ ! (
         Walk.move ! (2 ∷ 5 ∷ 1 ∷ 2 ∷ []) (
         Walk.tokens-in W ((κ₀, q₀) ∷ (κ₁, q₁) ∷ (κ₂, q₂) ∷ (κ₃, q₃) ∷ []) _ ! (alive 𝓤 H A f-search-byte.signature (κ₀, (κ₁, (κ₂, (κ₃, tt))))
         (q₀, (q₁, (q₂, (q₃, tt))))) (id⊢ 𝓤 _) (
-        Walk.use0 W ! (‵ (Outcome-T.the-row .own r5 ((Outcome-L.lowered r5) ∷ []))) (LL.makes Outcome-T.the-type Outcome-L.the-plain 𝓤 H A r5 _ is5) (
-        Walk.keep ! (1 ∷ 1 ∷ 0 ∷ []) (
-        Kit.by ! (Walk.leave-by 𝓤 H A W f-search-byte.ended (f-search-byte.clauses 𝓤 H A mem run) stayed-search-byte bound-search-byte (Outcome-L.lowered r5) r5 (tt, (tt, (tt, ((dead .now), ((ws4 .0), (tt, (tt, (tt, (tt, tt))))))))) (tt, (tt, (tt, (refl, ((len1 ∙ refl), (tt, (tt, (tt, (tt, tt))))))))) (factI 𝓤 _ (emp 𝓤) (byte-end pre e2 (eqb-false r2 0 t1) e1 (eqb-true at end t2) e4 e5))))))))))))))))))))))))))))))))
+        Walk.use0 W ! (‵ ((UInt w64) .own r2 ((vint w64 r2) ∷ []))) (uint-makes 𝓤 H A W w64 r2 _ (refl, is2 .1)) (Walk.keep ! (1 ∷ 1 ∷ 0 ∷ []) (
+        Kit.by ! (Walk.leave-by 𝓤 H A W f-search-byte.ended (f-search-byte.clauses 𝓤 H A mem run) stayed-search-byte bound-search-byte (vint w64 r2) r2 (tt, (tt, (tt, ((dead .now), ((ws3 .0), (tt, (tt, (tt, (tt, tt))))))))) (tt, (tt, (tt, (refl, ((len1 ∙ refl), (tt, (tt, (tt, (tt, tt))))))))) (factI 𝓤 _ (emp 𝓤) (byte-end pre e2 (eqb-false r2 0 t1) e1 (eqb-true at end t2) e3 refl)))))))))))))))))))))))))))
         (λ h2. let t2 : (eqb at end) ≡ false = Walk.is-false _ h2 in
         Walk.skips-then ! (
         Walk.sets ! (Run.addr ! (Run.from ! (Run.fld ! refl (Run.hop ! (Part.look-in ! 8 (Part.sub ! 0 refl (Part.whole !))) (Run.stop !)))))
@@ -1585,7 +1477,7 @@ module _ {M : Type 1} (𝓤 : URA M) (H : Heap 𝓤) (A : Atoms 𝓤) (W : Given
         let add1 : (at + 1) < 2 ^ 64 = omega (arith, pre .low, (eqb-false at end t2), fits-end) in
         Walk.sets ! (Run.bin ! (Walk.local ! 13 refl) (Run.lit ! tt) (record { fits = add1 })) (Run.init ! 24 refl ((tt, record { fits = add1 }))) (
         -- [κ₀; nodes; κ₃; line; the locals; their ends; κ₁; κ₂; notes; dead]
-        -- call 6: search (left, right, nodes, dead, notes, line, end, r2, at + 1)
+        -- call 4: search (left, right, nodes, dead, notes, line, end, r2, at + 1)
         Walk.move ! (29 ∷ 26 ∷ []) (Again.lends W (UInt w8) κ₁ q₁ dead (named 1) (named 1) (dead .now) ! tt (λ ν2 δ2.
         Walk.move ! (30 ∷ 29 ∷ []) (Again.lends W (UInt w64) κ₂ q₂ notes (named 2) (named 2) (notes .now) ! tt (λ ν3 δ3.
         Walk.move ! (7 ∷ 3 ∷ 0 ∷ 6 ∷ []) (
@@ -1608,31 +1500,29 @@ module _ {M : Type 1} (𝓤 : URA M) (H : Heap 𝓤) (A : Atoms 𝓤) (W : Given
         (Run.and-then ! (Walk.local ! 6 refl) (Run.and-then ! (Walk.local ! 7 refl) (Run.and-then ! (Walk.local ! 8 refl)
         (Run.and-then ! (Walk.local ! 22 refl) (Run.and-then ! (Walk.local ! 24 refl) (Run.and-then ! (Walk.local ! 11 refl)
         (Run.and-then ! (Walk.local ! 12 refl) (Run.and-then ! (Walk.local ! 15 refl) (Run.and-then ! (Walk.local ! 25 refl)
-        (Run.no-more !)))))))))) (λ u6 r6 ws6 is6′ e6.
+        (Run.no-more !)))))))))) (λ u4 r4 ws4 is4′ e4.
         Walk.returned W ((κ₀, q₀) ∷ ((ν2 ∷ []), fullShare) ∷ ((ν3 ∷ []), fullShare) ∷ (κ₃, q₃) ∷ []) (Walk.gone _ ∷ Walk.gone _ ∷ Walk.gone _ ∷
-        Walk.final (finally (UInt w8) δ2 (ws6 .1 .1 .1 .0)) (length (ws6 .1 .1 .1 .0)) (length (dead .now)) ∷
-        Walk.final (finally (UInt w64) δ3 (ws6 .1 .1 .1 .1 .0)) (length (ws6 .1 .1 .1 .1 .0)) (length (notes .now)) ∷ Walk.gone _ ∷ Walk.gone _ ∷
+        Walk.final (finally (UInt w8) δ2 (ws4 .1 .1 .1 .0)) (length (ws4 .1 .1 .1 .0)) (length (dead .now)) ∷
+        Walk.final (finally (UInt w64) δ3 (ws4 .1 .1 .1 .1 .0)) (length (ws4 .1 .1 .1 .1 .0)) (length (notes .now)) ∷ Walk.gone _ ∷ Walk.gone _ ∷
         Walk.gone _ ∷ Walk.gone _ ∷ []) ! (id⊢ 𝓤 _) (λ len2 len3.
         Walk.move ! (3 ∷ 8 ∷ 1 ∷ 11 ∷ []) (
-        Again.backs W (UInt w8) κ₁ q₁ dead (named 1) (named 1) (dead .now) ! tt (ws6 .1 .1 .1 .0) (is-dead .0 .1) len2 (
+        Again.backs W (UInt w8) κ₁ q₁ dead (named 1) (named 1) (dead .now) ! tt (ws4 .1 .1 .1 .0) (is-dead .0 .1) len2 (
         Walk.move ! (5 ∷ 8 ∷ 3 ∷ 11 ∷ []) (
-        Again.backs W (UInt w64) κ₂ q₂ notes (named 2) (named 2) (notes .now) ! tt (ws6 .1 .1 .1 .1 .0) (is-notes .0 .1) len3 (
-        Walk.lands-in ! (Walk.init-as ! 10 refl (LL.lawful Outcome-T.the-type Outcome-L.the-laws 𝓤 H A W .typed r6 _ is6′ .0)
-        (ap only (LL.tells Outcome-T.the-type Outcome-L.the-laws r6 _ is6′))) (
-        let is6 : Is Outcome-T.the-row r6 ((Outcome-L.lowered r6) ∷ []) = subst (λ (vs : List Val). Is Outcome-T.the-row r6 vs)
-        (LL.tells Outcome-T.the-type Outcome-L.the-laws r6 _ is6′) is6′ in
-        Walk.written-out ! (‵ (T-search-byte-notes .own (at-last notes (ws6 .1 .1 .1 .1 .0)) (sliceVal (notes .ptr) (length (ws6 .1 .1 .1 .1 .0)) ∷
-        [])) ∷ ‵ (flft κ₂ q₂) ∷ ‵ (fat fullShare Y-search-byte-notes l₅ 0 (sliceVal (notes .ptr) (length (ws6 .1 .1 .1 .1 .0)))) ∷
-        ‵ (T-search-byte-dead .own (at-last dead (ws6 .1 .1 .1 .0)) (sliceVal (dead .ptr) (length (ws6 .1 .1 .1 .0)) ∷ [])) ∷ ‵ (flft κ₁ q₁) ∷
-        ‵ (fat fullShare Y-search-byte-dead l₄ 0 (sliceVal (dead .ptr) (length (ws6 .1 .1 .1 .0)))) ∷ ‵ (flft κ₀ q₀) ∷ ‵ (flft κ₃ q₃) ∷
+        Again.backs W (UInt w64) κ₂ q₂ notes (named 2) (named 2) (notes .now) ! tt (ws4 .1 .1 .1 .1 .0) (is-notes .0 .1) len3 (
+        Walk.lands-in ! (Walk.init-as ! 10 refl (uint-lawful 𝓤 H A W w64 .typed r4 _ is4′ .0) (ap only (uint-tells w64 r4 _ is4′))) (
+        let is4 : Is (UInt w64) r4 ((vint w64 r4) ∷ []) = subst (λ (vs : List Val). Is (UInt w64) r4 vs) (uint-tells w64 r4 _ is4′) is4′ in
+        Walk.written-out ! (‵ (T-search-byte-notes .own (at-last notes (ws4 .1 .1 .1 .1 .0)) (sliceVal (notes .ptr) (length (ws4 .1 .1 .1 .1 .0)) ∷
+        [])) ∷ ‵ (flft κ₂ q₂) ∷ ‵ (fat fullShare Y-search-byte-notes l₅ 0 (sliceVal (notes .ptr) (length (ws4 .1 .1 .1 .1 .0)))) ∷
+        ‵ (T-search-byte-dead .own (at-last dead (ws4 .1 .1 .1 .0)) (sliceVal (dead .ptr) (length (ws4 .1 .1 .1 .0)) ∷ [])) ∷ ‵ (flft κ₁ q₁) ∷
+        ‵ (fat fullShare Y-search-byte-dead l₄ 0 (sliceVal (dead .ptr) (length (ws4 .1 .1 .1 .0)))) ∷ ‵ (flft κ₀ q₀) ∷ ‵ (flft κ₃ q₃) ∷
         ‵ (T-search-byte-nodes .own nodes (sliceVal (nodes .ptr) (length (nodes .now)) ∷ [])) ∷
-        ‵ (T-search-byte-line .own line (sliceVal (line .ptr) (length (line .now)) ∷ [])) ∷
-        ‵ (fat fullShare Outcome-L.mir l₀ 0 (Outcome-L.lowered r6)) ∷ ‵ (fat fullShare (tyInt w8) l₁ 0 (vint w8 left)) ∷
-        ‵ (fat fullShare (tyInt w8) l₂ 0 (vint w8 right)) ∷ ‵ (fat fullShare Y-search-byte-nodes l₃ 0 (sliceVal (nodes .ptr)
-        (length (nodes .now)))) ∷ ‵ (fat fullShare Y-search-byte-line l₆ 0 (sliceVal (line .ptr) (length (line .now)))) ∷
-        ‵ (fat fullShare (tyInt w64) l₇ 0 (vint w64 end)) ∷ ‵ (fat fullShare (tyInt w64) l₈ 0 (vint w64 node)) ∷
-        ‵ (fat fullShare (tyInt w64) l₉ 0 (vint w64 at)) ∷ ‵ (fat fullShare (tyInt w64) l₁₀ 0 (vint w64 r2)) ∷
-        ‵ (fat fullShare (tyInt w16) l₁₁ 0 (vint w16 r1)) ∷ ‵ (fat fullShare tyBool l₁₂ 0 (vbool (eqb at end))) ∷ ‵ (froom tyUnit l₁₃ 0) ∷
+        ‵ (T-search-byte-line .own line (sliceVal (line .ptr) (length (line .now)) ∷ [])) ∷ ‵ (fat fullShare (tyInt w64) l₀ 0 (vint w64 r4)) ∷
+        ‵ (fat fullShare (tyInt w8) l₁ 0 (vint w8 left)) ∷ ‵ (fat fullShare (tyInt w8) l₂ 0 (vint w8 right)) ∷
+        ‵ (fat fullShare Y-search-byte-nodes l₃ 0 (sliceVal (nodes .ptr) (length (nodes .now)))) ∷
+        ‵ (fat fullShare Y-search-byte-line l₆ 0 (sliceVal (line .ptr) (length (line .now)))) ∷ ‵ (fat fullShare (tyInt w64) l₇ 0 (vint w64 end)) ∷
+        ‵ (fat fullShare (tyInt w64) l₈ 0 (vint w64 node)) ∷ ‵ (fat fullShare (tyInt w64) l₉ 0 (vint w64 at)) ∷
+        ‵ (fat fullShare (tyInt w64) l₁₀ 0 (vint w64 r2)) ∷ ‵ (fat fullShare (tyInt w16) l₁₁ 0 (vint w16 r1)) ∷
+        ‵ (fat fullShare tyBool l₁₂ 0 (vbool (eqb at end))) ∷ ‵ (froom tyUnit l₁₃ 0) ∷
         ‵ (froom (tyRef erased mut (pointee ((UInt w64) .written))) l₁₄ 0) ∷
         ‵ (froom (sliceTy (tyRef erased mut (pointee ((UInt w64) .written)))) l₁₅ 0) ∷
         ‵ (fat fullShare (tyRef erased mut (pointee ((UInt w8) .written))) l₁₆ 0 (vptr (dead .ptr .0) (dead .ptr .1))) ∷
@@ -1642,10 +1532,10 @@ module _ {M : Type 1} (𝓤 : URA M) (H : Heap 𝓤) (A : Atoms 𝓤) (W : Given
         ‵ (fat fullShare (tyInt w64) l₂₀ 0 (vint w64 (at + 1))) ∷ ‵ Fd ∷ []) refl (
         Walk.returns-by ! Post-search-byte refl (Run.look ! 10 refl) (
         Walk.move ! (10 ∷ 10 ∷ 10 ∷ 10 ∷ 5 ∷ 2 ∷ 8 ∷ 8 ∷ 8 ∷ 8 ∷ 8 ∷ 8 ∷ 8 ∷ 8 ∷ 8 ∷ 8 ∷ 8 ∷ 8 ∷ 8 ∷ 8 ∷ 8 ∷ 8 ∷ []) (
-        Walk.frees-gathered ! (Walk.full Outcome-L.mir l₀ (Outcome-L.lowered r6) ∷ Walk.full (tyInt w8) l₁ (vint w8 left) ∷
+        Walk.frees-gathered ! (Walk.full (tyInt w64) l₀ (vint w64 r4) ∷ Walk.full (tyInt w8) l₁ (vint w8 left) ∷
         Walk.full (tyInt w8) l₂ (vint w8 right) ∷ Walk.full Y-search-byte-nodes l₃ (sliceVal (nodes .ptr) (length (nodes .now))) ∷
-        Walk.full Y-search-byte-dead l₄ (sliceVal (dead .ptr) (length (ws6 .1 .1 .1 .0))) ∷ Walk.full Y-search-byte-notes l₅ (sliceVal (notes .ptr)
-        (length (ws6 .1 .1 .1 .1 .0))) ∷ Walk.full Y-search-byte-line l₆ (sliceVal (line .ptr) (length (line .now))) ∷
+        Walk.full Y-search-byte-dead l₄ (sliceVal (dead .ptr) (length (ws4 .1 .1 .1 .0))) ∷ Walk.full Y-search-byte-notes l₅ (sliceVal (notes .ptr)
+        (length (ws4 .1 .1 .1 .1 .0))) ∷ Walk.full Y-search-byte-line l₆ (sliceVal (line .ptr) (length (line .now))) ∷
         Walk.full (tyInt w64) l₇ (vint w64 end) ∷ Walk.full (tyInt w64) l₈ (vint w64 node) ∷ Walk.full (tyInt w64) l₉ (vint w64 at) ∷
         Walk.full (tyInt w64) l₁₀ (vint w64 r2) ∷ Walk.full (tyInt w16) l₁₁ (vint w16 r1) ∷ Walk.full tyBool l₁₂ (vbool (eqb at end)) ∷
         Walk.bare tyUnit l₁₃ ∷ Walk.bare (tyRef erased mut (pointee ((UInt w64) .written))) l₁₄ ∷
@@ -1654,24 +1544,23 @@ module _ {M : Type 1} (𝓤 : URA M) (H : Heap 𝓤) (A : Atoms 𝓤) (W : Given
         Walk.full (sliceTy (tyRef erased mut (pointee ((UInt w8) .written)))) l₁₇ (sliceVal (dead .ptr) (length (dead .now))) ∷
         Walk.full (tyRef erased mut (pointee ((UInt w64) .written))) l₁₈ (vptr (notes .ptr .0) (notes .ptr .1)) ∷
         Walk.full (sliceTy (tyRef erased mut (pointee ((UInt w64) .written)))) l₁₉ (sliceVal (notes .ptr) (length (notes .now))) ∷
-        Walk.full (tyInt w64) l₂₀ (vint w64 (at + 1)) ∷ []) Fd ed (‵ (T-search-byte-notes .own (at-last notes (ws6 .1 .1 .1 .1 .0))
-        (sliceVal (notes .ptr) (length (ws6 .1 .1 .1 .1 .0)) ∷ [])) ∷ ‵ (flft κ₂ q₂) ∷ ‵ (T-search-byte-dead .own (at-last dead (ws6 .1 .1 .1 .0))
-        (sliceVal (dead .ptr) (length (ws6 .1 .1 .1 .0)) ∷ [])) ∷ ‵ (flft κ₁ q₁) ∷ ‵ (flft κ₀ q₀) ∷ ‵ (flft κ₃ q₃) ∷
+        Walk.full (tyInt w64) l₂₀ (vint w64 (at + 1)) ∷ []) Fd ed (‵ (T-search-byte-notes .own (at-last notes (ws4 .1 .1 .1 .1 .0))
+        (sliceVal (notes .ptr) (length (ws4 .1 .1 .1 .1 .0)) ∷ [])) ∷ ‵ (flft κ₂ q₂) ∷ ‵ (T-search-byte-dead .own (at-last dead (ws4 .1 .1 .1 .0))
+        (sliceVal (dead .ptr) (length (ws4 .1 .1 .1 .0)) ∷ [])) ∷ ‵ (flft κ₁ q₁) ∷ ‵ (flft κ₀ q₀) ∷ ‵ (flft κ₃ q₃) ∷
         ‵ (T-search-byte-nodes .own nodes (sliceVal (nodes .ptr) (length (nodes .now)) ∷ [])) ∷
         ‵ (T-search-byte-line .own line (sliceVal (line .ptr) (length (line .now)) ∷ [])) ∷ []) (
         Walk.move ! (2 ∷ 0 ∷ []) (
-        Walk.gives W (Walk.nothing ∷ Walk.nothing ∷ Walk.nothing ∷ Walk.turned (T-search-byte-dead .own (at-last dead (ws6 .1 .1 .1 .0))
-        (sliceVal (dead .ptr) (length (ws6 .1 .1 .1 .0)) ∷ [])) (finally (UInt w8) (dead .name) (ws6 .1 .1 .1 .0))
-        (Walk.ended-slice 𝓤 H A W (named 1) κ₁ (UInt w8) dead (ws6 .1 .1 .1 .0) _) ∷
-        Walk.turned (T-search-byte-notes .own (at-last notes (ws6 .1 .1 .1 .1 .0)) (sliceVal (notes .ptr) (length (ws6 .1 .1 .1 .1 .0)) ∷ []))
-        (finally (UInt w64) (notes .name) (ws6 .1 .1 .1 .1 .0)) (Walk.ended-slice 𝓤 H A W (named 2) κ₂ (UInt w64) notes (ws6 .1 .1 .1 .1 .0) _) ∷
+        Walk.gives W (Walk.nothing ∷ Walk.nothing ∷ Walk.nothing ∷ Walk.turned (T-search-byte-dead .own (at-last dead (ws4 .1 .1 .1 .0))
+        (sliceVal (dead .ptr) (length (ws4 .1 .1 .1 .0)) ∷ [])) (finally (UInt w8) (dead .name) (ws4 .1 .1 .1 .0))
+        (Walk.ended-slice 𝓤 H A W (named 1) κ₁ (UInt w8) dead (ws4 .1 .1 .1 .0) _) ∷
+        Walk.turned (T-search-byte-notes .own (at-last notes (ws4 .1 .1 .1 .1 .0)) (sliceVal (notes .ptr) (length (ws4 .1 .1 .1 .1 .0)) ∷ []))
+        (finally (UInt w64) (notes .name) (ws4 .1 .1 .1 .1 .0)) (Walk.ended-slice 𝓤 H A W (named 2) κ₂ (UInt w64) notes (ws4 .1 .1 .1 .1 .0) _) ∷
         Walk.nothing ∷ Walk.nothing ∷ Walk.nothing ∷ Walk.nothing ∷ []) _ ! (
         Walk.move ! (3 ∷ 2 ∷ 1 ∷ 1 ∷ []) (
         Walk.tokens-in W ((κ₀, q₀) ∷ (κ₁, q₁) ∷ (κ₂, q₂) ∷ (κ₃, q₃) ∷ []) _ ! (alive 𝓤 H A f-search-byte.signature (κ₀, (κ₁, (κ₂, (κ₃, tt))))
         (q₀, (q₁, (q₂, (q₃, tt))))) (id⊢ 𝓤 _) (
-        Walk.use0 W ! (‵ (Outcome-T.the-row .own r6 ((Outcome-L.lowered r6) ∷ []))) (LL.makes Outcome-T.the-type Outcome-L.the-plain 𝓤 H A r6 _ is6) (
-        Walk.keep ! (1 ∷ 1 ∷ 0 ∷ []) (
-        Kit.by ! (Walk.leave-by 𝓤 H A W f-search-byte.ended (f-search-byte.clauses 𝓤 H A mem run) stayed-search-byte bound-search-byte (Outcome-L.lowered r6) r6 (tt, (tt, (tt, ((ws6 .1 .1 .1 .0), ((ws6 .1 .1 .1 .1 .0), (tt, (tt, (tt, (tt, tt))))))))) (tt, (tt, (tt, ((len2 ∙ refl), ((len3 ∙ refl), (tt, (tt, (tt, (tt, tt))))))))) (factI 𝓤 _ (emp 𝓤) (byte-below pre e2 (eqb-false r2 0 t1) e1 (eqb-false at end t2) e6)))))))))))))))))))))))))))))))))))))))))))))))))))))))))))))))))))))))))))))))))))))))))))))))))
+        Walk.use0 W ! (‵ ((UInt w64) .own r4 ((vint w64 r4) ∷ []))) (uint-makes 𝓤 H A W w64 r4 _ (refl, is4 .1)) (Walk.keep ! (1 ∷ 1 ∷ 0 ∷ []) (
+        Kit.by ! (Walk.leave-by 𝓤 H A W f-search-byte.ended (f-search-byte.clauses 𝓤 H A mem run) stayed-search-byte bound-search-byte (vint w64 r4) r4 (tt, (tt, (tt, ((ws4 .1 .1 .1 .0), ((ws4 .1 .1 .1 .1 .0), (tt, (tt, (tt, (tt, tt))))))))) (tt, (tt, (tt, ((len2 ∙ refl), ((len3 ∙ refl), (tt, (tt, (tt, (tt, tt))))))))) (factI 𝓤 _ (emp 𝓤) (byte-below pre e2 (eqb-false r2 0 t1) e1 (eqb-false at end t2) e4)))))))))))))))))))))))))))))))))))))))))))))))))))))))))))))))))))))))))))))))))))))))))))))))))
 
 module _ {M : Type 1} (𝓤 : URA M) (H : Heap 𝓤) (A : Atoms 𝓤) (W : Given 𝓤 H A) (mem : Memory → SProp 𝓤) (run : Routine → Fun 𝓤) (κ₀ : Lft)
     (q₀ : Share) (κ₁ : Lft) (q₁ : Share) (κ₂ : Lft) (q₂ : Share) (κ₃ : Lft) (q₃ : Share) (left : ℕ) (right : ℕ) (nodes : RefT (List Node))
@@ -1719,8 +1608,7 @@ module _ {M : Type 1} (𝓤 : URA M) (H : Heap 𝓤) (A : Atoms 𝓤) (W : Given
   Post-search-piece = walkOf 𝓤 H A f-search-piece.ended stayed-search-piece (f-search-piece.clauses 𝓤 H A mem run) .post bound-search-piece
 
   module _ (C : Calls 𝓤 H) (Λ : Loops 𝓤 H) (fm : FmC 𝓤 H (W .laws) C) (known-child : Triple 𝓤 (C #g-child)
-      (Walk.Of 𝓤 H A g-child.ended (g-child.clauses 𝓤 H A mem run))) (known-no-piece : Triple 𝓤 (C #g-no-piece)
-      (Walk.Of 𝓤 H A g-no-piece.ended (g-no-piece.clauses 𝓤 H A mem run))) (known-node-at : Triple 𝓤 (C #g-node-at)
+      (Walk.Of 𝓤 H A g-child.ended (g-child.clauses 𝓤 H A mem run))) (known-node-at : Triple 𝓤 (C #g-node-at)
       (Walk.Of 𝓤 H A g-node-at.ended (g-node-at.clauses 𝓤 H A mem run))) (known-holes-of : Triple 𝓤 (C #g-holes-of)
       (Walk.Of 𝓤 H A g-holes-of.ended (g-holes-of.clauses 𝓤 H A mem run))) (known-store-piece : Triple 𝓤 (C #g-store-piece)
       (Walk.Of 𝓤 H A g-store-piece.ended (g-store-piece.clauses 𝓤 H A mem run)))
@@ -1771,20 +1659,20 @@ module _ {M : Type 1} (𝓤 : URA M) (H : Heap 𝓤) (A : Atoms 𝓤) (W : Given
         Walk.move ! (4 ∷ []) (Walk.tokens-out W ((κ₀, q₀) ∷ (κ₁, q₁) ∷ (κ₂, q₂) ∷ (κ₃, q₃) ∷ []) ! (id⊢ 𝓤 _) (
         Walk.enter ! C Λ code.search-piece-function ((vint w8 left) ∷ (vint w8 right) ∷ v-search-piece-nodes ∷ v-search-piece-dead ∷
         v-search-piece-notes ∷ v-search-piece-line ∷ (vint w64 end) ∷ (vint w64 node) ∷ (vint w64 at) ∷ []) Post-search-piece (
-        Run.alloc1 ! (λ l₀. Run.alloc1 ! (λ l₁. Run.alloc1 ! (λ l₂. Run.alloc1 ! (λ l₃. Run.alloc1 ! (λ l₄. Run.alloc1 ! (λ l₅. Run.alloc1 ! (λ l₆. Run.alloc1 ! (λ l₇. Run.alloc1 ! (λ l₈. Run.alloc1 ! (λ l₉. Run.alloc1 ! (λ l₁₀. Run.alloc1 ! (λ l₁₁. Run.alloc1 ! (λ l₁₂. Run.alloc1 ! (λ l₁₃. Run.alloc1 ! (λ l₁₄. Run.alloc1 ! (λ l₁₅. Run.alloc1 ! (λ l₁₆. Run.alloc1 ! (λ l₁₇. Run.alloc1 ! (λ l₁₈. Run.alloc1 ! (λ l₁₉. Run.alloc1 ! (λ l₂₀.
+        Run.alloc1 ! (λ l₀. Run.alloc1 ! (λ l₁. Run.alloc1 ! (λ l₂. Run.alloc1 ! (λ l₃. Run.alloc1 ! (λ l₄. Run.alloc1 ! (λ l₅. Run.alloc1 ! (λ l₆. Run.alloc1 ! (λ l₇. Run.alloc1 ! (λ l₈. Run.alloc1 ! (λ l₉. Run.alloc1 ! (λ l₁₀. Run.alloc1 ! (λ l₁₁. Run.alloc1 ! (λ l₁₂. Run.alloc1 ! (λ l₁₃. Run.alloc1 ! (λ l₁₄. Run.alloc1 ! (λ l₁₅. Run.alloc1 ! (λ l₁₆. Run.alloc1 ! (λ l₁₇. Run.alloc1 ! (λ l₁₈. Run.alloc1 ! (λ l₁₉. Run.alloc1 ! (λ l₂₀. Run.alloc1 ! (λ l₂₁.
         let E : Env 𝓤 H = Walk.at-addresses (code.search-piece-function .locals) (l₀ ∷ l₁ ∷ l₂ ∷ l₃ ∷ l₄ ∷ l₅ ∷ l₆ ∷ l₇ ∷ l₈ ∷ l₉ ∷ l₁₀ ∷ l₁₁ ∷
-        l₁₂ ∷ l₁₃ ∷ l₁₄ ∷ l₁₅ ∷ l₁₆ ∷ l₁₇ ∷ l₁₈ ∷ l₁₉ ∷ l₂₀ ∷ []) in
-        Walk.move ! (40 ∷ 40 ∷ 38 ∷ 38 ∷ 36 ∷ 36 ∷ 34 ∷ 34 ∷ 32 ∷ 32 ∷ 30 ∷ 30 ∷ 28 ∷ 28 ∷ 26 ∷ 26 ∷ 24 ∷ 24 ∷ 22 ∷ 22 ∷ 20 ∷ 20 ∷ 18 ∷ 18 ∷ 16 ∷
-        16 ∷ 14 ∷ 14 ∷ 12 ∷ 12 ∷ 10 ∷ 10 ∷ 8 ∷ 8 ∷ 6 ∷ 6 ∷ 4 ∷ 4 ∷ 2 ∷ 2 ∷ 0 ∷ 0 ∷ []) (
-        Walk.gathers ! (Walk.bare Outcome-L.mir l₀ ∷ Walk.bare (tyInt w8) l₁ ∷ Walk.bare (tyInt w8) l₂ ∷ Walk.bare Y-search-piece-nodes l₃ ∷
+        l₁₂ ∷ l₁₃ ∷ l₁₄ ∷ l₁₅ ∷ l₁₆ ∷ l₁₇ ∷ l₁₈ ∷ l₁₉ ∷ l₂₀ ∷ l₂₁ ∷ []) in
+        Walk.move ! (42 ∷ 42 ∷ 40 ∷ 40 ∷ 38 ∷ 38 ∷ 36 ∷ 36 ∷ 34 ∷ 34 ∷ 32 ∷ 32 ∷ 30 ∷ 30 ∷ 28 ∷ 28 ∷ 26 ∷ 26 ∷ 24 ∷ 24 ∷ 22 ∷ 22 ∷ 20 ∷ 20 ∷ 18 ∷
+        18 ∷ 16 ∷ 16 ∷ 14 ∷ 14 ∷ 12 ∷ 12 ∷ 10 ∷ 10 ∷ 8 ∷ 8 ∷ 6 ∷ 6 ∷ 4 ∷ 4 ∷ 2 ∷ 2 ∷ 0 ∷ 0 ∷ []) (
+        Walk.gathers ! (Walk.bare (tyInt w64) l₀ ∷ Walk.bare (tyInt w8) l₁ ∷ Walk.bare (tyInt w8) l₂ ∷ Walk.bare Y-search-piece-nodes l₃ ∷
         Walk.bare Y-search-piece-dead l₄ ∷ Walk.bare Y-search-piece-notes l₅ ∷ Walk.bare Y-search-piece-line l₆ ∷ Walk.bare (tyInt w64) l₇ ∷
-        Walk.bare (tyInt w64) l₈ ∷ Walk.bare (tyInt w64) l₉ ∷ Walk.bare (tyInt w64) l₁₀ ∷ Walk.bare Outcome-L.mir l₁₁ ∷ Walk.bare Node-L.mir l₁₂ ∷
+        Walk.bare (tyInt w64) l₈ ∷ Walk.bare (tyInt w64) l₉ ∷ Walk.bare (tyInt w64) l₁₀ ∷ Walk.bare (tyInt w64) l₁₁ ∷ Walk.bare Node-L.mir l₁₂ ∷
         Walk.bare tyBool l₁₃ ∷ Walk.bare (tyRef erased mut (pointee ((UInt w8) .written))) l₁₄ ∷
         Walk.bare (sliceTy (tyRef erased mut (pointee ((UInt w8) .written)))) l₁₅ ∷
         Walk.bare (tyRef erased mut (pointee ((UInt w64) .written))) l₁₆ ∷
-        Walk.bare (sliceTy (tyRef erased mut (pointee ((UInt w64) .written)))) l₁₇ ∷
-        Walk.bare (tyRef erased mut (pointee ((UInt w64) .written))) l₁₈ ∷
-        Walk.bare (sliceTy (tyRef erased mut (pointee ((UInt w64) .written)))) l₁₉ ∷ Walk.bare (tyInt w64) l₂₀ ∷ []) (‵ (flft κ₀ q₀) ∷
+        Walk.bare (sliceTy (tyRef erased mut (pointee ((UInt w64) .written)))) l₁₇ ∷ Walk.bare tyUnit l₁₈ ∷
+        Walk.bare (tyRef erased mut (pointee ((UInt w64) .written))) l₁₉ ∷
+        Walk.bare (sliceTy (tyRef erased mut (pointee ((UInt w64) .written)))) l₂₀ ∷ Walk.bare (tyInt w64) l₂₁ ∷ []) (‵ (flft κ₀ q₀) ∷
         ‵ (flft κ₁ q₁) ∷ ‵ (flft κ₂ q₂) ∷ ‵ (flft κ₃ q₃) ∷ ‵ (T-search-piece-line .own line (sliceVal (line .ptr) (length (line .now)) ∷ [])) ∷
         ‵ (T-search-piece-notes .own notes (sliceVal (notes .ptr) (length (notes .now)) ∷ [])) ∷
         ‵ (T-search-piece-dead .own dead (sliceVal (dead .ptr) (length (dead .now)) ∷ [])) ∷
@@ -1799,12 +1687,12 @@ module _ {M : Type 1} (𝓤 : URA M) (H : Heap 𝓤) (A : Atoms 𝓤) (W : Given
         Walk.pass ! (Run.init ! 9 refl ((tt, record { fits = fits-at }))) (Walk.passed ! (
         -- [the locals; their ends; κ₀; κ₁; κ₂; κ₃; line; notes; dead; nodes]
         -- call 1: child (nodes, node, 1)
-        Walk.move ! (29 ∷ []) (
+        Walk.move ! (30 ∷ []) (
         Walk.gives W (Walk.copied (T-search-piece-nodes .own nodes (v-search-piece-nodes ∷ []))
         (shr-slice-copy 𝓤 H A W (named 0) κ₀ Node-T.the-row .twice nodes _) ∷ Walk.made ((UInt w64) .own node ((vint w64 node) ∷ []))
         (uint-makes 𝓤 H A W w64 node _ (refl, fits-node)) ∷ Walk.made ((UInt w16) .own 1 ((vint w16 1) ∷ []))
         (uint-makes 𝓤 H A W w16 1 _ (refl, lit< tt)) ∷ []) _ ! (
-        Walk.move ! (24 ∷ []) (Walk.tokens-in W ((κ₀, q₀) ∷ []) _ ! (alive 𝓤 H A g-child.signature (κ₀, tt) (q₀, tt)) (id⊢ 𝓤 _) (
+        Walk.move ! (25 ∷ []) (Walk.tokens-in W ((κ₀, q₀) ∷ []) _ ! (alive 𝓤 H A g-child.signature (κ₀, tt) (q₀, tt)) (id⊢ 𝓤 _) (
         Walk.asks W ! fm g-child.ended (g-child.clauses 𝓤 H A mem run)
         (((κ₀, tt), (q₀, tt), tt, (nodes, (node, (1, tt))), (v-search-piece-nodes ∷ [], ((vint w64 node) ∷ [], ((vint w16 1) ∷ [], tt)))), tt) _ (known-child (((κ₀, tt), (q₀, tt), tt, (nodes, (node, (1, tt))), (v-search-piece-nodes ∷ [], ((vint w64 node) ∷ [], ((vint w16 1) ∷ [], tt)))), tt)) (factI 𝓤 _ (emp 𝓤) (asks-children pre)) (λ r ws. id⊢ 𝓤 _)
         (Run.and-then ! (Walk.local ! 5 refl) (Run.and-then ! (Walk.local ! 10 refl) (Run.and-then ! (Run.lit ! tt) (Run.no-more !))))
@@ -1813,69 +1701,40 @@ module _ {M : Type 1} (𝓤 : URA M) (H : Heap 𝓤) (A : Atoms 𝓤) (W : Given
         Walk.lands-in ! (Walk.init-as ! 12 refl (uint-lawful 𝓤 H A W w64 .typed r1 _ is1′ .0) (ap only (uint-tells w64 r1 _ is1′))) (
         let is1 : Is (UInt w64) r1 ((vint w64 r1) ∷ []) = subst (λ (vs : List Val). Is (UInt w64) r1 vs) (uint-tells w64 r1 _ is1′) is1′ in
         Walk.written-out ! (‵ (flft κ₀ q₀) ∷ ‵ (T-search-piece-nodes .own nodes (sliceVal (nodes .ptr) (length (nodes .now)) ∷ [])) ∷
-        ‵ (froom Outcome-L.mir l₀ 0) ∷ ‵ (fat fullShare (tyInt w8) l₁ 0 (vint w8 left)) ∷ ‵ (fat fullShare (tyInt w8) l₂ 0 (vint w8 right)) ∷
+        ‵ (froom (tyInt w64) l₀ 0) ∷ ‵ (fat fullShare (tyInt w8) l₁ 0 (vint w8 left)) ∷ ‵ (fat fullShare (tyInt w8) l₂ 0 (vint w8 right)) ∷
         ‵ (fat fullShare Y-search-piece-nodes l₃ 0 (sliceVal (nodes .ptr) (length (nodes .now)))) ∷
         ‵ (fat fullShare Y-search-piece-dead l₄ 0 (sliceVal (dead .ptr) (length (dead .now)))) ∷
         ‵ (fat fullShare Y-search-piece-notes l₅ 0 (sliceVal (notes .ptr) (length (notes .now)))) ∷
         ‵ (fat fullShare Y-search-piece-line l₆ 0 (sliceVal (line .ptr) (length (line .now)))) ∷ ‵ (fat fullShare (tyInt w64) l₇ 0 (vint w64 end)) ∷
         ‵ (fat fullShare (tyInt w64) l₈ 0 (vint w64 node)) ∷ ‵ (fat fullShare (tyInt w64) l₉ 0 (vint w64 at)) ∷
-        ‵ (fat fullShare (tyInt w64) l₁₀ 0 (vint w64 r1)) ∷ ‵ (froom Outcome-L.mir l₁₁ 0) ∷ ‵ (froom Node-L.mir l₁₂ 0) ∷ ‵ (froom tyBool l₁₃ 0) ∷
+        ‵ (fat fullShare (tyInt w64) l₁₀ 0 (vint w64 r1)) ∷ ‵ (froom (tyInt w64) l₁₁ 0) ∷ ‵ (froom Node-L.mir l₁₂ 0) ∷ ‵ (froom tyBool l₁₃ 0) ∷
         ‵ (froom (tyRef erased mut (pointee ((UInt w8) .written))) l₁₄ 0) ∷
         ‵ (froom (sliceTy (tyRef erased mut (pointee ((UInt w8) .written)))) l₁₅ 0) ∷
         ‵ (froom (tyRef erased mut (pointee ((UInt w64) .written))) l₁₆ 0) ∷
-        ‵ (froom (sliceTy (tyRef erased mut (pointee ((UInt w64) .written)))) l₁₇ 0) ∷
-        ‵ (froom (tyRef erased mut (pointee ((UInt w64) .written))) l₁₈ 0) ∷
-        ‵ (froom (sliceTy (tyRef erased mut (pointee ((UInt w64) .written)))) l₁₉ 0) ∷ ‵ (froom (tyInt w64) l₂₀ 0) ∷ ‵ Fd ∷ ‵ (flft κ₁ q₁) ∷
+        ‵ (froom (sliceTy (tyRef erased mut (pointee ((UInt w64) .written)))) l₁₇ 0) ∷ ‵ (froom tyUnit l₁₈ 0) ∷
+        ‵ (froom (tyRef erased mut (pointee ((UInt w64) .written))) l₁₉ 0) ∷
+        ‵ (froom (sliceTy (tyRef erased mut (pointee ((UInt w64) .written)))) l₂₀ 0) ∷ ‵ (froom (tyInt w64) l₂₁ 0) ∷ ‵ Fd ∷ ‵ (flft κ₁ q₁) ∷
         ‵ (flft κ₂ q₂) ∷ ‵ (flft κ₃ q₃) ∷ ‵ (T-search-piece-line .own line (sliceVal (line .ptr) (length (line .now)) ∷ [])) ∷
         ‵ (T-search-piece-notes .own notes (sliceVal (notes .ptr) (length (notes .now)) ∷ [])) ∷
         ‵ (T-search-piece-dead .own dead (sliceVal (dead .ptr) (length (dead .now)) ∷ [])) ∷ []) refl (
         Walk.sets ! (Run.bin ! (Walk.local ! 12 refl) (Run.lit ! tt) tt) (Run.init ! 15 refl ((tt, tt))) (Walk.first-then ! (
         Run.branches ! (Walk.local ! 15 refl)
         (λ h1. let t1 : (eqb r1 0) ≡ true = Walk.is-true _ h1 in
-        -- [κ₀; nodes; the locals; their ends; κ₁; κ₂; κ₃; line; notes; dead]
-        -- call 2: no_piece (0)
-        Walk.gives W (Walk.made ((UInt w64) .own 0 ((vint w64 0) ∷ [])) (uint-makes 𝓤 H A W w64 0 _ (refl, lit< tt)) ∷ []) _ ! (
-        Walk.tokens-in W ([]) _ ! (alive 𝓤 H A g-no-piece.signature tt tt) (id⊢ 𝓤 _) (
-        Walk.asks W ! fm g-no-piece.ended (g-no-piece.clauses 𝓤 H A mem run)
-        ((tt, tt, tt, (0, tt), ((vint w64 0) ∷ [], tt)), tt) _ (known-no-piece ((tt, tt, tt, (0, tt), ((vint w64 0) ∷ [], tt)), tt)) (id⊢ 𝓤 (emp 𝓤))
-        (λ r ws. id⊢ 𝓤 _)
-        (Run.and-then ! (Run.lit ! tt) (Run.no-more !)) (λ u2 r2 is2′ e2.
-        Walk.tokens-out W ([]) ! (id⊢ 𝓤 _) (
-        Walk.lands-in ! (Walk.init-as ! 2 refl (LL.lawful Outcome-T.the-type Outcome-L.the-laws 𝓤 H A W .typed r2 _ is2′ .0)
-        (ap only (LL.tells Outcome-T.the-type Outcome-L.the-laws r2 _ is2′))) (
-        let is2 : Is Outcome-T.the-row r2 ((Outcome-L.lowered r2) ∷ []) = subst (λ (vs : List Val). Is Outcome-T.the-row r2 vs)
-        (LL.tells Outcome-T.the-type Outcome-L.the-laws r2 _ is2′) is2′ in
-        Walk.written-out ! (‵ (flft κ₀ q₀) ∷ ‵ (T-search-piece-nodes .own nodes (sliceVal (nodes .ptr) (length (nodes .now)) ∷ [])) ∷
-        ‵ (fat fullShare Outcome-L.mir l₀ 0 (Outcome-L.lowered r2)) ∷ ‵ (fat fullShare (tyInt w8) l₁ 0 (vint w8 left)) ∷
-        ‵ (fat fullShare (tyInt w8) l₂ 0 (vint w8 right)) ∷ ‵ (fat fullShare Y-search-piece-nodes l₃ 0 (sliceVal (nodes .ptr)
-        (length (nodes .now)))) ∷ ‵ (fat fullShare Y-search-piece-dead l₄ 0 (sliceVal (dead .ptr) (length (dead .now)))) ∷
-        ‵ (fat fullShare Y-search-piece-notes l₅ 0 (sliceVal (notes .ptr) (length (notes .now)))) ∷
-        ‵ (fat fullShare Y-search-piece-line l₆ 0 (sliceVal (line .ptr) (length (line .now)))) ∷ ‵ (fat fullShare (tyInt w64) l₇ 0 (vint w64 end)) ∷
-        ‵ (fat fullShare (tyInt w64) l₈ 0 (vint w64 node)) ∷ ‵ (fat fullShare (tyInt w64) l₉ 0 (vint w64 at)) ∷
-        ‵ (fat fullShare (tyInt w64) l₁₀ 0 (vint w64 r1)) ∷ ‵ (froom Outcome-L.mir l₁₁ 0) ∷ ‵ (froom Node-L.mir l₁₂ 0) ∷
-        ‵ (fat fullShare tyBool l₁₃ 0 (vbool (eqb r1 0))) ∷ ‵ (froom (tyRef erased mut (pointee ((UInt w8) .written))) l₁₄ 0) ∷
-        ‵ (froom (sliceTy (tyRef erased mut (pointee ((UInt w8) .written)))) l₁₅ 0) ∷
-        ‵ (froom (tyRef erased mut (pointee ((UInt w64) .written))) l₁₆ 0) ∷
-        ‵ (froom (sliceTy (tyRef erased mut (pointee ((UInt w64) .written)))) l₁₇ 0) ∷
-        ‵ (froom (tyRef erased mut (pointee ((UInt w64) .written))) l₁₈ 0) ∷
-        ‵ (froom (sliceTy (tyRef erased mut (pointee ((UInt w64) .written)))) l₁₉ 0) ∷ ‵ (froom (tyInt w64) l₂₀ 0) ∷ ‵ Fd ∷ ‵ (flft κ₁ q₁) ∷
-        ‵ (flft κ₂ q₂) ∷ ‵ (flft κ₃ q₃) ∷ ‵ (T-search-piece-line .own line (sliceVal (line .ptr) (length (line .now)) ∷ [])) ∷
-        ‵ (T-search-piece-notes .own notes (sliceVal (notes .ptr) (length (notes .now)) ∷ [])) ∷
-        ‵ (T-search-piece-dead .own dead (sliceVal (dead .ptr) (length (dead .now)) ∷ [])) ∷ []) refl (
+        Walk.sets ! (Run.of-opd ! (Run.lit ! tt)) (Run.init ! 2 refl ((tt, record { fits = lit< tt }))) (
         Walk.returns-by ! Post-search-piece (Walk.through 𝓤 H C Λ E _ _ Post-search-piece refl) (Run.look ! 2 refl) (
-        Walk.move ! (2 ∷ 2 ∷ 2 ∷ 2 ∷ 2 ∷ 2 ∷ 2 ∷ 2 ∷ 2 ∷ 2 ∷ 2 ∷ 2 ∷ 2 ∷ 2 ∷ 2 ∷ 2 ∷ 2 ∷ 2 ∷ 2 ∷ 2 ∷ 2 ∷ 2 ∷ []) (
-        Walk.frees-gathered ! (Walk.full Outcome-L.mir l₀ (Outcome-L.lowered r2) ∷ Walk.full (tyInt w8) l₁ (vint w8 left) ∷
+        Walk.move ! (2 ∷ 2 ∷ 2 ∷ 2 ∷ 2 ∷ 2 ∷ 2 ∷ 2 ∷ 2 ∷ 2 ∷ 2 ∷ 2 ∷ 2 ∷ 2 ∷ 2 ∷ 2 ∷ 2 ∷ 2 ∷ 2 ∷ 2 ∷ 2 ∷ 2 ∷ 2 ∷ []) (
+        Walk.frees-gathered ! (Walk.full (tyInt w64) l₀ (vint w64 0) ∷ Walk.full (tyInt w8) l₁ (vint w8 left) ∷
         Walk.full (tyInt w8) l₂ (vint w8 right) ∷ Walk.full Y-search-piece-nodes l₃ (sliceVal (nodes .ptr) (length (nodes .now))) ∷
         Walk.full Y-search-piece-dead l₄ (sliceVal (dead .ptr) (length (dead .now))) ∷ Walk.full Y-search-piece-notes l₅ (sliceVal (notes .ptr)
         (length (notes .now))) ∷ Walk.full Y-search-piece-line l₆ (sliceVal (line .ptr) (length (line .now))) ∷
         Walk.full (tyInt w64) l₇ (vint w64 end) ∷ Walk.full (tyInt w64) l₈ (vint w64 node) ∷ Walk.full (tyInt w64) l₉ (vint w64 at) ∷
-        Walk.full (tyInt w64) l₁₀ (vint w64 r1) ∷ Walk.bare Outcome-L.mir l₁₁ ∷ Walk.bare Node-L.mir l₁₂ ∷ Walk.full tyBool l₁₃ (vbool (eqb r1 0)) ∷
+        Walk.full (tyInt w64) l₁₀ (vint w64 r1) ∷ Walk.bare (tyInt w64) l₁₁ ∷ Walk.bare Node-L.mir l₁₂ ∷ Walk.full tyBool l₁₃ (vbool (eqb r1 0)) ∷
         Walk.bare (tyRef erased mut (pointee ((UInt w8) .written))) l₁₄ ∷
         Walk.bare (sliceTy (tyRef erased mut (pointee ((UInt w8) .written)))) l₁₅ ∷
         Walk.bare (tyRef erased mut (pointee ((UInt w64) .written))) l₁₆ ∷
-        Walk.bare (sliceTy (tyRef erased mut (pointee ((UInt w64) .written)))) l₁₇ ∷
-        Walk.bare (tyRef erased mut (pointee ((UInt w64) .written))) l₁₈ ∷
-        Walk.bare (sliceTy (tyRef erased mut (pointee ((UInt w64) .written)))) l₁₉ ∷ Walk.bare (tyInt w64) l₂₀ ∷ []) Fd ed (‵ (flft κ₀ q₀) ∷
+        Walk.bare (sliceTy (tyRef erased mut (pointee ((UInt w64) .written)))) l₁₇ ∷ Walk.bare tyUnit l₁₈ ∷
+        Walk.bare (tyRef erased mut (pointee ((UInt w64) .written))) l₁₉ ∷
+        Walk.bare (sliceTy (tyRef erased mut (pointee ((UInt w64) .written)))) l₂₀ ∷ Walk.bare (tyInt w64) l₂₁ ∷ []) Fd ed (‵ (flft κ₀ q₀) ∷
         ‵ (T-search-piece-nodes .own nodes (sliceVal (nodes .ptr) (length (nodes .now)) ∷ [])) ∷ ‵ (flft κ₁ q₁) ∷ ‵ (flft κ₂ q₂) ∷ ‵ (flft κ₃ q₃) ∷
         ‵ (T-search-piece-line .own line (sliceVal (line .ptr) (length (line .now)) ∷ [])) ∷
         ‵ (T-search-piece-notes .own notes (sliceVal (notes .ptr) (length (notes .now)) ∷ [])) ∷
@@ -1890,9 +1749,8 @@ module _ {M : Type 1} (𝓤 : URA M) (H : Heap 𝓤) (A : Atoms 𝓤) (W : Given
         Walk.move ! (1 ∷ 2 ∷ 2 ∷ 2 ∷ []) (
         Walk.tokens-in W ((κ₀, q₀) ∷ (κ₁, q₁) ∷ (κ₂, q₂) ∷ (κ₃, q₃) ∷ []) _ ! (alive 𝓤 H A f-search-piece.signature (κ₀, (κ₁, (κ₂, (κ₃, tt))))
         (q₀, (q₁, (q₂, (q₃, tt))))) (id⊢ 𝓤 _) (
-        Walk.use0 W ! (‵ (Outcome-T.the-row .own r2 ((Outcome-L.lowered r2) ∷ []))) (LL.makes Outcome-T.the-type Outcome-L.the-plain 𝓤 H A r2 _ is2) (
-        Walk.keep ! (1 ∷ 1 ∷ 0 ∷ []) (
-        Kit.by ! (Walk.leave-by 𝓤 H A W f-search-piece.ended (f-search-piece.clauses 𝓤 H A mem run) stayed-search-piece bound-search-piece (Outcome-L.lowered r2) r2 (tt, (tt, (tt, ((dead .now), ((notes .now), (tt, (tt, (tt, (tt, tt))))))))) (tt, (tt, (tt, (refl, (refl, (tt, (tt, (tt, (tt, tt))))))))) (factI 𝓤 _ (emp 𝓤) (piece-none e1 refl (eqb-true r1 0 t1) e2)))))))))))))))))))
+        Walk.use0 W ! (‵ ((UInt w64) .own 0 ((vint w64 0) ∷ []))) (uint-makes 𝓤 H A W w64 0 _ (refl, lit< tt)) (Walk.keep ! (1 ∷ 1 ∷ 0 ∷ []) (
+        Kit.by ! (Walk.leave-by 𝓤 H A W f-search-piece.ended (f-search-piece.clauses 𝓤 H A mem run) stayed-search-piece bound-search-piece (vint w64 0) 0 (tt, (tt, (tt, ((dead .now), ((notes .now), (tt, (tt, (tt, (tt, tt))))))))) (tt, (tt, (tt, (refl, (refl, (tt, (tt, (tt, (tt, tt))))))))) (factI 𝓤 _ (emp 𝓤) (piece-none e1 refl (eqb-true r1 0 t1) refl))))))))))))))
         (λ h1. let t1 : (eqb r1 0) ≡ false = Walk.is-false _ h1 in
         Walk.skips-then ! (
         Walk.sets ! (Run.addr ! (Run.from ! (Run.fld ! refl (Run.hop ! (Part.look-in ! 6 (Part.sub ! 0 refl (Part.whole !))) (Run.stop !)))))
@@ -1904,10 +1762,10 @@ module _ {M : Type 1} (𝓤 : URA M) (H : Heap 𝓤) (A : Atoms 𝓤) (W : Given
         Walk.sets ! (Part.agg ! (Run.and-then ! (Walk.local ! 18 refl) (Run.and-then ! (Walk.part ! 7 refl refl refl) (Run.no-more !))))
         (Run.init ! 19 refl ((tt, (tt, (record { fits = is-notes .0 .1 .0 }, tt))))) (
         -- [κ₀; nodes; the locals; their ends; κ₁; κ₂; κ₃; line; notes; dead]
-        -- call 3: search (left, right, nodes, dead, notes, line, end, r1, at)
-        Walk.move ! (29 ∷ 24 ∷ []) (Again.lends W (UInt w8) κ₁ q₁ dead (named 1) (named 1) (dead .now) ! tt (λ ν1 δ1.
-        Walk.move ! (30 ∷ 27 ∷ []) (Again.lends W (UInt w64) κ₂ q₂ notes (named 2) (named 2) (notes .now) ! tt (λ ν2 δ2.
-        Walk.move ! (7 ∷ 3 ∷ 0 ∷ 28 ∷ []) (
+        -- call 2: search (left, right, nodes, dead, notes, line, end, r1, at)
+        Walk.move ! (30 ∷ 25 ∷ []) (Again.lends W (UInt w8) κ₁ q₁ dead (named 1) (named 1) (dead .now) ! tt (λ ν1 δ1.
+        Walk.move ! (31 ∷ 28 ∷ []) (Again.lends W (UInt w64) κ₂ q₂ notes (named 2) (named 2) (notes .now) ! tt (λ ν2 δ2.
+        Walk.move ! (7 ∷ 3 ∷ 0 ∷ 29 ∷ []) (
         Walk.gives W (Walk.made ((UInt w8) .own left ((vint w8 left) ∷ [])) (uint-makes 𝓤 H A W w8 left _ (refl, fits-left)) ∷
         Walk.made ((UInt w8) .own right ((vint w8 right) ∷ [])) (uint-makes 𝓤 H A W w8 right _ (refl, fits-right)) ∷
         Walk.copied (T-search-piece-nodes .own nodes (v-search-piece-nodes ∷ []))
@@ -1919,7 +1777,7 @@ module _ {M : Type 1} (𝓤 : URA M) (H : Heap 𝓤) (A : Atoms 𝓤) (W : Given
         (uint-makes 𝓤 H A W w64 end _ (refl, fits-end)) ∷ Walk.made ((UInt w64) .own r1 ((vint w64 r1) ∷ []))
         (uint-makes 𝓤 H A W w64 r1 _ (refl, is1 .1)) ∷ Walk.made ((UInt w64) .own at ((vint w64 at) ∷ []))
         (uint-makes 𝓤 H A W w64 at _ (refl, fits-at)) ∷ []) _ ! (
-        Walk.move ! (7 ∷ 6 ∷ 4 ∷ 27 ∷ []) (
+        Walk.move ! (7 ∷ 6 ∷ 4 ∷ 28 ∷ []) (
         Walk.tokens-in W ((κ₀, q₀) ∷ ((ν1 ∷ []), fullShare) ∷ ((ν2 ∷ []), fullShare) ∷ (κ₃, q₃) ∷
         []) _ ! (alive 𝓤 H A f-search.signature (κ₀, ((ν1 ∷ []), ((ν2 ∷ []), (κ₃, tt)))) (q₀, (fullShare, (fullShare, (q₃, tt))))) (id⊢ 𝓤 _) (
         Walk.asksˡ W ! fm f-search.ended (f-search.clauses 𝓤 H A mem run)
@@ -1927,78 +1785,74 @@ module _ {M : Type 1} (𝓤 : URA M) (H : Heap 𝓤) (A : Atoms 𝓤) (W : Given
         (Run.and-then ! (Walk.local ! 6 refl) (Run.and-then ! (Walk.local ! 7 refl) (Run.and-then ! (Walk.local ! 8 refl)
         (Run.and-then ! (Walk.local ! 20 refl) (Run.and-then ! (Walk.local ! 22 refl) (Run.and-then ! (Walk.local ! 11 refl)
         (Run.and-then ! (Walk.local ! 12 refl) (Run.and-then ! (Walk.local ! 15 refl) (Run.and-then ! (Walk.local ! 14 refl)
-        (Run.no-more !)))))))))) (λ u3 r3 ws3 is3′ e3.
+        (Run.no-more !)))))))))) (λ u2 r2 ws2 is2′ e2.
         Walk.returned W ((κ₀, q₀) ∷ ((ν1 ∷ []), fullShare) ∷ ((ν2 ∷ []), fullShare) ∷ (κ₃, q₃) ∷ []) (Walk.gone _ ∷ Walk.gone _ ∷ Walk.gone _ ∷
-        Walk.final (finally (UInt w8) δ1 (ws3 .1 .1 .1 .0)) (length (ws3 .1 .1 .1 .0)) (length (dead .now)) ∷
-        Walk.final (finally (UInt w64) δ2 (ws3 .1 .1 .1 .1 .0)) (length (ws3 .1 .1 .1 .1 .0)) (length (notes .now)) ∷ Walk.gone _ ∷ Walk.gone _ ∷
+        Walk.final (finally (UInt w8) δ1 (ws2 .1 .1 .1 .0)) (length (ws2 .1 .1 .1 .0)) (length (dead .now)) ∷
+        Walk.final (finally (UInt w64) δ2 (ws2 .1 .1 .1 .1 .0)) (length (ws2 .1 .1 .1 .1 .0)) (length (notes .now)) ∷ Walk.gone _ ∷ Walk.gone _ ∷
         Walk.gone _ ∷ Walk.gone _ ∷ []) ! (id⊢ 𝓤 _) (λ len1 len2.
         Walk.move ! (3 ∷ 8 ∷ 1 ∷ 11 ∷ []) (
-        Again.backs W (UInt w8) κ₁ q₁ dead (named 1) (named 1) (dead .now) ! tt (ws3 .1 .1 .1 .0) (is-dead .0 .1) len1 (
+        Again.backs W (UInt w8) κ₁ q₁ dead (named 1) (named 1) (dead .now) ! tt (ws2 .1 .1 .1 .0) (is-dead .0 .1) len1 (
         Walk.move ! (5 ∷ 8 ∷ 3 ∷ 11 ∷ []) (
-        Again.backs W (UInt w64) κ₂ q₂ notes (named 2) (named 2) (notes .now) ! tt (ws3 .1 .1 .1 .1 .0) (is-notes .0 .1) len2 (
-        Walk.lands-in ! (Walk.init-as ! 19 refl (LL.lawful Outcome-T.the-type Outcome-L.the-laws 𝓤 H A W .typed r3 _ is3′ .0)
-        (ap only (LL.tells Outcome-T.the-type Outcome-L.the-laws r3 _ is3′))) (
-        let is3 : Is Outcome-T.the-row r3 ((Outcome-L.lowered r3) ∷ []) = subst (λ (vs : List Val). Is Outcome-T.the-row r3 vs)
-        (LL.tells Outcome-T.the-type Outcome-L.the-laws r3 _ is3′) is3′ in
-        Walk.written-out ! (‵ (T-search-piece-notes .own (at-last notes (ws3 .1 .1 .1 .1 .0)) (sliceVal (notes .ptr) (length (ws3 .1 .1 .1 .1 .0)) ∷
-        [])) ∷ ‵ (flft κ₂ q₂) ∷ ‵ (fat fullShare Y-search-piece-notes l₅ 0 (sliceVal (notes .ptr) (length (ws3 .1 .1 .1 .1 .0)))) ∷
-        ‵ (T-search-piece-dead .own (at-last dead (ws3 .1 .1 .1 .0)) (sliceVal (dead .ptr) (length (ws3 .1 .1 .1 .0)) ∷ [])) ∷ ‵ (flft κ₁ q₁) ∷
-        ‵ (fat fullShare Y-search-piece-dead l₄ 0 (sliceVal (dead .ptr) (length (ws3 .1 .1 .1 .0)))) ∷ ‵ (flft κ₀ q₀) ∷ ‵ (flft κ₃ q₃) ∷
+        Again.backs W (UInt w64) κ₂ q₂ notes (named 2) (named 2) (notes .now) ! tt (ws2 .1 .1 .1 .1 .0) (is-notes .0 .1) len2 (
+        Walk.lands-in ! (Walk.init-as ! 19 refl (uint-lawful 𝓤 H A W w64 .typed r2 _ is2′ .0) (ap only (uint-tells w64 r2 _ is2′))) (
+        let is2 : Is (UInt w64) r2 ((vint w64 r2) ∷ []) = subst (λ (vs : List Val). Is (UInt w64) r2 vs) (uint-tells w64 r2 _ is2′) is2′ in
+        Walk.written-out ! (‵ (T-search-piece-notes .own (at-last notes (ws2 .1 .1 .1 .1 .0)) (sliceVal (notes .ptr) (length (ws2 .1 .1 .1 .1 .0)) ∷
+        [])) ∷ ‵ (flft κ₂ q₂) ∷ ‵ (fat fullShare Y-search-piece-notes l₅ 0 (sliceVal (notes .ptr) (length (ws2 .1 .1 .1 .1 .0)))) ∷
+        ‵ (T-search-piece-dead .own (at-last dead (ws2 .1 .1 .1 .0)) (sliceVal (dead .ptr) (length (ws2 .1 .1 .1 .0)) ∷ [])) ∷ ‵ (flft κ₁ q₁) ∷
+        ‵ (fat fullShare Y-search-piece-dead l₄ 0 (sliceVal (dead .ptr) (length (ws2 .1 .1 .1 .0)))) ∷ ‵ (flft κ₀ q₀) ∷ ‵ (flft κ₃ q₃) ∷
         ‵ (T-search-piece-nodes .own nodes (sliceVal (nodes .ptr) (length (nodes .now)) ∷ [])) ∷
-        ‵ (T-search-piece-line .own line (sliceVal (line .ptr) (length (line .now)) ∷ [])) ∷ ‵ (froom Outcome-L.mir l₀ 0) ∷
+        ‵ (T-search-piece-line .own line (sliceVal (line .ptr) (length (line .now)) ∷ [])) ∷ ‵ (froom (tyInt w64) l₀ 0) ∷
         ‵ (fat fullShare (tyInt w8) l₁ 0 (vint w8 left)) ∷ ‵ (fat fullShare (tyInt w8) l₂ 0 (vint w8 right)) ∷
         ‵ (fat fullShare Y-search-piece-nodes l₃ 0 (sliceVal (nodes .ptr) (length (nodes .now)))) ∷
         ‵ (fat fullShare Y-search-piece-line l₆ 0 (sliceVal (line .ptr) (length (line .now)))) ∷ ‵ (fat fullShare (tyInt w64) l₇ 0 (vint w64 end)) ∷
         ‵ (fat fullShare (tyInt w64) l₈ 0 (vint w64 node)) ∷ ‵ (fat fullShare (tyInt w64) l₉ 0 (vint w64 at)) ∷
-        ‵ (fat fullShare (tyInt w64) l₁₀ 0 (vint w64 r1)) ∷ ‵ (fat fullShare Outcome-L.mir l₁₁ 0 (Outcome-L.lowered r3)) ∷
-        ‵ (froom Node-L.mir l₁₂ 0) ∷ ‵ (fat fullShare tyBool l₁₃ 0 (vbool (eqb r1 0))) ∷
+        ‵ (fat fullShare (tyInt w64) l₁₀ 0 (vint w64 r1)) ∷ ‵ (fat fullShare (tyInt w64) l₁₁ 0 (vint w64 r2)) ∷ ‵ (froom Node-L.mir l₁₂ 0) ∷
+        ‵ (fat fullShare tyBool l₁₃ 0 (vbool (eqb r1 0))) ∷
         ‵ (fat fullShare (tyRef erased mut (pointee ((UInt w8) .written))) l₁₄ 0 (vptr (dead .ptr .0) (dead .ptr .1))) ∷
         ‵ (fat fullShare (sliceTy (tyRef erased mut (pointee ((UInt w8) .written)))) l₁₅ 0 (sliceVal (dead .ptr) (length (dead .now)))) ∷
         ‵ (fat fullShare (tyRef erased mut (pointee ((UInt w64) .written))) l₁₆ 0 (vptr (notes .ptr .0) (notes .ptr .1))) ∷
         ‵ (fat fullShare (sliceTy (tyRef erased mut (pointee ((UInt w64) .written)))) l₁₇ 0 (sliceVal (notes .ptr) (length (notes .now)))) ∷
-        ‵ (froom (tyRef erased mut (pointee ((UInt w64) .written))) l₁₈ 0) ∷
-        ‵ (froom (sliceTy (tyRef erased mut (pointee ((UInt w64) .written)))) l₁₉ 0) ∷ ‵ (froom (tyInt w64) l₂₀ 0) ∷ ‵ Fd ∷ []) refl (
-        Walk.sets ! (Run.bin ! (Walk.part ! 19 refl refl refl) (Run.lit ! tt) tt) (Run.store ! 21 refl ((tt, tt))) (Walk.first-then ! (
+        ‵ (froom tyUnit l₁₈ 0) ∷ ‵ (froom (tyRef erased mut (pointee ((UInt w64) .written))) l₁₉ 0) ∷
+        ‵ (froom (sliceTy (tyRef erased mut (pointee ((UInt w64) .written)))) l₂₀ 0) ∷ ‵ (froom (tyInt w64) l₂₁ 0) ∷ ‵ Fd ∷ []) refl (
+        Walk.sets ! (Run.bin ! (Walk.local ! 19 refl) (Run.lit ! tt) tt) (Run.store ! 21 refl ((tt, tt))) (Walk.first-then ! (
         Run.branches ! (Walk.local ! 21 refl)
-        (λ h2. let t2 : (eqb (r3 .node) 0) ≡ true = Walk.is-true _ h2 in
-        Walk.sets ! (Run.of-opd ! (Walk.local ! 19 refl))
-        (Run.init ! 10 refl (LL.lawful Outcome-T.the-type Outcome-L.the-laws 𝓤 H A W .typed r3 _ is3 .0)) (
+        (λ h2. let t2 : (eqb r2 0) ≡ true = Walk.is-true _ h2 in
+        Walk.sets ! (Run.of-opd ! (Run.lit ! tt)) (Run.init ! 10 refl ((tt, record { fits = lit< tt }))) (
         Walk.returns-by ! Post-search-piece (Walk.through 𝓤 H C Λ E _ _ Post-search-piece refl) (Run.look ! 10 refl) (
-        Walk.move ! (10 ∷ 10 ∷ 10 ∷ 10 ∷ 5 ∷ 2 ∷ 8 ∷ 8 ∷ 8 ∷ 8 ∷ 8 ∷ 8 ∷ 8 ∷ 8 ∷ 8 ∷ 8 ∷ 8 ∷ 8 ∷ 8 ∷ 8 ∷ 8 ∷ 8 ∷ []) (
-        Walk.frees-gathered ! (Walk.full Outcome-L.mir l₀ (Outcome-L.lowered r3) ∷ Walk.full (tyInt w8) l₁ (vint w8 left) ∷
+        Walk.move ! (10 ∷ 10 ∷ 10 ∷ 10 ∷ 5 ∷ 2 ∷ 8 ∷ 8 ∷ 8 ∷ 8 ∷ 8 ∷ 8 ∷ 8 ∷ 8 ∷ 8 ∷ 8 ∷ 8 ∷ 8 ∷ 8 ∷ 8 ∷ 8 ∷ 8 ∷ 8 ∷ []) (
+        Walk.frees-gathered ! (Walk.full (tyInt w64) l₀ (vint w64 0) ∷ Walk.full (tyInt w8) l₁ (vint w8 left) ∷
         Walk.full (tyInt w8) l₂ (vint w8 right) ∷ Walk.full Y-search-piece-nodes l₃ (sliceVal (nodes .ptr) (length (nodes .now))) ∷
-        Walk.full Y-search-piece-dead l₄ (sliceVal (dead .ptr) (length (ws3 .1 .1 .1 .0))) ∷
-        Walk.full Y-search-piece-notes l₅ (sliceVal (notes .ptr) (length (ws3 .1 .1 .1 .1 .0))) ∷
+        Walk.full Y-search-piece-dead l₄ (sliceVal (dead .ptr) (length (ws2 .1 .1 .1 .0))) ∷
+        Walk.full Y-search-piece-notes l₅ (sliceVal (notes .ptr) (length (ws2 .1 .1 .1 .1 .0))) ∷
         Walk.full Y-search-piece-line l₆ (sliceVal (line .ptr) (length (line .now))) ∷ Walk.full (tyInt w64) l₇ (vint w64 end) ∷
         Walk.full (tyInt w64) l₈ (vint w64 node) ∷ Walk.full (tyInt w64) l₉ (vint w64 at) ∷ Walk.full (tyInt w64) l₁₀ (vint w64 r1) ∷
-        Walk.full Outcome-L.mir l₁₁ (Outcome-L.lowered r3) ∷ Walk.bare Node-L.mir l₁₂ ∷ Walk.full tyBool l₁₃ (vbool (eqb (r3 .node) 0)) ∷
+        Walk.full (tyInt w64) l₁₁ (vint w64 r2) ∷ Walk.bare Node-L.mir l₁₂ ∷ Walk.full tyBool l₁₃ (vbool (eqb r2 0)) ∷
         Walk.full (tyRef erased mut (pointee ((UInt w8) .written))) l₁₄ (vptr (dead .ptr .0) (dead .ptr .1)) ∷
         Walk.full (sliceTy (tyRef erased mut (pointee ((UInt w8) .written)))) l₁₅ (sliceVal (dead .ptr) (length (dead .now))) ∷
         Walk.full (tyRef erased mut (pointee ((UInt w64) .written))) l₁₆ (vptr (notes .ptr .0) (notes .ptr .1)) ∷
         Walk.full (sliceTy (tyRef erased mut (pointee ((UInt w64) .written)))) l₁₇ (sliceVal (notes .ptr) (length (notes .now))) ∷
-        Walk.bare (tyRef erased mut (pointee ((UInt w64) .written))) l₁₈ ∷
-        Walk.bare (sliceTy (tyRef erased mut (pointee ((UInt w64) .written)))) l₁₉ ∷ Walk.bare (tyInt w64) l₂₀ ∷
-        []) Fd ed (‵ (T-search-piece-notes .own (at-last notes (ws3 .1 .1 .1 .1 .0)) (sliceVal (notes .ptr) (length (ws3 .1 .1 .1 .1 .0)) ∷ [])) ∷
-        ‵ (flft κ₂ q₂) ∷ ‵ (T-search-piece-dead .own (at-last dead (ws3 .1 .1 .1 .0)) (sliceVal (dead .ptr) (length (ws3 .1 .1 .1 .0)) ∷ [])) ∷
+        Walk.bare tyUnit l₁₈ ∷ Walk.bare (tyRef erased mut (pointee ((UInt w64) .written))) l₁₉ ∷
+        Walk.bare (sliceTy (tyRef erased mut (pointee ((UInt w64) .written)))) l₂₀ ∷ Walk.bare (tyInt w64) l₂₁ ∷
+        []) Fd ed (‵ (T-search-piece-notes .own (at-last notes (ws2 .1 .1 .1 .1 .0)) (sliceVal (notes .ptr) (length (ws2 .1 .1 .1 .1 .0)) ∷ [])) ∷
+        ‵ (flft κ₂ q₂) ∷ ‵ (T-search-piece-dead .own (at-last dead (ws2 .1 .1 .1 .0)) (sliceVal (dead .ptr) (length (ws2 .1 .1 .1 .0)) ∷ [])) ∷
         ‵ (flft κ₁ q₁) ∷ ‵ (flft κ₀ q₀) ∷ ‵ (flft κ₃ q₃) ∷ ‵ (T-search-piece-nodes .own nodes (sliceVal (nodes .ptr) (length (nodes .now)) ∷ [])) ∷
         ‵ (T-search-piece-line .own line (sliceVal (line .ptr) (length (line .now)) ∷ [])) ∷ []) (
         Walk.move ! (2 ∷ 0 ∷ []) (
-        Walk.gives W (Walk.nothing ∷ Walk.nothing ∷ Walk.nothing ∷ Walk.turned (T-search-piece-dead .own (at-last dead (ws3 .1 .1 .1 .0))
-        (sliceVal (dead .ptr) (length (ws3 .1 .1 .1 .0)) ∷ [])) (finally (UInt w8) (dead .name) (ws3 .1 .1 .1 .0))
-        (Walk.ended-slice 𝓤 H A W (named 1) κ₁ (UInt w8) dead (ws3 .1 .1 .1 .0) _) ∷
-        Walk.turned (T-search-piece-notes .own (at-last notes (ws3 .1 .1 .1 .1 .0)) (sliceVal (notes .ptr) (length (ws3 .1 .1 .1 .1 .0)) ∷ []))
-        (finally (UInt w64) (notes .name) (ws3 .1 .1 .1 .1 .0)) (Walk.ended-slice 𝓤 H A W (named 2) κ₂ (UInt w64) notes (ws3 .1 .1 .1 .1 .0) _) ∷
+        Walk.gives W (Walk.nothing ∷ Walk.nothing ∷ Walk.nothing ∷ Walk.turned (T-search-piece-dead .own (at-last dead (ws2 .1 .1 .1 .0))
+        (sliceVal (dead .ptr) (length (ws2 .1 .1 .1 .0)) ∷ [])) (finally (UInt w8) (dead .name) (ws2 .1 .1 .1 .0))
+        (Walk.ended-slice 𝓤 H A W (named 1) κ₁ (UInt w8) dead (ws2 .1 .1 .1 .0) _) ∷
+        Walk.turned (T-search-piece-notes .own (at-last notes (ws2 .1 .1 .1 .1 .0)) (sliceVal (notes .ptr) (length (ws2 .1 .1 .1 .1 .0)) ∷ []))
+        (finally (UInt w64) (notes .name) (ws2 .1 .1 .1 .1 .0)) (Walk.ended-slice 𝓤 H A W (named 2) κ₂ (UInt w64) notes (ws2 .1 .1 .1 .1 .0) _) ∷
         Walk.nothing ∷ Walk.nothing ∷ Walk.nothing ∷ Walk.nothing ∷ []) _ ! (
         Walk.move ! (3 ∷ 2 ∷ 1 ∷ 1 ∷ []) (
         Walk.tokens-in W ((κ₀, q₀) ∷ (κ₁, q₁) ∷ (κ₂, q₂) ∷ (κ₃, q₃) ∷ []) _ ! (alive 𝓤 H A f-search-piece.signature (κ₀, (κ₁, (κ₂, (κ₃, tt))))
         (q₀, (q₁, (q₂, (q₃, tt))))) (id⊢ 𝓤 _) (
-        Walk.use0 W ! (‵ (Outcome-T.the-row .own r3 ((Outcome-L.lowered r3) ∷ []))) (LL.makes Outcome-T.the-type Outcome-L.the-plain 𝓤 H A r3 _ is3) (
-        Walk.keep ! (1 ∷ 1 ∷ 0 ∷ []) (
-        Kit.by ! (Walk.leave-by 𝓤 H A W f-search-piece.ended (f-search-piece.clauses 𝓤 H A mem run) stayed-search-piece bound-search-piece (Outcome-L.lowered r3) r3 (tt, (tt, (tt, ((ws3 .1 .1 .1 .0), ((ws3 .1 .1 .1 .1 .0), (tt, (tt, (tt, (tt, tt))))))))) (tt, (tt, (tt, ((len1 ∙ refl), ((len2 ∙ refl), (tt, (tt, (tt, (tt, tt))))))))) (factI 𝓤 _ (emp 𝓤) (piece-nowhere pre e1 (eqb-false r1 0 t1) refl e3 (eqb-true (r3 .node) 0 t2)))))))))))))))
-        (λ h2. let t2 : (eqb (r3 .node) 0) ≡ false = Walk.is-false _ h2 in
+        Walk.use0 W ! (‵ ((UInt w64) .own 0 ((vint w64 0) ∷ []))) (uint-makes 𝓤 H A W w64 0 _ (refl, lit< tt)) (Walk.keep ! (1 ∷ 1 ∷ 0 ∷ []) (
+        Kit.by ! (Walk.leave-by 𝓤 H A W f-search-piece.ended (f-search-piece.clauses 𝓤 H A mem run) stayed-search-piece bound-search-piece (vint w64 0) 0 (tt, (tt, (tt, ((ws2 .1 .1 .1 .0), ((ws2 .1 .1 .1 .1 .0), (tt, (tt, (tt, (tt, tt))))))))) (tt, (tt, (tt, ((len1 ∙ refl), ((len2 ∙ refl), (tt, (tt, (tt, (tt, tt))))))))) (factI 𝓤 _ (emp 𝓤) (piece-nowhere pre e1 (eqb-false r1 0 t1) refl e2 (eqb-true r2 0 t2) refl))))))))))))))
+        (λ h2. let t2 : (eqb r2 0) ≡ false = Walk.is-false _ h2 in
         Walk.skips-then ! (
         -- [notes; κ₂; the locals; dead; κ₁; κ₀; κ₃; nodes; line; their ends]
-        -- call 4: node_at (nodes, node)
+        -- call 3: node_at (nodes, node)
         Walk.move ! (8 ∷ []) (
         Walk.gives W (Walk.copied (T-search-piece-nodes .own nodes (v-search-piece-nodes ∷ []))
         (shr-slice-copy 𝓤 H A W (named 0) κ₀ Node-T.the-row .twice nodes _) ∷ Walk.made ((UInt w64) .own node ((vint w64 node) ∷ []))
@@ -2006,140 +1860,136 @@ module _ {M : Type 1} (𝓤 : URA M) (H : Heap 𝓤) (A : Atoms 𝓤) (W : Given
         Walk.move ! (8 ∷ []) (Walk.tokens-in W ((κ₀, q₀) ∷ []) _ ! (alive 𝓤 H A g-node-at.signature (κ₀, tt) (q₀, tt)) (id⊢ 𝓤 _) (
         Walk.asks W ! fm g-node-at.ended (g-node-at.clauses 𝓤 H A mem run)
         (((κ₀, tt), (q₀, tt), tt, (nodes, (node, tt)), (v-search-piece-nodes ∷ [], ((vint w64 node) ∷ [], tt))), tt) _ (known-node-at (((κ₀, tt), (q₀, tt), tt, (nodes, (node, tt)), (v-search-piece-nodes ∷ [], ((vint w64 node) ∷ [], tt))), tt)) (factI 𝓤 _ (emp 𝓤) (asks-node pre)) (λ r ws. id⊢ 𝓤 _)
-        (Run.and-then ! (Walk.local ! 13 refl) (Run.and-then ! (Walk.local ! 16 refl) (Run.no-more !))) (λ u4 r4 is4′ e4.
+        (Run.and-then ! (Walk.local ! 13 refl) (Run.and-then ! (Walk.local ! 16 refl) (Run.no-more !))) (λ u3 r3 is3′ e3.
         Walk.tokens-out W ((κ₀, q₀) ∷ []) ! (id⊢ 𝓤 _) (
-        Walk.lands-in ! (Walk.init-as ! 20 refl (LL.lawful Node-T.the-type Node-L.the-laws 𝓤 H A W .typed r4 _ is4′ .0)
-        (ap only (LL.tells Node-T.the-type Node-L.the-laws r4 _ is4′))) (
-        let is4 : Is Node-T.the-row r4 ((Node-L.lowered r4) ∷ []) = subst (λ (vs : List Val). Is Node-T.the-row r4 vs)
-        (LL.tells Node-T.the-type Node-L.the-laws r4 _ is4′) is4′ in
+        Walk.lands-in ! (Walk.init-as ! 20 refl (LL.lawful Node-T.the-type Node-L.the-laws 𝓤 H A W .typed r3 _ is3′ .0)
+        (ap only (LL.tells Node-T.the-type Node-L.the-laws r3 _ is3′))) (
+        let is3 : Is Node-T.the-row r3 ((Node-L.lowered r3) ∷ []) = subst (λ (vs : List Val). Is Node-T.the-row r3 vs)
+        (LL.tells Node-T.the-type Node-L.the-laws r3 _ is3′) is3′ in
         Walk.written-out ! (‵ (flft κ₀ q₀) ∷ ‵ (T-search-piece-nodes .own nodes (sliceVal (nodes .ptr) (length (nodes .now)) ∷ [])) ∷
-        ‵ (T-search-piece-notes .own (at-last notes (ws3 .1 .1 .1 .1 .0)) (sliceVal (notes .ptr) (length (ws3 .1 .1 .1 .1 .0)) ∷ [])) ∷
-        ‵ (flft κ₂ q₂) ∷ ‵ (fat fullShare Y-search-piece-notes l₅ 0 (sliceVal (notes .ptr) (length (ws3 .1 .1 .1 .1 .0)))) ∷
-        ‵ (T-search-piece-dead .own (at-last dead (ws3 .1 .1 .1 .0)) (sliceVal (dead .ptr) (length (ws3 .1 .1 .1 .0)) ∷ [])) ∷ ‵ (flft κ₁ q₁) ∷
-        ‵ (fat fullShare Y-search-piece-dead l₄ 0 (sliceVal (dead .ptr) (length (ws3 .1 .1 .1 .0)))) ∷ ‵ (flft κ₃ q₃) ∷
-        ‵ (T-search-piece-line .own line (sliceVal (line .ptr) (length (line .now)) ∷ [])) ∷ ‵ (froom Outcome-L.mir l₀ 0) ∷
+        ‵ (T-search-piece-notes .own (at-last notes (ws2 .1 .1 .1 .1 .0)) (sliceVal (notes .ptr) (length (ws2 .1 .1 .1 .1 .0)) ∷ [])) ∷
+        ‵ (flft κ₂ q₂) ∷ ‵ (fat fullShare Y-search-piece-notes l₅ 0 (sliceVal (notes .ptr) (length (ws2 .1 .1 .1 .1 .0)))) ∷
+        ‵ (T-search-piece-dead .own (at-last dead (ws2 .1 .1 .1 .0)) (sliceVal (dead .ptr) (length (ws2 .1 .1 .1 .0)) ∷ [])) ∷ ‵ (flft κ₁ q₁) ∷
+        ‵ (fat fullShare Y-search-piece-dead l₄ 0 (sliceVal (dead .ptr) (length (ws2 .1 .1 .1 .0)))) ∷ ‵ (flft κ₃ q₃) ∷
+        ‵ (T-search-piece-line .own line (sliceVal (line .ptr) (length (line .now)) ∷ [])) ∷ ‵ (froom (tyInt w64) l₀ 0) ∷
         ‵ (fat fullShare (tyInt w8) l₁ 0 (vint w8 left)) ∷ ‵ (fat fullShare (tyInt w8) l₂ 0 (vint w8 right)) ∷
         ‵ (fat fullShare Y-search-piece-nodes l₃ 0 (sliceVal (nodes .ptr) (length (nodes .now)))) ∷
         ‵ (fat fullShare Y-search-piece-line l₆ 0 (sliceVal (line .ptr) (length (line .now)))) ∷ ‵ (fat fullShare (tyInt w64) l₇ 0 (vint w64 end)) ∷
         ‵ (fat fullShare (tyInt w64) l₈ 0 (vint w64 node)) ∷ ‵ (fat fullShare (tyInt w64) l₉ 0 (vint w64 at)) ∷
-        ‵ (fat fullShare (tyInt w64) l₁₀ 0 (vint w64 r1)) ∷ ‵ (fat fullShare Outcome-L.mir l₁₁ 0 (Outcome-L.lowered r3)) ∷
-        ‵ (fat fullShare Node-L.mir l₁₂ 0 (Node-L.lowered r4)) ∷ ‵ (fat fullShare tyBool l₁₃ 0 (vbool (eqb (r3 .node) 0))) ∷
+        ‵ (fat fullShare (tyInt w64) l₁₀ 0 (vint w64 r1)) ∷ ‵ (fat fullShare (tyInt w64) l₁₁ 0 (vint w64 r2)) ∷
+        ‵ (fat fullShare Node-L.mir l₁₂ 0 (Node-L.lowered r3)) ∷ ‵ (fat fullShare tyBool l₁₃ 0 (vbool (eqb r2 0))) ∷
         ‵ (fat fullShare (tyRef erased mut (pointee ((UInt w8) .written))) l₁₄ 0 (vptr (dead .ptr .0) (dead .ptr .1))) ∷
         ‵ (fat fullShare (sliceTy (tyRef erased mut (pointee ((UInt w8) .written)))) l₁₅ 0 (sliceVal (dead .ptr) (length (dead .now)))) ∷
         ‵ (fat fullShare (tyRef erased mut (pointee ((UInt w64) .written))) l₁₆ 0 (vptr (notes .ptr .0) (notes .ptr .1))) ∷
         ‵ (fat fullShare (sliceTy (tyRef erased mut (pointee ((UInt w64) .written)))) l₁₇ 0 (sliceVal (notes .ptr) (length (notes .now)))) ∷
-        ‵ (froom (tyRef erased mut (pointee ((UInt w64) .written))) l₁₈ 0) ∷
-        ‵ (froom (sliceTy (tyRef erased mut (pointee ((UInt w64) .written)))) l₁₉ 0) ∷ ‵ (froom (tyInt w64) l₂₀ 0) ∷ ‵ Fd ∷ []) refl (
+        ‵ (froom tyUnit l₁₈ 0) ∷ ‵ (froom (tyRef erased mut (pointee ((UInt w64) .written))) l₁₉ 0) ∷
+        ‵ (froom (sliceTy (tyRef erased mut (pointee ((UInt w64) .written)))) l₂₀ 0) ∷ ‵ (froom (tyInt w64) l₂₁ 0) ∷ ‵ Fd ∷ []) refl (
         Walk.sets ! (Run.addr ! (Run.from ! (Run.fld ! refl (Run.hop ! (Part.look-in ! 4 (Part.sub ! 0 refl (Part.whole !))) (Run.stop !)))))
-        (Run.init ! 26 refl ((tt, tt))) (
-        Walk.sets ! (Part.agg ! (Run.and-then ! (Walk.local ! 26 refl) (Run.and-then ! (Walk.part ! 4 refl refl refl) (Run.no-more !))))
-        (Run.init ! 27 refl ((tt, (tt, (record { fits = (subst (Slice.Room (UInt w64)) (sym len2) (is-notes .0 .1)) .0 }, tt))))) (
+        (Run.init ! 27 refl ((tt, tt))) (
+        Walk.sets ! (Part.agg ! (Run.and-then ! (Walk.local ! 27 refl) (Run.and-then ! (Walk.part ! 4 refl refl refl) (Run.no-more !))))
+        (Run.init ! 28 refl ((tt, (tt, (record { fits = (subst (Slice.Room (UInt w64)) (sym len2) (is-notes .0 .1)) .0 }, tt))))) (
         -- [κ₀; nodes; notes; κ₂; the locals; dead; κ₁; κ₃; line; their ends]
-        -- call 5: holes_of (r4)
-        Walk.gives W (Walk.made (Node-T.the-row .own r4 ((Node-L.lowered r4) ∷ [])) (LL.makes Node-T.the-type Node-L.the-plain 𝓤 H A r4 _ is4) ∷
+        -- call 4: holes_of (r3)
+        Walk.gives W (Walk.made (Node-T.the-row .own r3 ((Node-L.lowered r3) ∷ [])) (LL.makes Node-T.the-type Node-L.the-plain 𝓤 H A r3 _ is3) ∷
         []) _ ! (
         Walk.tokens-in W ([]) _ ! (alive 𝓤 H A g-holes-of.signature tt tt) (id⊢ 𝓤 _) (
         Walk.asks W ! fm g-holes-of.ended (g-holes-of.clauses 𝓤 H A mem run)
-        ((tt, tt, tt, (r4, tt), ((Node-L.lowered r4) ∷ [], tt)), tt) _ (known-holes-of ((tt, tt, tt, (r4, tt), ((Node-L.lowered r4) ∷ [], tt)), tt))
+        ((tt, tt, tt, (r3, tt), ((Node-L.lowered r3) ∷ [], tt)), tt) _ (known-holes-of ((tt, tt, tt, (r3, tt), ((Node-L.lowered r3) ∷ [], tt)), tt))
         (id⊢ 𝓤 (emp 𝓤)) (λ r ws. id⊢ 𝓤 _)
-        (Run.and-then ! (Walk.local ! 21 refl) (Run.no-more !)) (λ u5 r5 is5′ e5.
+        (Run.and-then ! (Walk.local ! 21 refl) (Run.no-more !)) (λ u4 r4 is4′ e4.
         Walk.tokens-out W ([]) ! (id⊢ 𝓤 _) (
-        Walk.lands-in ! (Walk.init-as ! 28 refl (uint-lawful 𝓤 H A W w64 .typed r5 _ is5′ .0) (ap only (uint-tells w64 r5 _ is5′))) (
-        let is5 : Is (UInt w64) r5 ((vint w64 r5) ∷ []) = subst (λ (vs : List Val). Is (UInt w64) r5 vs) (uint-tells w64 r5 _ is5′) is5′ in
+        Walk.lands-in ! (Walk.init-as ! 29 refl (uint-lawful 𝓤 H A W w64 .typed r4 _ is4′ .0) (ap only (uint-tells w64 r4 _ is4′))) (
+        let is4 : Is (UInt w64) r4 ((vint w64 r4) ∷ []) = subst (λ (vs : List Val). Is (UInt w64) r4 vs) (uint-tells w64 r4 _ is4′) is4′ in
         Walk.written-out ! (‵ (flft κ₀ q₀) ∷ ‵ (T-search-piece-nodes .own nodes (sliceVal (nodes .ptr) (length (nodes .now)) ∷ [])) ∷
-        ‵ (T-search-piece-notes .own (at-last notes (ws3 .1 .1 .1 .1 .0)) (sliceVal (notes .ptr) (length (ws3 .1 .1 .1 .1 .0)) ∷ [])) ∷
-        ‵ (flft κ₂ q₂) ∷ ‵ (fat fullShare Y-search-piece-notes l₅ 0 (sliceVal (notes .ptr) (length (ws3 .1 .1 .1 .1 .0)))) ∷
-        ‵ (T-search-piece-dead .own (at-last dead (ws3 .1 .1 .1 .0)) (sliceVal (dead .ptr) (length (ws3 .1 .1 .1 .0)) ∷ [])) ∷ ‵ (flft κ₁ q₁) ∷
-        ‵ (fat fullShare Y-search-piece-dead l₄ 0 (sliceVal (dead .ptr) (length (ws3 .1 .1 .1 .0)))) ∷ ‵ (flft κ₃ q₃) ∷
-        ‵ (T-search-piece-line .own line (sliceVal (line .ptr) (length (line .now)) ∷ [])) ∷ ‵ (froom Outcome-L.mir l₀ 0) ∷
+        ‵ (T-search-piece-notes .own (at-last notes (ws2 .1 .1 .1 .1 .0)) (sliceVal (notes .ptr) (length (ws2 .1 .1 .1 .1 .0)) ∷ [])) ∷
+        ‵ (flft κ₂ q₂) ∷ ‵ (fat fullShare Y-search-piece-notes l₅ 0 (sliceVal (notes .ptr) (length (ws2 .1 .1 .1 .1 .0)))) ∷
+        ‵ (T-search-piece-dead .own (at-last dead (ws2 .1 .1 .1 .0)) (sliceVal (dead .ptr) (length (ws2 .1 .1 .1 .0)) ∷ [])) ∷ ‵ (flft κ₁ q₁) ∷
+        ‵ (fat fullShare Y-search-piece-dead l₄ 0 (sliceVal (dead .ptr) (length (ws2 .1 .1 .1 .0)))) ∷ ‵ (flft κ₃ q₃) ∷
+        ‵ (T-search-piece-line .own line (sliceVal (line .ptr) (length (line .now)) ∷ [])) ∷ ‵ (froom (tyInt w64) l₀ 0) ∷
         ‵ (fat fullShare (tyInt w8) l₁ 0 (vint w8 left)) ∷ ‵ (fat fullShare (tyInt w8) l₂ 0 (vint w8 right)) ∷
         ‵ (fat fullShare Y-search-piece-nodes l₃ 0 (sliceVal (nodes .ptr) (length (nodes .now)))) ∷
         ‵ (fat fullShare Y-search-piece-line l₆ 0 (sliceVal (line .ptr) (length (line .now)))) ∷ ‵ (fat fullShare (tyInt w64) l₇ 0 (vint w64 end)) ∷
         ‵ (fat fullShare (tyInt w64) l₈ 0 (vint w64 node)) ∷ ‵ (fat fullShare (tyInt w64) l₉ 0 (vint w64 at)) ∷
-        ‵ (fat fullShare (tyInt w64) l₁₀ 0 (vint w64 r1)) ∷ ‵ (fat fullShare Outcome-L.mir l₁₁ 0 (Outcome-L.lowered r3)) ∷
-        ‵ (fat fullShare Node-L.mir l₁₂ 0 (Node-L.lowered r4)) ∷ ‵ (fat fullShare tyBool l₁₃ 0 (vbool (eqb (r3 .node) 0))) ∷
+        ‵ (fat fullShare (tyInt w64) l₁₀ 0 (vint w64 r1)) ∷ ‵ (fat fullShare (tyInt w64) l₁₁ 0 (vint w64 r2)) ∷
+        ‵ (fat fullShare Node-L.mir l₁₂ 0 (Node-L.lowered r3)) ∷ ‵ (fat fullShare tyBool l₁₃ 0 (vbool (eqb r2 0))) ∷
         ‵ (fat fullShare (tyRef erased mut (pointee ((UInt w8) .written))) l₁₄ 0 (vptr (dead .ptr .0) (dead .ptr .1))) ∷
         ‵ (fat fullShare (sliceTy (tyRef erased mut (pointee ((UInt w8) .written)))) l₁₅ 0 (sliceVal (dead .ptr) (length (dead .now)))) ∷
         ‵ (fat fullShare (tyRef erased mut (pointee ((UInt w64) .written))) l₁₆ 0 (vptr (notes .ptr .0) (notes .ptr .1))) ∷
         ‵ (fat fullShare (sliceTy (tyRef erased mut (pointee ((UInt w64) .written)))) l₁₇ 0 (sliceVal (notes .ptr) (length (notes .now)))) ∷
-        ‵ (fat fullShare (tyRef erased mut (pointee ((UInt w64) .written))) l₁₈ 0 (vptr (notes .ptr .0) (notes .ptr .1))) ∷
-        ‵ (fat fullShare (sliceTy (tyRef erased mut (pointee ((UInt w64) .written)))) l₁₉ 0 (sliceVal (notes .ptr) (length (ws3 .1 .1 .1 .1 .0)))) ∷
-        ‵ (fat fullShare (tyInt w64) l₂₀ 0 (vint w64 r5)) ∷ ‵ Fd ∷ []) refl (
+        ‵ (froom tyUnit l₁₈ 0) ∷ ‵ (fat fullShare (tyRef erased mut (pointee ((UInt w64) .written))) l₁₉ 0 (vptr (notes .ptr .0) (notes .ptr .1))) ∷
+        ‵ (fat fullShare (sliceTy (tyRef erased mut (pointee ((UInt w64) .written)))) l₂₀ 0 (sliceVal (notes .ptr) (length (ws2 .1 .1 .1 .1 .0)))) ∷
+        ‵ (fat fullShare (tyInt w64) l₂₁ 0 (vint w64 r4)) ∷ ‵ Fd ∷ []) refl (
         -- [κ₀; nodes; notes; κ₂; the locals; dead; κ₁; κ₃; line; their ends]
-        -- call 6: store_piece (notes, r5, at, r3)
-        Walk.move ! (2 ∷ 2 ∷ []) (Again.lends W (UInt w64) κ₂ q₂ notes (named 2) (named 0) (ws3 .1 .1 .1 .1 .0) ! tt (λ ν3 δ3.
-        Walk.gives W (Walk.kept (MutSlice (named 0) (ν3 ∷ []) (UInt w64) .own (record { ptr = (notes .ptr); name = δ3; now = (ws3 .1 .1 .1 .1 .0) })
-        ((sliceVal (notes .ptr) (length (ws3 .1 .1 .1 .1 .0))) ∷ [])) ∷ Walk.made ((UInt w64) .own r5 ((vint w64 r5) ∷ []))
-        (uint-makes 𝓤 H A W w64 r5 _ (refl, is5 .1)) ∷ Walk.made ((UInt w64) .own at ((vint w64 at) ∷ []))
-        (uint-makes 𝓤 H A W w64 at _ (refl, fits-at)) ∷ Walk.made (Outcome-T.the-row .own r3 ((Outcome-L.lowered r3) ∷ []))
-        (LL.makes Outcome-T.the-type Outcome-L.the-plain 𝓤 H A r3 _ is3) ∷ []) _ ! (
+        -- call 5: store_piece (notes, r4, at)
+        Walk.move ! (2 ∷ 2 ∷ []) (Again.lends W (UInt w64) κ₂ q₂ notes (named 2) (named 0) (ws2 .1 .1 .1 .1 .0) ! tt (λ ν3 δ3.
+        Walk.gives W (Walk.kept (MutSlice (named 0) (ν3 ∷ []) (UInt w64) .own (record { ptr = (notes .ptr); name = δ3; now = (ws2 .1 .1 .1 .1 .0) })
+        ((sliceVal (notes .ptr) (length (ws2 .1 .1 .1 .1 .0))) ∷ [])) ∷ Walk.made ((UInt w64) .own r4 ((vint w64 r4) ∷ []))
+        (uint-makes 𝓤 H A W w64 r4 _ (refl, is4 .1)) ∷ Walk.made ((UInt w64) .own at ((vint w64 at) ∷ []))
+        (uint-makes 𝓤 H A W w64 at _ (refl, fits-at)) ∷ []) _ ! (
         Walk.move ! (2 ∷ []) (
         Walk.tokens-in W (((ν3 ∷ []), fullShare) ∷ []) _ ! (alive 𝓤 H A g-store-piece.signature ((ν3 ∷ []), tt) (fullShare, tt)) (id⊢ 𝓤 _) (
         Walk.asksˡ W ! fm g-store-piece.ended (g-store-piece.clauses 𝓤 H A mem run)
-        ((((ν3 ∷ []), tt), (fullShare, tt), tt, ((record { ptr = (notes .ptr); name = δ3; now = (ws3 .1 .1 .1 .1 .0) }), (r5, (at, (r3, tt)))), ((sliceVal (notes .ptr) (length (ws3 .1 .1 .1 .1 .0))) ∷ [], ((vint w64 r5) ∷ [], ((vint w64 at) ∷ [], ((Outcome-L.lowered r3) ∷ [], tt))))), tt) _ (known-store-piece ((((ν3 ∷ []), tt), (fullShare, tt), tt, ((record { ptr = (notes .ptr); name = δ3; now = (ws3 .1 .1 .1 .1 .0) }), (r5, (at, (r3, tt)))), ((sliceVal (notes .ptr) (length (ws3 .1 .1 .1 .1 .0))) ∷ [], ((vint w64 r5) ∷ [], ((vint w64 at) ∷ [], ((Outcome-L.lowered r3) ∷ [], tt))))), tt)) (factI 𝓤 _ (emp 𝓤) (piece-fits pre e1 refl (eqb-false r1 0 t1) e3 len2 e4 e5)) (λ r ws. id⊢ 𝓤 _)
-        (Run.and-then ! (Walk.local ! 27 refl) (Run.and-then ! (Walk.local ! 28 refl) (Run.and-then ! (Walk.local ! 17 refl)
-        (Run.and-then ! (Walk.local ! 19 refl) (Run.no-more !))))) (λ u6 r6 ws6 is6′ e6.
-        Walk.returned W (((ν3 ∷ []), fullShare) ∷ []) (Walk.final (finally (UInt w64) δ3 (ws6 .0)) (length (ws6 .0)) (length (ws3 .1 .1 .1 .1 .0)) ∷
-        Walk.gone _ ∷ Walk.gone _ ∷ Walk.gone _ ∷ []) ! (id⊢ 𝓤 _) (λ len3.
+        ((((ν3 ∷ []), tt), (fullShare, tt), tt, ((record { ptr = (notes .ptr); name = δ3; now = (ws2 .1 .1 .1 .1 .0) }), (r4, (at, tt))), ((sliceVal (notes .ptr) (length (ws2 .1 .1 .1 .1 .0))) ∷ [], ((vint w64 r4) ∷ [], ((vint w64 at) ∷ [], tt)))), tt) _ (known-store-piece ((((ν3 ∷ []), tt), (fullShare, tt), tt, ((record { ptr = (notes .ptr); name = δ3; now = (ws2 .1 .1 .1 .1 .0) }), (r4, (at, tt))), ((sliceVal (notes .ptr) (length (ws2 .1 .1 .1 .1 .0))) ∷ [], ((vint w64 r4) ∷ [], ((vint w64 at) ∷ [], tt)))), tt)) (factI 𝓤 _ (emp 𝓤) (piece-fits pre e1 refl (eqb-false r1 0 t1) e2 len2 e3 e4)) (λ r ws. id⊢ 𝓤 _)
+        (Run.and-then ! (Walk.local ! 28 refl) (Run.and-then ! (Walk.local ! 29 refl) (Run.and-then ! (Walk.local ! 17 refl) (Run.no-more !))))
+        (λ u5 r5 ws5 is5′ e5.
+        Walk.returned W (((ν3 ∷ []), fullShare) ∷ []) (Walk.final (finally (UInt w64) δ3 (ws5 .0)) (length (ws5 .0)) (length (ws2 .1 .1 .1 .1 .0)) ∷
+        Walk.gone _ ∷ Walk.gone _ ∷ []) ! (id⊢ 𝓤 _) (λ len3.
         Walk.move ! (1 ∷ 1 ∷ 0 ∷ 2 ∷ []) (
-        Again.backs W (UInt w64) κ₂ q₂ notes (named 2) (named 0) (ws3 .1 .1 .1 .1 .0) ! tt (ws6 .0) ((subst (Slice.Room (UInt w64)) (sym len2)
+        Again.backs W (UInt w64) κ₂ q₂ notes (named 2) (named 0) (ws2 .1 .1 .1 .1 .0) ! tt (ws5 .0) ((subst (Slice.Room (UInt w64)) (sym len2)
         (is-notes .0 .1))) len3 (
-        Walk.lands-in ! (Walk.init-as ! 10 refl (LL.lawful Outcome-T.the-type Outcome-L.the-laws 𝓤 H A W .typed r6 _ is6′ .0)
-        (ap only (LL.tells Outcome-T.the-type Outcome-L.the-laws r6 _ is6′))) (
-        let is6 : Is Outcome-T.the-row r6 ((Outcome-L.lowered r6) ∷ []) = subst (λ (vs : List Val). Is Outcome-T.the-row r6 vs)
-        (LL.tells Outcome-T.the-type Outcome-L.the-laws r6 _ is6′) is6′ in
-        Walk.written-out ! (‵ (T-search-piece-notes .own (at-last notes (ws6 .0)) (sliceVal (notes .ptr) (length (ws6 .0)) ∷ [])) ∷ ‵ (flft κ₂ q₂) ∷
-        ‵ (fat fullShare Y-search-piece-notes l₅ 0 (sliceVal (notes .ptr) (length (ws6 .0)))) ∷ ‵ (flft κ₀ q₀) ∷
+        Walk.lands-in ! (Walk.init-as ! 26 refl (nothing-lawful 𝓤 H A W .typed r5 _ is5′ .0) (ap only (nothing-tells r5 _ is5′))) (
+        let is5 : Is Nothing r5 (vunit ∷ []) = subst (λ (vs : List Val). Is Nothing r5 vs) (nothing-tells r5 _ is5′) is5′ in
+        Walk.written-out ! (‵ (T-search-piece-notes .own (at-last notes (ws5 .0)) (sliceVal (notes .ptr) (length (ws5 .0)) ∷ [])) ∷ ‵ (flft κ₂ q₂) ∷
+        ‵ (fat fullShare Y-search-piece-notes l₅ 0 (sliceVal (notes .ptr) (length (ws5 .0)))) ∷ ‵ (flft κ₀ q₀) ∷
         ‵ (T-search-piece-nodes .own nodes (sliceVal (nodes .ptr) (length (nodes .now)) ∷ [])) ∷
-        ‵ (T-search-piece-dead .own (at-last dead (ws3 .1 .1 .1 .0)) (sliceVal (dead .ptr) (length (ws3 .1 .1 .1 .0)) ∷ [])) ∷ ‵ (flft κ₁ q₁) ∷
-        ‵ (fat fullShare Y-search-piece-dead l₄ 0 (sliceVal (dead .ptr) (length (ws3 .1 .1 .1 .0)))) ∷ ‵ (flft κ₃ q₃) ∷
-        ‵ (T-search-piece-line .own line (sliceVal (line .ptr) (length (line .now)) ∷ [])) ∷
-        ‵ (fat fullShare Outcome-L.mir l₀ 0 (Outcome-L.lowered r6)) ∷ ‵ (fat fullShare (tyInt w8) l₁ 0 (vint w8 left)) ∷
-        ‵ (fat fullShare (tyInt w8) l₂ 0 (vint w8 right)) ∷ ‵ (fat fullShare Y-search-piece-nodes l₃ 0 (sliceVal (nodes .ptr)
-        (length (nodes .now)))) ∷ ‵ (fat fullShare Y-search-piece-line l₆ 0 (sliceVal (line .ptr) (length (line .now)))) ∷
-        ‵ (fat fullShare (tyInt w64) l₇ 0 (vint w64 end)) ∷ ‵ (fat fullShare (tyInt w64) l₈ 0 (vint w64 node)) ∷
-        ‵ (fat fullShare (tyInt w64) l₉ 0 (vint w64 at)) ∷ ‵ (fat fullShare (tyInt w64) l₁₀ 0 (vint w64 r1)) ∷
-        ‵ (fat fullShare Outcome-L.mir l₁₁ 0 (Outcome-L.lowered r3)) ∷ ‵ (fat fullShare Node-L.mir l₁₂ 0 (Node-L.lowered r4)) ∷
-        ‵ (fat fullShare tyBool l₁₃ 0 (vbool (eqb (r3 .node) 0))) ∷
+        ‵ (T-search-piece-dead .own (at-last dead (ws2 .1 .1 .1 .0)) (sliceVal (dead .ptr) (length (ws2 .1 .1 .1 .0)) ∷ [])) ∷ ‵ (flft κ₁ q₁) ∷
+        ‵ (fat fullShare Y-search-piece-dead l₄ 0 (sliceVal (dead .ptr) (length (ws2 .1 .1 .1 .0)))) ∷ ‵ (flft κ₃ q₃) ∷
+        ‵ (T-search-piece-line .own line (sliceVal (line .ptr) (length (line .now)) ∷ [])) ∷ ‵ (froom (tyInt w64) l₀ 0) ∷
+        ‵ (fat fullShare (tyInt w8) l₁ 0 (vint w8 left)) ∷ ‵ (fat fullShare (tyInt w8) l₂ 0 (vint w8 right)) ∷
+        ‵ (fat fullShare Y-search-piece-nodes l₃ 0 (sliceVal (nodes .ptr) (length (nodes .now)))) ∷
+        ‵ (fat fullShare Y-search-piece-line l₆ 0 (sliceVal (line .ptr) (length (line .now)))) ∷ ‵ (fat fullShare (tyInt w64) l₇ 0 (vint w64 end)) ∷
+        ‵ (fat fullShare (tyInt w64) l₈ 0 (vint w64 node)) ∷ ‵ (fat fullShare (tyInt w64) l₉ 0 (vint w64 at)) ∷
+        ‵ (fat fullShare (tyInt w64) l₁₀ 0 (vint w64 r1)) ∷ ‵ (fat fullShare (tyInt w64) l₁₁ 0 (vint w64 r2)) ∷
+        ‵ (fat fullShare Node-L.mir l₁₂ 0 (Node-L.lowered r3)) ∷ ‵ (fat fullShare tyBool l₁₃ 0 (vbool (eqb r2 0))) ∷
         ‵ (fat fullShare (tyRef erased mut (pointee ((UInt w8) .written))) l₁₄ 0 (vptr (dead .ptr .0) (dead .ptr .1))) ∷
         ‵ (fat fullShare (sliceTy (tyRef erased mut (pointee ((UInt w8) .written)))) l₁₅ 0 (sliceVal (dead .ptr) (length (dead .now)))) ∷
         ‵ (fat fullShare (tyRef erased mut (pointee ((UInt w64) .written))) l₁₆ 0 (vptr (notes .ptr .0) (notes .ptr .1))) ∷
         ‵ (fat fullShare (sliceTy (tyRef erased mut (pointee ((UInt w64) .written)))) l₁₇ 0 (sliceVal (notes .ptr) (length (notes .now)))) ∷
-        ‵ (fat fullShare (tyRef erased mut (pointee ((UInt w64) .written))) l₁₈ 0 (vptr (notes .ptr .0) (notes .ptr .1))) ∷
-        ‵ (fat fullShare (sliceTy (tyRef erased mut (pointee ((UInt w64) .written)))) l₁₉ 0 (sliceVal (notes .ptr) (length (ws3 .1 .1 .1 .1 .0)))) ∷
-        ‵ (fat fullShare (tyInt w64) l₂₀ 0 (vint w64 r5)) ∷ ‵ Fd ∷ []) refl (
+        ‵ (fat fullShare tyUnit l₁₈ 0 vunit) ∷ ‵ (fat fullShare (tyRef erased mut (pointee ((UInt w64) .written))) l₁₉ 0 (vptr (notes .ptr .0)
+        (notes .ptr .1))) ∷ ‵ (fat fullShare (sliceTy (tyRef erased mut (pointee ((UInt w64) .written)))) l₂₀ 0 (sliceVal (notes .ptr)
+        (length (ws2 .1 .1 .1 .1 .0)))) ∷ ‵ (fat fullShare (tyInt w64) l₂₁ 0 (vint w64 r4)) ∷ ‵ Fd ∷ []) refl (
+        Walk.sets ! (Run.of-opd ! (Walk.local ! 19 refl)) (Run.init ! 10 refl ((tt, record { fits = is2 .1 }))) (
         Walk.returns-by ! Post-search-piece refl (Run.look ! 10 refl) (
-        Walk.move ! (10 ∷ 10 ∷ 10 ∷ 10 ∷ 7 ∷ 2 ∷ 8 ∷ 8 ∷ 8 ∷ 8 ∷ 8 ∷ 8 ∷ 8 ∷ 8 ∷ 8 ∷ 8 ∷ 8 ∷ 8 ∷ 8 ∷ 8 ∷ 8 ∷ 8 ∷ []) (
-        Walk.frees-gathered ! (Walk.full Outcome-L.mir l₀ (Outcome-L.lowered r6) ∷ Walk.full (tyInt w8) l₁ (vint w8 left) ∷
+        Walk.move ! (10 ∷ 10 ∷ 10 ∷ 10 ∷ 7 ∷ 2 ∷ 8 ∷ 8 ∷ 8 ∷ 8 ∷ 8 ∷ 8 ∷ 8 ∷ 8 ∷ 8 ∷ 8 ∷ 8 ∷ 8 ∷ 8 ∷ 8 ∷ 8 ∷ 8 ∷ 8 ∷ []) (
+        Walk.frees-gathered ! (Walk.full (tyInt w64) l₀ (vint w64 r2) ∷ Walk.full (tyInt w8) l₁ (vint w8 left) ∷
         Walk.full (tyInt w8) l₂ (vint w8 right) ∷ Walk.full Y-search-piece-nodes l₃ (sliceVal (nodes .ptr) (length (nodes .now))) ∷
-        Walk.full Y-search-piece-dead l₄ (sliceVal (dead .ptr) (length (ws3 .1 .1 .1 .0))) ∷
-        Walk.full Y-search-piece-notes l₅ (sliceVal (notes .ptr) (length (ws6 .0))) ∷ Walk.full Y-search-piece-line l₆ (sliceVal (line .ptr)
+        Walk.full Y-search-piece-dead l₄ (sliceVal (dead .ptr) (length (ws2 .1 .1 .1 .0))) ∷
+        Walk.full Y-search-piece-notes l₅ (sliceVal (notes .ptr) (length (ws5 .0))) ∷ Walk.full Y-search-piece-line l₆ (sliceVal (line .ptr)
         (length (line .now))) ∷ Walk.full (tyInt w64) l₇ (vint w64 end) ∷ Walk.full (tyInt w64) l₈ (vint w64 node) ∷
-        Walk.full (tyInt w64) l₉ (vint w64 at) ∷ Walk.full (tyInt w64) l₁₀ (vint w64 r1) ∷ Walk.full Outcome-L.mir l₁₁ (Outcome-L.lowered r3) ∷
-        Walk.full Node-L.mir l₁₂ (Node-L.lowered r4) ∷ Walk.full tyBool l₁₃ (vbool (eqb (r3 .node) 0)) ∷
+        Walk.full (tyInt w64) l₉ (vint w64 at) ∷ Walk.full (tyInt w64) l₁₀ (vint w64 r1) ∷ Walk.full (tyInt w64) l₁₁ (vint w64 r2) ∷
+        Walk.full Node-L.mir l₁₂ (Node-L.lowered r3) ∷ Walk.full tyBool l₁₃ (vbool (eqb r2 0)) ∷
         Walk.full (tyRef erased mut (pointee ((UInt w8) .written))) l₁₄ (vptr (dead .ptr .0) (dead .ptr .1)) ∷
         Walk.full (sliceTy (tyRef erased mut (pointee ((UInt w8) .written)))) l₁₅ (sliceVal (dead .ptr) (length (dead .now))) ∷
         Walk.full (tyRef erased mut (pointee ((UInt w64) .written))) l₁₆ (vptr (notes .ptr .0) (notes .ptr .1)) ∷
         Walk.full (sliceTy (tyRef erased mut (pointee ((UInt w64) .written)))) l₁₇ (sliceVal (notes .ptr) (length (notes .now))) ∷
-        Walk.full (tyRef erased mut (pointee ((UInt w64) .written))) l₁₈ (vptr (notes .ptr .0) (notes .ptr .1)) ∷
-        Walk.full (sliceTy (tyRef erased mut (pointee ((UInt w64) .written)))) l₁₉ (sliceVal (notes .ptr) (length (ws3 .1 .1 .1 .1 .0))) ∷
-        Walk.full (tyInt w64) l₂₀ (vint w64 r5) ∷ []) Fd ed (‵ (T-search-piece-notes .own (at-last notes (ws6 .0)) (sliceVal (notes .ptr)
-        (length (ws6 .0)) ∷ [])) ∷ ‵ (flft κ₂ q₂) ∷ ‵ (flft κ₀ q₀) ∷ ‵ (T-search-piece-nodes .own nodes (sliceVal (nodes .ptr)
-        (length (nodes .now)) ∷ [])) ∷ ‵ (T-search-piece-dead .own (at-last dead (ws3 .1 .1 .1 .0)) (sliceVal (dead .ptr)
-        (length (ws3 .1 .1 .1 .0)) ∷ [])) ∷ ‵ (flft κ₁ q₁) ∷ ‵ (flft κ₃ q₃) ∷ ‵ (T-search-piece-line .own line (sliceVal (line .ptr)
+        Walk.full tyUnit l₁₈ vunit ∷ Walk.full (tyRef erased mut (pointee ((UInt w64) .written))) l₁₉ (vptr (notes .ptr .0) (notes .ptr .1)) ∷
+        Walk.full (sliceTy (tyRef erased mut (pointee ((UInt w64) .written)))) l₂₀ (sliceVal (notes .ptr) (length (ws2 .1 .1 .1 .1 .0))) ∷
+        Walk.full (tyInt w64) l₂₁ (vint w64 r4) ∷ []) Fd ed (‵ (T-search-piece-notes .own (at-last notes (ws5 .0)) (sliceVal (notes .ptr)
+        (length (ws5 .0)) ∷ [])) ∷ ‵ (flft κ₂ q₂) ∷ ‵ (flft κ₀ q₀) ∷ ‵ (T-search-piece-nodes .own nodes (sliceVal (nodes .ptr)
+        (length (nodes .now)) ∷ [])) ∷ ‵ (T-search-piece-dead .own (at-last dead (ws2 .1 .1 .1 .0)) (sliceVal (dead .ptr)
+        (length (ws2 .1 .1 .1 .0)) ∷ [])) ∷ ‵ (flft κ₁ q₁) ∷ ‵ (flft κ₃ q₃) ∷ ‵ (T-search-piece-line .own line (sliceVal (line .ptr)
         (length (line .now)) ∷ [])) ∷ []) (
         Walk.move ! (4 ∷ 0 ∷ []) (
-        Walk.gives W (Walk.nothing ∷ Walk.nothing ∷ Walk.nothing ∷ Walk.turned (T-search-piece-dead .own (at-last dead (ws3 .1 .1 .1 .0))
-        (sliceVal (dead .ptr) (length (ws3 .1 .1 .1 .0)) ∷ [])) (finally (UInt w8) (dead .name) (ws3 .1 .1 .1 .0))
-        (Walk.ended-slice 𝓤 H A W (named 1) κ₁ (UInt w8) dead (ws3 .1 .1 .1 .0) _) ∷ Walk.turned (T-search-piece-notes .own (at-last notes (ws6 .0))
-        (sliceVal (notes .ptr) (length (ws6 .0)) ∷ [])) (finally (UInt w64) (notes .name) (ws6 .0))
-        (Walk.ended-slice 𝓤 H A W (named 2) κ₂ (UInt w64) notes (ws6 .0) _) ∷ Walk.nothing ∷ Walk.nothing ∷ Walk.nothing ∷ Walk.nothing ∷ []) _ ! (
+        Walk.gives W (Walk.nothing ∷ Walk.nothing ∷ Walk.nothing ∷ Walk.turned (T-search-piece-dead .own (at-last dead (ws2 .1 .1 .1 .0))
+        (sliceVal (dead .ptr) (length (ws2 .1 .1 .1 .0)) ∷ [])) (finally (UInt w8) (dead .name) (ws2 .1 .1 .1 .0))
+        (Walk.ended-slice 𝓤 H A W (named 1) κ₁ (UInt w8) dead (ws2 .1 .1 .1 .0) _) ∷ Walk.turned (T-search-piece-notes .own (at-last notes (ws5 .0))
+        (sliceVal (notes .ptr) (length (ws5 .0)) ∷ [])) (finally (UInt w64) (notes .name) (ws5 .0))
+        (Walk.ended-slice 𝓤 H A W (named 2) κ₂ (UInt w64) notes (ws5 .0) _) ∷ Walk.nothing ∷ Walk.nothing ∷ Walk.nothing ∷ Walk.nothing ∷ []) _ ! (
         Walk.move ! (2 ∷ 3 ∷ 1 ∷ 2 ∷ []) (
         Walk.tokens-in W ((κ₀, q₀) ∷ (κ₁, q₁) ∷ (κ₂, q₂) ∷ (κ₃, q₃) ∷ []) _ ! (alive 𝓤 H A f-search-piece.signature (κ₀, (κ₁, (κ₂, (κ₃, tt))))
         (q₀, (q₁, (q₂, (q₃, tt))))) (id⊢ 𝓤 _) (
-        Walk.use0 W ! (‵ (Outcome-T.the-row .own r6 ((Outcome-L.lowered r6) ∷ []))) (LL.makes Outcome-T.the-type Outcome-L.the-plain 𝓤 H A r6 _ is6) (
-        Walk.keep ! (1 ∷ 1 ∷ 0 ∷ []) (
-        Kit.by ! (Walk.leave-by 𝓤 H A W f-search-piece.ended (f-search-piece.clauses 𝓤 H A mem run) stayed-search-piece bound-search-piece (Outcome-L.lowered r6) r6 (tt, (tt, (tt, ((ws3 .1 .1 .1 .0), ((ws6 .0), (tt, (tt, (tt, (tt, tt))))))))) (tt, (tt, (tt, ((len1 ∙ refl), ((len3 ∙ (len2 ∙ refl)), (tt, (tt, (tt, (tt, tt))))))))) (factI 𝓤 _ (emp 𝓤) (piece-below pre e1 (eqb-false r1 0 t1) refl e3 (eqb-false (r3 .node) 0 t2) e4 e5 e6)))))))))))))))))))))))))))))))))))))))))))))))))))))))))))))))))))))))))))))))))))))))))))))))))))))))))))))))))))
+        Walk.use0 W ! (‵ ((UInt w64) .own r2 ((vint w64 r2) ∷ []))) (uint-makes 𝓤 H A W w64 r2 _ (refl, is2 .1)) (Walk.keep ! (1 ∷ 1 ∷ 0 ∷ []) (
+        Kit.by ! (Walk.leave-by 𝓤 H A W f-search-piece.ended (f-search-piece.clauses 𝓤 H A mem run) stayed-search-piece bound-search-piece (vint w64 r2) r2 (tt, (tt, (tt, ((ws2 .1 .1 .1 .0), ((ws5 .0), (tt, (tt, (tt, (tt, tt))))))))) (tt, (tt, (tt, ((len1 ∙ refl), ((len3 ∙ (len2 ∙ refl)), (tt, (tt, (tt, (tt, tt))))))))) (factI 𝓤 _ (emp 𝓤) (piece-below pre e1 (eqb-false r1 0 t1) refl e2 (eqb-false r2 0 t2) e3 e4 e5)))))))))))))))))))))))))))))))))))))))))))))))))))))))))))))))))))))))))))))))))))))))))))))))))))))))))))))))))))))
 
 module _ {M : Type 1} (𝓤 : URA M) (H : Heap 𝓤) (A : Atoms 𝓤) (W : Given 𝓤 H A) (mem : Memory → SProp 𝓤) (run : Routine → Fun 𝓤) (κ₀ : Lft)
     (q₀ : Share) (κ₁ : Lft) (q₁ : Share) (κ₂ : Lft) (q₂ : Share) (κ₃ : Lft) (q₃ : Share) (left : ℕ) (right : ℕ) (nodes : RefT (List Node))
@@ -2238,9 +2088,9 @@ module _ {M : Type 1} (𝓤 : URA M) (H : Heap 𝓤) (A : Atoms 𝓤) (W : Given
         l₁₃ ∷ l₁₄ ∷ l₁₅ ∷ l₁₆ ∷ l₁₇ ∷ l₁₈ ∷ l₁₉ ∷ l₂₀ ∷ l₂₁ ∷ l₂₂ ∷ l₂₃ ∷ l₂₄ ∷ []) in
         Walk.move ! (48 ∷ 48 ∷ 46 ∷ 46 ∷ 44 ∷ 44 ∷ 42 ∷ 42 ∷ 40 ∷ 40 ∷ 38 ∷ 38 ∷ 36 ∷ 36 ∷ 34 ∷ 34 ∷ 32 ∷ 32 ∷ 30 ∷ 30 ∷ 28 ∷ 28 ∷ 26 ∷ 26 ∷ 24 ∷
         24 ∷ 22 ∷ 22 ∷ 20 ∷ 20 ∷ 18 ∷ 18 ∷ 16 ∷ 16 ∷ 14 ∷ 14 ∷ 12 ∷ 12 ∷ 10 ∷ 10 ∷ 8 ∷ 8 ∷ 6 ∷ 6 ∷ 4 ∷ 4 ∷ 2 ∷ 2 ∷ 0 ∷ 0 ∷ []) (
-        Walk.gathers ! (Walk.bare Outcome-L.mir l₀ ∷ Walk.bare (tyInt w8) l₁ ∷ Walk.bare (tyInt w8) l₂ ∷ Walk.bare Y-take-up-nodes l₃ ∷
+        Walk.gathers ! (Walk.bare (tyInt w64) l₀ ∷ Walk.bare (tyInt w8) l₁ ∷ Walk.bare (tyInt w8) l₂ ∷ Walk.bare Y-take-up-nodes l₃ ∷
         Walk.bare Y-take-up-dead l₄ ∷ Walk.bare Y-take-up-notes l₅ ∷ Walk.bare Y-take-up-line l₆ ∷ Walk.bare (tyInt w64) l₇ ∷
-        Walk.bare (tyInt w64) l₈ ∷ Walk.bare (tyInt w64) l₉ ∷ Walk.bare Outcome-L.mir l₁₀ ∷ Walk.bare Outcome-L.mir l₁₁ ∷
+        Walk.bare (tyInt w64) l₈ ∷ Walk.bare (tyInt w64) l₉ ∷ Walk.bare (tyInt w64) l₁₀ ∷ Walk.bare (tyInt w64) l₁₁ ∷
         Walk.bare (tyRef erased mut (pointee ((UInt w8) .written))) l₁₂ ∷
         Walk.bare (sliceTy (tyRef erased mut (pointee ((UInt w8) .written)))) l₁₃ ∷
         Walk.bare (tyRef erased mut (pointee ((UInt w64) .written))) l₁₄ ∷
@@ -2304,20 +2154,18 @@ module _ {M : Type 1} (𝓤 : URA M) (H : Heap 𝓤) (A : Atoms 𝓤) (W : Given
         Again.backs W (UInt w8) κ₁ q₁ dead (named 1) (named 1) (dead .now) ! tt (ws1 .1 .1 .1 .0) (is-dead .0 .1) len1 (
         Walk.move ! (5 ∷ 8 ∷ 3 ∷ 11 ∷ []) (
         Again.backs W (UInt w64) κ₂ q₂ notes (named 2) (named 2) (notes .now) ! tt (ws1 .1 .1 .1 .1 .0) (is-notes .0 .1) len2 (
-        Walk.lands-in ! (Walk.init-as ! 18 refl (LL.lawful Outcome-T.the-type Outcome-L.the-laws 𝓤 H A W .typed r1 _ is1′ .0)
-        (ap only (LL.tells Outcome-T.the-type Outcome-L.the-laws r1 _ is1′))) (
-        let is1 : Is Outcome-T.the-row r1 ((Outcome-L.lowered r1) ∷ []) = subst (λ (vs : List Val). Is Outcome-T.the-row r1 vs)
-        (LL.tells Outcome-T.the-type Outcome-L.the-laws r1 _ is1′) is1′ in
+        Walk.lands-in ! (Walk.init-as ! 18 refl (uint-lawful 𝓤 H A W w64 .typed r1 _ is1′ .0) (ap only (uint-tells w64 r1 _ is1′))) (
+        let is1 : Is (UInt w64) r1 ((vint w64 r1) ∷ []) = subst (λ (vs : List Val). Is (UInt w64) r1 vs) (uint-tells w64 r1 _ is1′) is1′ in
         Walk.written-out ! (‵ (T-take-up-notes .own (at-last notes (ws1 .1 .1 .1 .1 .0)) (sliceVal (notes .ptr) (length (ws1 .1 .1 .1 .1 .0)) ∷
         [])) ∷ ‵ (flft κ₂ q₂) ∷ ‵ (fat fullShare Y-take-up-notes l₅ 0 (sliceVal (notes .ptr) (length (ws1 .1 .1 .1 .1 .0)))) ∷
         ‵ (T-take-up-dead .own (at-last dead (ws1 .1 .1 .1 .0)) (sliceVal (dead .ptr) (length (ws1 .1 .1 .1 .0)) ∷ [])) ∷ ‵ (flft κ₁ q₁) ∷
         ‵ (fat fullShare Y-take-up-dead l₄ 0 (sliceVal (dead .ptr) (length (ws1 .1 .1 .1 .0)))) ∷ ‵ (flft κ₀ q₀) ∷ ‵ (flft κ₃ q₃) ∷
         ‵ (T-take-up-nodes .own nodes (sliceVal (nodes .ptr) (length (nodes .now)) ∷ [])) ∷ ‵ (T-take-up-line .own line (sliceVal (line .ptr)
-        (length (line .now)) ∷ [])) ∷ ‵ (froom Outcome-L.mir l₀ 0) ∷ ‵ (fat fullShare (tyInt w8) l₁ 0 (vint w8 left)) ∷
+        (length (line .now)) ∷ [])) ∷ ‵ (froom (tyInt w64) l₀ 0) ∷ ‵ (fat fullShare (tyInt w8) l₁ 0 (vint w8 left)) ∷
         ‵ (fat fullShare (tyInt w8) l₂ 0 (vint w8 right)) ∷ ‵ (fat fullShare Y-take-up-nodes l₃ 0 (sliceVal (nodes .ptr) (length (nodes .now)))) ∷
         ‵ (fat fullShare Y-take-up-line l₆ 0 (sliceVal (line .ptr) (length (line .now)))) ∷ ‵ (fat fullShare (tyInt w64) l₇ 0 (vint w64 end)) ∷
         ‵ (fat fullShare (tyInt w64) l₈ 0 (vint w64 node)) ∷ ‵ (fat fullShare (tyInt w64) l₉ 0 (vint w64 at)) ∷
-        ‵ (fat fullShare Outcome-L.mir l₁₀ 0 (Outcome-L.lowered r1)) ∷ ‵ (froom Outcome-L.mir l₁₁ 0) ∷
+        ‵ (fat fullShare (tyInt w64) l₁₀ 0 (vint w64 r1)) ∷ ‵ (froom (tyInt w64) l₁₁ 0) ∷
         ‵ (fat fullShare (tyRef erased mut (pointee ((UInt w8) .written))) l₁₂ 0 (vptr (dead .ptr .0) (dead .ptr .1))) ∷
         ‵ (fat fullShare (sliceTy (tyRef erased mut (pointee ((UInt w8) .written)))) l₁₃ 0 (sliceVal (dead .ptr) (length (dead .now)))) ∷
         ‵ (fat fullShare (tyRef erased mut (pointee ((UInt w64) .written))) l₁₄ 0 (vptr (notes .ptr .0) (notes .ptr .1))) ∷
@@ -2330,24 +2178,23 @@ module _ {M : Type 1} (𝓤 : URA M) (H : Heap 𝓤) (A : Atoms 𝓤) (W : Given
         ‵ (froom (sliceTy (tyRef erased mut (pointee ((UInt w8) .written)))) l₂₂ 0) ∷
         ‵ (froom (tyRef erased mut (pointee ((UInt w64) .written))) l₂₃ 0) ∷
         ‵ (froom (sliceTy (tyRef erased mut (pointee ((UInt w64) .written)))) l₂₄ 0) ∷ ‵ Fd ∷ []) refl (
-        Walk.sets ! (Run.bin ! (Walk.part ! 18 refl refl refl) (Run.lit ! tt) tt) (Run.init ! 24 refl ((tt, tt))) (Walk.first-then ! (
+        Walk.sets ! (Run.bin ! (Walk.local ! 18 refl) (Run.lit ! tt) tt) (Run.init ! 24 refl ((tt, tt))) (Walk.first-then ! (
         Run.branches ! (Walk.local ! 24 refl)
-        (λ h1. let t1 : (not (eqb (r1 .node) 0)) ≡ true = Walk.is-true _ h1 in
-        Walk.sets ! (Run.of-opd ! (Walk.local ! 18 refl))
-        (Run.init ! 10 refl (LL.lawful Outcome-T.the-type Outcome-L.the-laws 𝓤 H A W .typed r1 _ is1 .0)) (
+        (λ h1. let t1 : (not (eqb r1 0)) ≡ true = Walk.is-true _ h1 in
+        Walk.sets ! (Run.of-opd ! (Walk.local ! 18 refl)) (Run.init ! 10 refl ((tt, record { fits = is1 .1 }))) (
         Walk.returns-by ! Post-take-up (Walk.through 𝓤 H C Λ E _ _ Post-take-up refl) (Run.look ! 10 refl) (
         Walk.move ! (10 ∷ 10 ∷ 10 ∷ 10 ∷ 5 ∷ 2 ∷ 8 ∷ 8 ∷ 8 ∷ 8 ∷ 8 ∷ 8 ∷ 8 ∷ 8 ∷ 8 ∷ 8 ∷ 8 ∷ 8 ∷ 8 ∷ 8 ∷ 8 ∷ 8 ∷ 8 ∷ 8 ∷ 8 ∷ 8 ∷ []) (
-        Walk.frees-gathered ! (Walk.full Outcome-L.mir l₀ (Outcome-L.lowered r1) ∷ Walk.full (tyInt w8) l₁ (vint w8 left) ∷
+        Walk.frees-gathered ! (Walk.full (tyInt w64) l₀ (vint w64 r1) ∷ Walk.full (tyInt w8) l₁ (vint w8 left) ∷
         Walk.full (tyInt w8) l₂ (vint w8 right) ∷ Walk.full Y-take-up-nodes l₃ (sliceVal (nodes .ptr) (length (nodes .now))) ∷
         Walk.full Y-take-up-dead l₄ (sliceVal (dead .ptr) (length (ws1 .1 .1 .1 .0))) ∷ Walk.full Y-take-up-notes l₅ (sliceVal (notes .ptr)
         (length (ws1 .1 .1 .1 .1 .0))) ∷ Walk.full Y-take-up-line l₆ (sliceVal (line .ptr) (length (line .now))) ∷
         Walk.full (tyInt w64) l₇ (vint w64 end) ∷ Walk.full (tyInt w64) l₈ (vint w64 node) ∷ Walk.full (tyInt w64) l₉ (vint w64 at) ∷
-        Walk.full Outcome-L.mir l₁₀ (Outcome-L.lowered r1) ∷ Walk.bare Outcome-L.mir l₁₁ ∷
+        Walk.full (tyInt w64) l₁₀ (vint w64 r1) ∷ Walk.bare (tyInt w64) l₁₁ ∷
         Walk.full (tyRef erased mut (pointee ((UInt w8) .written))) l₁₂ (vptr (dead .ptr .0) (dead .ptr .1)) ∷
         Walk.full (sliceTy (tyRef erased mut (pointee ((UInt w8) .written)))) l₁₃ (sliceVal (dead .ptr) (length (dead .now))) ∷
         Walk.full (tyRef erased mut (pointee ((UInt w64) .written))) l₁₄ (vptr (notes .ptr .0) (notes .ptr .1)) ∷
         Walk.full (sliceTy (tyRef erased mut (pointee ((UInt w64) .written)))) l₁₅ (sliceVal (notes .ptr) (length (notes .now))) ∷
-        Walk.full tyBool l₁₆ (vbool (not (eqb (r1 .node) 0))) ∷ Walk.bare (tyRef erased mut (pointee ((UInt w8) .written))) l₁₇ ∷
+        Walk.full tyBool l₁₆ (vbool (not (eqb r1 0))) ∷ Walk.bare (tyRef erased mut (pointee ((UInt w8) .written))) l₁₇ ∷
         Walk.bare (sliceTy (tyRef erased mut (pointee ((UInt w8) .written)))) l₁₈ ∷
         Walk.bare (tyRef erased mut (pointee ((UInt w64) .written))) l₁₉ ∷
         Walk.bare (sliceTy (tyRef erased mut (pointee ((UInt w64) .written)))) l₂₀ ∷
@@ -2369,10 +2216,9 @@ module _ {M : Type 1} (𝓤 : URA M) (H : Heap 𝓤) (A : Atoms 𝓤) (W : Given
         Walk.move ! (3 ∷ 2 ∷ 1 ∷ 1 ∷ []) (
         Walk.tokens-in W ((κ₀, q₀) ∷ (κ₁, q₁) ∷ (κ₂, q₂) ∷ (κ₃, q₃) ∷ []) _ ! (alive 𝓤 H A f-take-up.signature (κ₀, (κ₁, (κ₂, (κ₃, tt))))
         (q₀, (q₁, (q₂, (q₃, tt))))) (id⊢ 𝓤 _) (
-        Walk.use0 W ! (‵ (Outcome-T.the-row .own r1 ((Outcome-L.lowered r1) ∷ []))) (LL.makes Outcome-T.the-type Outcome-L.the-plain 𝓤 H A r1 _ is1) (
-        Walk.keep ! (1 ∷ 1 ∷ 0 ∷ []) (
-        Kit.by ! (Walk.leave-by 𝓤 H A W f-take-up.ended (f-take-up.clauses 𝓤 H A mem run) stayed-take-up bound-take-up (Outcome-L.lowered r1) r1 (tt, (tt, (tt, ((ws1 .1 .1 .1 .0), ((ws1 .1 .1 .1 .1 .0), (tt, (tt, (tt, (tt, tt))))))))) (tt, (tt, (tt, ((len1 ∙ refl), ((len2 ∙ refl), (tt, (tt, (tt, (tt, tt))))))))) (factI 𝓤 _ (emp 𝓤) (first-found e1 (eqb-false (r1 .node) 0 (not-true _ t1))))))))))))))))
-        (λ h1. let t1 : (not (eqb (r1 .node) 0)) ≡ false = Walk.is-false _ h1 in
+        Walk.use0 W ! (‵ ((UInt w64) .own r1 ((vint w64 r1) ∷ []))) (uint-makes 𝓤 H A W w64 r1 _ (refl, is1 .1)) (Walk.keep ! (1 ∷ 1 ∷ 0 ∷ []) (
+        Kit.by ! (Walk.leave-by 𝓤 H A W f-take-up.ended (f-take-up.clauses 𝓤 H A mem run) stayed-take-up bound-take-up (vint w64 r1) r1 (tt, (tt, (tt, ((ws1 .1 .1 .1 .0), ((ws1 .1 .1 .1 .1 .0), (tt, (tt, (tt, (tt, tt))))))))) (tt, (tt, (tt, ((len1 ∙ refl), ((len2 ∙ refl), (tt, (tt, (tt, (tt, tt))))))))) (factI 𝓤 _ (emp 𝓤) (first-found e1 (eqb-false r1 0 (not-true _ t1))))))))))))))))
+        (λ h1. let t1 : (not (eqb r1 0)) ≡ false = Walk.is-false _ h1 in
         Walk.skips-then ! (
         Walk.sets ! (Run.addr ! (Run.from ! (Run.fld ! refl (Run.hop ! (Part.look-in ! 5 (Part.sub ! 0 refl (Part.whole !))) (Run.stop !)))))
         (Run.init ! 25 refl ((tt, tt))) (
@@ -2417,25 +2263,23 @@ module _ {M : Type 1} (𝓤 : URA M) (H : Heap 𝓤) (A : Atoms 𝓤) (W : Given
         Walk.move ! (5 ∷ 8 ∷ 3 ∷ 7 ∷ []) (
         Again.backs W (UInt w64) κ₂ q₂ notes (named 2) (named 2) (ws1 .1 .1 .1 .1 .0) ! tt (ws2 .1 .1 .1 .1 .0) ((subst (Slice.Room (UInt w64))
         (sym len2) (is-notes .0 .1))) len4 (
-        Walk.lands-in ! (Walk.init-as ! 19 refl (LL.lawful Outcome-T.the-type Outcome-L.the-laws 𝓤 H A W .typed r2 _ is2′ .0)
-        (ap only (LL.tells Outcome-T.the-type Outcome-L.the-laws r2 _ is2′))) (
-        let is2 : Is Outcome-T.the-row r2 ((Outcome-L.lowered r2) ∷ []) = subst (λ (vs : List Val). Is Outcome-T.the-row r2 vs)
-        (LL.tells Outcome-T.the-type Outcome-L.the-laws r2 _ is2′) is2′ in
+        Walk.lands-in ! (Walk.init-as ! 19 refl (uint-lawful 𝓤 H A W w64 .typed r2 _ is2′ .0) (ap only (uint-tells w64 r2 _ is2′))) (
+        let is2 : Is (UInt w64) r2 ((vint w64 r2) ∷ []) = subst (λ (vs : List Val). Is (UInt w64) r2 vs) (uint-tells w64 r2 _ is2′) is2′ in
         Walk.written-out ! (‵ (T-take-up-notes .own (at-last notes (ws2 .1 .1 .1 .1 .0)) (sliceVal (notes .ptr) (length (ws2 .1 .1 .1 .1 .0)) ∷
         [])) ∷ ‵ (flft κ₂ q₂) ∷ ‵ (fat fullShare Y-take-up-notes l₅ 0 (sliceVal (notes .ptr) (length (ws2 .1 .1 .1 .1 .0)))) ∷
         ‵ (T-take-up-dead .own (at-last dead (ws2 .1 .1 .1 .0)) (sliceVal (dead .ptr) (length (ws2 .1 .1 .1 .0)) ∷ [])) ∷ ‵ (flft κ₁ q₁) ∷
         ‵ (fat fullShare Y-take-up-dead l₄ 0 (sliceVal (dead .ptr) (length (ws2 .1 .1 .1 .0)))) ∷ ‵ (flft κ₀ q₀) ∷ ‵ (flft κ₃ q₃) ∷
         ‵ (T-take-up-nodes .own nodes (sliceVal (nodes .ptr) (length (nodes .now)) ∷ [])) ∷ ‵ (T-take-up-line .own line (sliceVal (line .ptr)
-        (length (line .now)) ∷ [])) ∷ ‵ (froom Outcome-L.mir l₀ 0) ∷ ‵ (fat fullShare (tyInt w8) l₁ 0 (vint w8 left)) ∷
+        (length (line .now)) ∷ [])) ∷ ‵ (froom (tyInt w64) l₀ 0) ∷ ‵ (fat fullShare (tyInt w8) l₁ 0 (vint w8 left)) ∷
         ‵ (fat fullShare (tyInt w8) l₂ 0 (vint w8 right)) ∷ ‵ (fat fullShare Y-take-up-nodes l₃ 0 (sliceVal (nodes .ptr) (length (nodes .now)))) ∷
         ‵ (fat fullShare Y-take-up-line l₆ 0 (sliceVal (line .ptr) (length (line .now)))) ∷ ‵ (fat fullShare (tyInt w64) l₇ 0 (vint w64 end)) ∷
         ‵ (fat fullShare (tyInt w64) l₈ 0 (vint w64 node)) ∷ ‵ (fat fullShare (tyInt w64) l₉ 0 (vint w64 at)) ∷
-        ‵ (fat fullShare Outcome-L.mir l₁₀ 0 (Outcome-L.lowered r1)) ∷ ‵ (fat fullShare Outcome-L.mir l₁₁ 0 (Outcome-L.lowered r2)) ∷
+        ‵ (fat fullShare (tyInt w64) l₁₀ 0 (vint w64 r1)) ∷ ‵ (fat fullShare (tyInt w64) l₁₁ 0 (vint w64 r2)) ∷
         ‵ (fat fullShare (tyRef erased mut (pointee ((UInt w8) .written))) l₁₂ 0 (vptr (dead .ptr .0) (dead .ptr .1))) ∷
         ‵ (fat fullShare (sliceTy (tyRef erased mut (pointee ((UInt w8) .written)))) l₁₃ 0 (sliceVal (dead .ptr) (length (dead .now)))) ∷
         ‵ (fat fullShare (tyRef erased mut (pointee ((UInt w64) .written))) l₁₄ 0 (vptr (notes .ptr .0) (notes .ptr .1))) ∷
         ‵ (fat fullShare (sliceTy (tyRef erased mut (pointee ((UInt w64) .written)))) l₁₅ 0 (sliceVal (notes .ptr) (length (notes .now)))) ∷
-        ‵ (fat fullShare tyBool l₁₆ 0 (vbool (not (eqb (r1 .node) 0)))) ∷
+        ‵ (fat fullShare tyBool l₁₆ 0 (vbool (not (eqb r1 0)))) ∷
         ‵ (fat fullShare (tyRef erased mut (pointee ((UInt w8) .written))) l₁₇ 0 (vptr (dead .ptr .0) (dead .ptr .1))) ∷
         ‵ (fat fullShare (sliceTy (tyRef erased mut (pointee ((UInt w8) .written)))) l₁₈ 0 (sliceVal (dead .ptr) (length (ws1 .1 .1 .1 .0)))) ∷
         ‵ (fat fullShare (tyRef erased mut (pointee ((UInt w64) .written))) l₁₉ 0 (vptr (notes .ptr .0) (notes .ptr .1))) ∷
@@ -2444,24 +2288,23 @@ module _ {M : Type 1} (𝓤 : URA M) (H : Heap 𝓤) (A : Atoms 𝓤) (W : Given
         ‵ (froom (sliceTy (tyRef erased mut (pointee ((UInt w8) .written)))) l₂₂ 0) ∷
         ‵ (froom (tyRef erased mut (pointee ((UInt w64) .written))) l₂₃ 0) ∷
         ‵ (froom (sliceTy (tyRef erased mut (pointee ((UInt w64) .written)))) l₂₄ 0) ∷ ‵ Fd ∷ []) refl (
-        Walk.sets ! (Run.bin ! (Walk.part ! 19 refl refl refl) (Run.lit ! tt) tt) (Run.store ! 24 refl ((tt, tt))) (Walk.first-then ! (
+        Walk.sets ! (Run.bin ! (Walk.local ! 19 refl) (Run.lit ! tt) tt) (Run.store ! 24 refl ((tt, tt))) (Walk.first-then ! (
         Run.branches ! (Walk.local ! 24 refl)
-        (λ h2. let t2 : (not (eqb (r2 .node) 0)) ≡ true = Walk.is-true _ h2 in
-        Walk.sets ! (Run.of-opd ! (Walk.local ! 19 refl))
-        (Run.init ! 10 refl (LL.lawful Outcome-T.the-type Outcome-L.the-laws 𝓤 H A W .typed r2 _ is2 .0)) (
+        (λ h2. let t2 : (not (eqb r2 0)) ≡ true = Walk.is-true _ h2 in
+        Walk.sets ! (Run.of-opd ! (Walk.local ! 19 refl)) (Run.init ! 10 refl ((tt, record { fits = is2 .1 }))) (
         Walk.returns-by ! Post-take-up (Walk.through 𝓤 H C Λ E _ _ Post-take-up refl) (Run.look ! 10 refl) (
         Walk.move ! (10 ∷ 10 ∷ 10 ∷ 10 ∷ 5 ∷ 2 ∷ 8 ∷ 8 ∷ 8 ∷ 8 ∷ 8 ∷ 8 ∷ 8 ∷ 8 ∷ 8 ∷ 8 ∷ 8 ∷ 8 ∷ 8 ∷ 8 ∷ 8 ∷ 8 ∷ 8 ∷ 8 ∷ 8 ∷ 8 ∷ []) (
-        Walk.frees-gathered ! (Walk.full Outcome-L.mir l₀ (Outcome-L.lowered r2) ∷ Walk.full (tyInt w8) l₁ (vint w8 left) ∷
+        Walk.frees-gathered ! (Walk.full (tyInt w64) l₀ (vint w64 r2) ∷ Walk.full (tyInt w8) l₁ (vint w8 left) ∷
         Walk.full (tyInt w8) l₂ (vint w8 right) ∷ Walk.full Y-take-up-nodes l₃ (sliceVal (nodes .ptr) (length (nodes .now))) ∷
         Walk.full Y-take-up-dead l₄ (sliceVal (dead .ptr) (length (ws2 .1 .1 .1 .0))) ∷ Walk.full Y-take-up-notes l₅ (sliceVal (notes .ptr)
         (length (ws2 .1 .1 .1 .1 .0))) ∷ Walk.full Y-take-up-line l₆ (sliceVal (line .ptr) (length (line .now))) ∷
         Walk.full (tyInt w64) l₇ (vint w64 end) ∷ Walk.full (tyInt w64) l₈ (vint w64 node) ∷ Walk.full (tyInt w64) l₉ (vint w64 at) ∷
-        Walk.full Outcome-L.mir l₁₀ (Outcome-L.lowered r1) ∷ Walk.full Outcome-L.mir l₁₁ (Outcome-L.lowered r2) ∷
+        Walk.full (tyInt w64) l₁₀ (vint w64 r1) ∷ Walk.full (tyInt w64) l₁₁ (vint w64 r2) ∷
         Walk.full (tyRef erased mut (pointee ((UInt w8) .written))) l₁₂ (vptr (dead .ptr .0) (dead .ptr .1)) ∷
         Walk.full (sliceTy (tyRef erased mut (pointee ((UInt w8) .written)))) l₁₃ (sliceVal (dead .ptr) (length (dead .now))) ∷
         Walk.full (tyRef erased mut (pointee ((UInt w64) .written))) l₁₄ (vptr (notes .ptr .0) (notes .ptr .1)) ∷
         Walk.full (sliceTy (tyRef erased mut (pointee ((UInt w64) .written)))) l₁₅ (sliceVal (notes .ptr) (length (notes .now))) ∷
-        Walk.full tyBool l₁₆ (vbool (not (eqb (r2 .node) 0))) ∷ Walk.full (tyRef erased mut (pointee ((UInt w8) .written))) l₁₇ (vptr (dead .ptr .0)
+        Walk.full tyBool l₁₆ (vbool (not (eqb r2 0))) ∷ Walk.full (tyRef erased mut (pointee ((UInt w8) .written))) l₁₇ (vptr (dead .ptr .0)
         (dead .ptr .1)) ∷ Walk.full (sliceTy (tyRef erased mut (pointee ((UInt w8) .written)))) l₁₈ (sliceVal (dead .ptr)
         (length (ws1 .1 .1 .1 .0))) ∷ Walk.full (tyRef erased mut (pointee ((UInt w64) .written))) l₁₉ (vptr (notes .ptr .0) (notes .ptr .1)) ∷
         Walk.full (sliceTy (tyRef erased mut (pointee ((UInt w64) .written)))) l₂₀ (sliceVal (notes .ptr) (length (ws1 .1 .1 .1 .1 .0))) ∷
@@ -2483,10 +2326,9 @@ module _ {M : Type 1} (𝓤 : URA M) (H : Heap 𝓤) (A : Atoms 𝓤) (W : Given
         Walk.move ! (3 ∷ 2 ∷ 1 ∷ 1 ∷ []) (
         Walk.tokens-in W ((κ₀, q₀) ∷ (κ₁, q₁) ∷ (κ₂, q₂) ∷ (κ₃, q₃) ∷ []) _ ! (alive 𝓤 H A f-take-up.signature (κ₀, (κ₁, (κ₂, (κ₃, tt))))
         (q₀, (q₁, (q₂, (q₃, tt))))) (id⊢ 𝓤 _) (
-        Walk.use0 W ! (‵ (Outcome-T.the-row .own r2 ((Outcome-L.lowered r2) ∷ []))) (LL.makes Outcome-T.the-type Outcome-L.the-plain 𝓤 H A r2 _ is2) (
-        Walk.keep ! (1 ∷ 1 ∷ 0 ∷ []) (
-        Kit.by ! (Walk.leave-by 𝓤 H A W f-take-up.ended (f-take-up.clauses 𝓤 H A mem run) stayed-take-up bound-take-up (Outcome-L.lowered r2) r2 (tt, (tt, (tt, ((ws2 .1 .1 .1 .0), ((ws2 .1 .1 .1 .1 .0), (tt, (tt, (tt, (tt, tt))))))))) (tt, (tt, (tt, ((len3 ∙ (len1 ∙ refl)), ((len4 ∙ (len2 ∙ refl)), (tt, (tt, (tt, (tt, tt))))))))) (factI 𝓤 _ (emp 𝓤) (second-found e1 (eqb-true (r1 .node) 0 (not-false _ t1)) e2 (eqb-false (r2 .node) 0 (not-true _ t2))))))))))))))))
-        (λ h2. let t2 : (not (eqb (r2 .node) 0)) ≡ false = Walk.is-false _ h2 in
+        Walk.use0 W ! (‵ ((UInt w64) .own r2 ((vint w64 r2) ∷ []))) (uint-makes 𝓤 H A W w64 r2 _ (refl, is2 .1)) (Walk.keep ! (1 ∷ 1 ∷ 0 ∷ []) (
+        Kit.by ! (Walk.leave-by 𝓤 H A W f-take-up.ended (f-take-up.clauses 𝓤 H A mem run) stayed-take-up bound-take-up (vint w64 r2) r2 (tt, (tt, (tt, ((ws2 .1 .1 .1 .0), ((ws2 .1 .1 .1 .1 .0), (tt, (tt, (tt, (tt, tt))))))))) (tt, (tt, (tt, ((len3 ∙ (len1 ∙ refl)), ((len4 ∙ (len2 ∙ refl)), (tt, (tt, (tt, (tt, tt))))))))) (factI 𝓤 _ (emp 𝓤) (second-found e1 (eqb-true r1 0 (not-false _ t1)) e2 (eqb-false r2 0 (not-true _ t2))))))))))))))))
+        (λ h2. let t2 : (not (eqb r2 0)) ≡ false = Walk.is-false _ h2 in
         Walk.skips-then ! (
         Walk.sets ! (Run.addr ! (Run.from ! (Run.fld ! refl (Run.hop ! (Part.look-in ! 5 (Part.sub ! 0 refl (Part.whole !))) (Run.stop !)))))
         (Run.init ! 29 refl ((tt, tt))) (
@@ -2531,26 +2373,23 @@ module _ {M : Type 1} (𝓤 : URA M) (H : Heap 𝓤) (A : Atoms 𝓤) (W : Given
         Walk.move ! (5 ∷ 8 ∷ 3 ∷ 7 ∷ []) (
         Again.backs W (UInt w64) κ₂ q₂ notes (named 2) (named 2) (ws2 .1 .1 .1 .1 .0) ! tt (ws3 .1 .1 .1 .1 .0) ((subst (Slice.Room (UInt w64))
         (sym len4) ((subst (Slice.Room (UInt w64)) (sym len2) (is-notes .0 .1))))) len6 (
-        Walk.lands-in ! (Walk.init-as ! 10 refl (LL.lawful Outcome-T.the-type Outcome-L.the-laws 𝓤 H A W .typed r3 _ is3′ .0)
-        (ap only (LL.tells Outcome-T.the-type Outcome-L.the-laws r3 _ is3′))) (
-        let is3 : Is Outcome-T.the-row r3 ((Outcome-L.lowered r3) ∷ []) = subst (λ (vs : List Val). Is Outcome-T.the-row r3 vs)
-        (LL.tells Outcome-T.the-type Outcome-L.the-laws r3 _ is3′) is3′ in
+        Walk.lands-in ! (Walk.init-as ! 10 refl (uint-lawful 𝓤 H A W w64 .typed r3 _ is3′ .0) (ap only (uint-tells w64 r3 _ is3′))) (
+        let is3 : Is (UInt w64) r3 ((vint w64 r3) ∷ []) = subst (λ (vs : List Val). Is (UInt w64) r3 vs) (uint-tells w64 r3 _ is3′) is3′ in
         Walk.written-out ! (‵ (T-take-up-notes .own (at-last notes (ws3 .1 .1 .1 .1 .0)) (sliceVal (notes .ptr) (length (ws3 .1 .1 .1 .1 .0)) ∷
         [])) ∷ ‵ (flft κ₂ q₂) ∷ ‵ (fat fullShare Y-take-up-notes l₅ 0 (sliceVal (notes .ptr) (length (ws3 .1 .1 .1 .1 .0)))) ∷
         ‵ (T-take-up-dead .own (at-last dead (ws3 .1 .1 .1 .0)) (sliceVal (dead .ptr) (length (ws3 .1 .1 .1 .0)) ∷ [])) ∷ ‵ (flft κ₁ q₁) ∷
         ‵ (fat fullShare Y-take-up-dead l₄ 0 (sliceVal (dead .ptr) (length (ws3 .1 .1 .1 .0)))) ∷ ‵ (flft κ₀ q₀) ∷ ‵ (flft κ₃ q₃) ∷
         ‵ (T-take-up-nodes .own nodes (sliceVal (nodes .ptr) (length (nodes .now)) ∷ [])) ∷ ‵ (T-take-up-line .own line (sliceVal (line .ptr)
-        (length (line .now)) ∷ [])) ∷ ‵ (fat fullShare Outcome-L.mir l₀ 0 (Outcome-L.lowered r3)) ∷
-        ‵ (fat fullShare (tyInt w8) l₁ 0 (vint w8 left)) ∷ ‵ (fat fullShare (tyInt w8) l₂ 0 (vint w8 right)) ∷
-        ‵ (fat fullShare Y-take-up-nodes l₃ 0 (sliceVal (nodes .ptr) (length (nodes .now)))) ∷
+        (length (line .now)) ∷ [])) ∷ ‵ (fat fullShare (tyInt w64) l₀ 0 (vint w64 r3)) ∷ ‵ (fat fullShare (tyInt w8) l₁ 0 (vint w8 left)) ∷
+        ‵ (fat fullShare (tyInt w8) l₂ 0 (vint w8 right)) ∷ ‵ (fat fullShare Y-take-up-nodes l₃ 0 (sliceVal (nodes .ptr) (length (nodes .now)))) ∷
         ‵ (fat fullShare Y-take-up-line l₆ 0 (sliceVal (line .ptr) (length (line .now)))) ∷ ‵ (fat fullShare (tyInt w64) l₇ 0 (vint w64 end)) ∷
         ‵ (fat fullShare (tyInt w64) l₈ 0 (vint w64 node)) ∷ ‵ (fat fullShare (tyInt w64) l₉ 0 (vint w64 at)) ∷
-        ‵ (fat fullShare Outcome-L.mir l₁₀ 0 (Outcome-L.lowered r1)) ∷ ‵ (fat fullShare Outcome-L.mir l₁₁ 0 (Outcome-L.lowered r2)) ∷
+        ‵ (fat fullShare (tyInt w64) l₁₀ 0 (vint w64 r1)) ∷ ‵ (fat fullShare (tyInt w64) l₁₁ 0 (vint w64 r2)) ∷
         ‵ (fat fullShare (tyRef erased mut (pointee ((UInt w8) .written))) l₁₂ 0 (vptr (dead .ptr .0) (dead .ptr .1))) ∷
         ‵ (fat fullShare (sliceTy (tyRef erased mut (pointee ((UInt w8) .written)))) l₁₃ 0 (sliceVal (dead .ptr) (length (dead .now)))) ∷
         ‵ (fat fullShare (tyRef erased mut (pointee ((UInt w64) .written))) l₁₄ 0 (vptr (notes .ptr .0) (notes .ptr .1))) ∷
         ‵ (fat fullShare (sliceTy (tyRef erased mut (pointee ((UInt w64) .written)))) l₁₅ 0 (sliceVal (notes .ptr) (length (notes .now)))) ∷
-        ‵ (fat fullShare tyBool l₁₆ 0 (vbool (not (eqb (r2 .node) 0)))) ∷
+        ‵ (fat fullShare tyBool l₁₆ 0 (vbool (not (eqb r2 0)))) ∷
         ‵ (fat fullShare (tyRef erased mut (pointee ((UInt w8) .written))) l₁₇ 0 (vptr (dead .ptr .0) (dead .ptr .1))) ∷
         ‵ (fat fullShare (sliceTy (tyRef erased mut (pointee ((UInt w8) .written)))) l₁₈ 0 (sliceVal (dead .ptr) (length (ws1 .1 .1 .1 .0)))) ∷
         ‵ (fat fullShare (tyRef erased mut (pointee ((UInt w64) .written))) l₁₉ 0 (vptr (notes .ptr .0) (notes .ptr .1))) ∷
@@ -2562,17 +2401,17 @@ module _ {M : Type 1} (𝓤 : URA M) (H : Heap 𝓤) (A : Atoms 𝓤) (W : Given
         ‵ Fd ∷ []) refl (
         Walk.returns-by ! Post-take-up refl (Run.look ! 10 refl) (
         Walk.move ! (10 ∷ 10 ∷ 10 ∷ 10 ∷ 5 ∷ 2 ∷ 8 ∷ 8 ∷ 8 ∷ 8 ∷ 8 ∷ 8 ∷ 8 ∷ 8 ∷ 8 ∷ 8 ∷ 8 ∷ 8 ∷ 8 ∷ 8 ∷ 8 ∷ 8 ∷ 8 ∷ 8 ∷ 8 ∷ 8 ∷ []) (
-        Walk.frees-gathered ! (Walk.full Outcome-L.mir l₀ (Outcome-L.lowered r3) ∷ Walk.full (tyInt w8) l₁ (vint w8 left) ∷
+        Walk.frees-gathered ! (Walk.full (tyInt w64) l₀ (vint w64 r3) ∷ Walk.full (tyInt w8) l₁ (vint w8 left) ∷
         Walk.full (tyInt w8) l₂ (vint w8 right) ∷ Walk.full Y-take-up-nodes l₃ (sliceVal (nodes .ptr) (length (nodes .now))) ∷
         Walk.full Y-take-up-dead l₄ (sliceVal (dead .ptr) (length (ws3 .1 .1 .1 .0))) ∷ Walk.full Y-take-up-notes l₅ (sliceVal (notes .ptr)
         (length (ws3 .1 .1 .1 .1 .0))) ∷ Walk.full Y-take-up-line l₆ (sliceVal (line .ptr) (length (line .now))) ∷
         Walk.full (tyInt w64) l₇ (vint w64 end) ∷ Walk.full (tyInt w64) l₈ (vint w64 node) ∷ Walk.full (tyInt w64) l₉ (vint w64 at) ∷
-        Walk.full Outcome-L.mir l₁₀ (Outcome-L.lowered r1) ∷ Walk.full Outcome-L.mir l₁₁ (Outcome-L.lowered r2) ∷
+        Walk.full (tyInt w64) l₁₀ (vint w64 r1) ∷ Walk.full (tyInt w64) l₁₁ (vint w64 r2) ∷
         Walk.full (tyRef erased mut (pointee ((UInt w8) .written))) l₁₂ (vptr (dead .ptr .0) (dead .ptr .1)) ∷
         Walk.full (sliceTy (tyRef erased mut (pointee ((UInt w8) .written)))) l₁₃ (sliceVal (dead .ptr) (length (dead .now))) ∷
         Walk.full (tyRef erased mut (pointee ((UInt w64) .written))) l₁₄ (vptr (notes .ptr .0) (notes .ptr .1)) ∷
         Walk.full (sliceTy (tyRef erased mut (pointee ((UInt w64) .written)))) l₁₅ (sliceVal (notes .ptr) (length (notes .now))) ∷
-        Walk.full tyBool l₁₆ (vbool (not (eqb (r2 .node) 0))) ∷ Walk.full (tyRef erased mut (pointee ((UInt w8) .written))) l₁₇ (vptr (dead .ptr .0)
+        Walk.full tyBool l₁₆ (vbool (not (eqb r2 0))) ∷ Walk.full (tyRef erased mut (pointee ((UInt w8) .written))) l₁₇ (vptr (dead .ptr .0)
         (dead .ptr .1)) ∷ Walk.full (sliceTy (tyRef erased mut (pointee ((UInt w8) .written)))) l₁₈ (sliceVal (dead .ptr)
         (length (ws1 .1 .1 .1 .0))) ∷ Walk.full (tyRef erased mut (pointee ((UInt w64) .written))) l₁₉ (vptr (notes .ptr .0) (notes .ptr .1)) ∷
         Walk.full (sliceTy (tyRef erased mut (pointee ((UInt w64) .written)))) l₂₀ (sliceVal (notes .ptr) (length (ws1 .1 .1 .1 .1 .0))) ∷
@@ -2594,9 +2433,8 @@ module _ {M : Type 1} (𝓤 : URA M) (H : Heap 𝓤) (A : Atoms 𝓤) (W : Given
         Walk.move ! (3 ∷ 2 ∷ 1 ∷ 1 ∷ []) (
         Walk.tokens-in W ((κ₀, q₀) ∷ (κ₁, q₁) ∷ (κ₂, q₂) ∷ (κ₃, q₃) ∷ []) _ ! (alive 𝓤 H A f-take-up.signature (κ₀, (κ₁, (κ₂, (κ₃, tt))))
         (q₀, (q₁, (q₂, (q₃, tt))))) (id⊢ 𝓤 _) (
-        Walk.use0 W ! (‵ (Outcome-T.the-row .own r3 ((Outcome-L.lowered r3) ∷ []))) (LL.makes Outcome-T.the-type Outcome-L.the-plain 𝓤 H A r3 _ is3) (
-        Walk.keep ! (1 ∷ 1 ∷ 0 ∷ []) (
-        Kit.by ! (Walk.leave-by 𝓤 H A W f-take-up.ended (f-take-up.clauses 𝓤 H A mem run) stayed-take-up bound-take-up (Outcome-L.lowered r3) r3 (tt, (tt, (tt, ((ws3 .1 .1 .1 .0), ((ws3 .1 .1 .1 .1 .0), (tt, (tt, (tt, (tt, tt))))))))) (tt, (tt, (tt, ((len5 ∙ (len3 ∙ (len1 ∙ refl))), ((len6 ∙ (len4 ∙ (len2 ∙ refl))), (tt, (tt, (tt, (tt, tt))))))))) (factI 𝓤 _ (emp 𝓤) (third-found e1 (eqb-true (r1 .node) 0 (not-false _ t1)) e2 (eqb-true (r2 .node) 0 (not-false _ t2)) e3))))))))))))))))))))))))))))))))))))))))))))))))))))))))))))))))))))))))))))))))))))))))))))))))))))))))))))))))))))))))))))
+        Walk.use0 W ! (‵ ((UInt w64) .own r3 ((vint w64 r3) ∷ []))) (uint-makes 𝓤 H A W w64 r3 _ (refl, is3 .1)) (Walk.keep ! (1 ∷ 1 ∷ 0 ∷ []) (
+        Kit.by ! (Walk.leave-by 𝓤 H A W f-take-up.ended (f-take-up.clauses 𝓤 H A mem run) stayed-take-up bound-take-up (vint w64 r3) r3 (tt, (tt, (tt, ((ws3 .1 .1 .1 .0), ((ws3 .1 .1 .1 .1 .0), (tt, (tt, (tt, (tt, tt))))))))) (tt, (tt, (tt, ((len5 ∙ (len3 ∙ (len1 ∙ refl))), ((len6 ∙ (len4 ∙ (len2 ∙ refl))), (tt, (tt, (tt, (tt, tt))))))))) (factI 𝓤 _ (emp 𝓤) (third-found e1 (eqb-true r1 0 (not-false _ t1)) e2 (eqb-true r2 0 (not-false _ t2)) e3))))))))))))))))))))))))))))))))))))))))))))))))))))))))))))))))))))))))))))))))))))))))))))))))))))))))))))))))))))))))))))
 
 pub +search+search-atom+search-byte+search-piece+take-up-spec : {M : Type 1} → cycle.statement M
 unfolding code.search-routine code.search-atom-routine code.search-byte-routine code.search-piece-routine code.take-up-routine tablesOf
@@ -2618,8 +2456,6 @@ unfolding code.search-routine code.search-atom-routine code.search-byte-routine 
     (𝓡 .run))) 𝓜 𝓡 code.env #g-number-place g-number-place-def.routine code.calls-fit·number-place (g-number-place-thm.met 𝓤 H 𝓜 𝓖 𝓡))
     (cited 𝓤 H (Walk.Of 𝓤 H (𝓖 .A) g-is-dead.ended (g-is-dead.clauses 𝓤 H (𝓖 .A) (𝓜 .mem)
     (𝓡 .run))) 𝓜 𝓡 code.env #g-is-dead g-is-dead-def.routine code.calls-places·is-dead (g-is-dead-thm.met 𝓤 H 𝓜 𝓖 𝓡))
-    (cited 𝓤 H (Walk.Of 𝓤 H (𝓖 .A) g-no-piece.ended (g-no-piece.clauses 𝓤 H (𝓖 .A) (𝓜 .mem)
-    (𝓡 .run))) 𝓜 𝓡 code.env #g-no-piece g-no-piece-def.routine code.calls-fit·no-piece (g-no-piece-thm.met 𝓤 H 𝓜 𝓖 𝓡))
     (cited 𝓤 H (Walk.Of 𝓤 H (𝓖 .A) g-count-place.ended (g-count-place.clauses 𝓤 H (𝓖 .A) (𝓜 .mem)
     (𝓡 .run))) 𝓜 𝓡 code.env #g-count-place g-count-place-def.routine code.calls-fit·count-place (g-count-place-thm.met 𝓤 H 𝓜 𝓖 𝓡))
     (cited 𝓤 H (Walk.Of 𝓤 H (𝓖 .A) g-set-dead.ended (g-set-dead.clauses 𝓤 H (𝓖 .A) (𝓜 .mem)
@@ -2645,8 +2481,6 @@ unfolding code.search-routine code.search-atom-routine code.search-byte-routine 
     (𝓡 .run))) 𝓜 𝓡 code.env #g-node-at g-node-at-def.routine code.calls-nodes·node-at (g-node-at-thm.met 𝓤 H 𝓜 𝓖 𝓡))
     (cited 𝓤 H (Walk.Of 𝓤 H (𝓖 .A) g-has-element.ended (g-has-element.clauses 𝓤 H (𝓖 .A) (𝓜 .mem)
     (𝓡 .run))) 𝓜 𝓡 code.env #g-has-element g-has-element-def.routine code.calls-nodes·has-element (g-has-element-thm.met 𝓤 H 𝓜 𝓖 𝓡))
-    (cited 𝓤 H (Walk.Of 𝓤 H (𝓖 .A) g-no-piece.ended (g-no-piece.clauses 𝓤 H (𝓖 .A) (𝓜 .mem)
-    (𝓡 .run))) 𝓜 𝓡 code.env #g-no-piece g-no-piece-def.routine code.calls-fit·no-piece (g-no-piece-thm.met 𝓤 H 𝓜 𝓖 𝓡))
     (cited 𝓤 H (Walk.Of 𝓤 H (𝓖 .A) g-find-atom.ended (g-find-atom.clauses 𝓤 H (𝓖 .A) (𝓜 .mem)
     (𝓡 .run))) 𝓜 𝓡 code.env #g-find-atom g-find-atom-def.routine code.calls-fit·find-atom (g-find-atom-thm.met 𝓤 H 𝓜 𝓖 𝓡))
     (cited 𝓤 H (Walk.Of 𝓤 H (𝓖 .A) g-count-bytes.ended (g-count-bytes.clauses 𝓤 H (𝓖 .A) (𝓜 .mem)
@@ -2674,10 +2508,8 @@ unfolding code.search-routine code.search-atom-routine code.search-byte-routine 
     (𝓡 .run))) 𝓜 𝓡 code.env #g-element-at g-element-at-def.routine code.calls-fit·element-at (g-element-at-thm.met 𝓤 H 𝓜 𝓖 𝓡))
     (cited 𝓤 H (Walk.Of 𝓤 H (𝓖 .A) g-child.ended (g-child.clauses 𝓤 H (𝓖 .A) (𝓜 .mem)
     (𝓡 .run))) 𝓜 𝓡 code.env #g-child g-child-def.routine code.calls-nodes·child (g-child-thm.met 𝓤 H 𝓜 𝓖 𝓡))
-    (cited 𝓤 H (Walk.Of 𝓤 H (𝓖 .A) g-no-piece.ended (g-no-piece.clauses 𝓤 H (𝓖 .A) (𝓜 .mem)
-    (𝓡 .run))) 𝓜 𝓡 code.env #g-no-piece g-no-piece-def.routine code.calls-fit·no-piece (g-no-piece-thm.met 𝓤 H 𝓜 𝓖 𝓡))
-    (cited 𝓤 H (Walk.Of 𝓤 H (𝓖 .A) g-count-place.ended (g-count-place.clauses 𝓤 H (𝓖 .A) (𝓜 .mem)
-    (𝓡 .run))) 𝓜 𝓡 code.env #g-count-place g-count-place-def.routine code.calls-fit·count-place (g-count-place-thm.met 𝓤 H 𝓜 𝓖 𝓡))
+    (cited 𝓤 H (Walk.Of 𝓤 H (𝓖 .A) g-end-template.ended (g-end-template.clauses 𝓤 H (𝓖 .A) (𝓜 .mem)
+    (𝓡 .run))) 𝓜 𝓡 code.env #g-end-template g-end-template-def.routine code.calls-fit·end-template (g-end-template-thm.met 𝓤 H 𝓜 𝓖 𝓡))
     (λ z lt. smaller .0 (μ-search 𝓤 H (𝓖 .A) (𝓜 .mem) (𝓡 .run) z) (subst (λ (m : ℕ). μ-search 𝓤 H (𝓖 .A) (𝓜 .mem) (𝓡 .run) z < m) e lt) z refl)
     (λ z lt. smaller .1 .0 (μ-search-atom 𝓤 H (𝓖 .A) (𝓜 .mem) (𝓡 .run) z) (subst (λ (m : ℕ). μ-search-atom 𝓤 H (𝓖 .A) (𝓜 .mem)
     (𝓡 .run) z < m) e lt) z refl) (λ z lt. smaller .1 .1 .0 (μ-search-byte 𝓤 H (𝓖 .A) (𝓜 .mem) (𝓡 .run) z)
@@ -2697,8 +2529,6 @@ unfolding code.search-routine code.search-atom-routine code.search-byte-routine 
     (y .0 .3 .1 .1 .1 .1 .1 .1 .1 .1 .0) (𝓣 .C) (𝓣 .Λ) (fmOf 𝓤 H (W .laws) 𝓣)
     (cited 𝓤 H (Walk.Of 𝓤 H (𝓖 .A) g-child.ended (g-child.clauses 𝓤 H (𝓖 .A) (𝓜 .mem)
     (𝓡 .run))) 𝓜 𝓡 code.env #g-child g-child-def.routine code.calls-nodes·child (g-child-thm.met 𝓤 H 𝓜 𝓖 𝓡))
-    (cited 𝓤 H (Walk.Of 𝓤 H (𝓖 .A) g-no-piece.ended (g-no-piece.clauses 𝓤 H (𝓖 .A) (𝓜 .mem)
-    (𝓡 .run))) 𝓜 𝓡 code.env #g-no-piece g-no-piece-def.routine code.calls-fit·no-piece (g-no-piece-thm.met 𝓤 H 𝓜 𝓖 𝓡))
     (cited 𝓤 H (Walk.Of 𝓤 H (𝓖 .A) g-node-at.ended (g-node-at.clauses 𝓤 H (𝓖 .A) (𝓜 .mem)
     (𝓡 .run))) 𝓜 𝓡 code.env #g-node-at g-node-at-def.routine code.calls-nodes·node-at (g-node-at-thm.met 𝓤 H 𝓜 𝓖 𝓡))
     (cited 𝓤 H (Walk.Of 𝓤 H (𝓖 .A) g-holes-of.ended (g-holes-of.clauses 𝓤 H (𝓖 .A) (𝓜 .mem)

@@ -52,8 +52,6 @@ use Rattle.fit.proofs.Taken.{places-fit, clear-fits, asks-root, none-de
 use Rattle.fit.proofs.Choose.{searched-by-brackets, found-there, no-call, is-call}
 use Rattle.fit.proofs.Choice as Choice-T
 use Rattle.fit.proofs.Choice.Laws as Choice-L
-use Rattle.fit.proofs.Outcome as Outcome-T
-use Rattle.fit.proofs.Outcome.Laws as Outcome-L
 use Rattle.model.specs.declared.Marks.{Marks}
 use Rattle.model.proofs.Marks as Marks-T
 use Rattle.model.proofs.Marks.Laws as Marks-L
@@ -151,24 +149,24 @@ module _ {M : Type 1} (𝓤 : URA M) (H : Heap 𝓤) (A : Atoms 𝓤) (W : Given
         Walk.stays (T-line .own line (v-line ∷ [])) ∷ Walk.gone ((UInt w64) .own end ((vint w64 end) ∷ [])) ∷ []) ! (
         Walk.move ! (3 ∷ []) (Walk.tokens-out W ((κ₀, q₀) ∷ (κ₁, q₁) ∷ (κ₂, q₂) ∷ []) ! (id⊢ 𝓤 _) (
         Walk.enter ! C Λ code.function ((Marks-L.lowered m) ∷ v-nodes ∷ (vint w64 count) ∷ v-dead ∷ v-line ∷ (vint w64 end) ∷ []) Post (
-        Run.alloc1 ! (λ l₀. Run.alloc1 ! (λ l₁. Run.alloc1 ! (λ l₂. Run.alloc1 ! (λ l₃. Run.alloc1 ! (λ l₄. Run.alloc1 ! (λ l₅. Run.alloc1 ! (λ l₆. Run.alloc1 ! (λ l₇. Run.alloc1 ! (λ l₈. Run.alloc1 ! (λ l₉. Run.alloc1 ! (λ l₁₀. Run.alloc1 ! (λ l₁₁. Run.alloc1 ! (λ l₁₂. Run.alloc1 ! (λ l₁₃. Run.alloc1 ! (λ l₁₄. Run.alloc1 ! (λ l₁₅. Run.alloc1 ! (λ l₁₆. Run.alloc1 ! (λ l₁₇. Run.alloc1 ! (λ l₁₈. Run.alloc1 ! (λ l₁₉. Run.alloc1 ! (λ l₂₀. Run.alloc1 ! (λ l₂₁. Run.alloc1 ! (λ l₂₂. Run.alloc1 ! (λ l₂₃. Run.alloc1 ! (λ l₂₄. Run.alloc1 ! (λ l₂₅. Run.alloc1 ! (λ l₂₆.
+        Run.alloc1 ! (λ l₀. Run.alloc1 ! (λ l₁. Run.alloc1 ! (λ l₂. Run.alloc1 ! (λ l₃. Run.alloc1 ! (λ l₄. Run.alloc1 ! (λ l₅. Run.alloc1 ! (λ l₆. Run.alloc1 ! (λ l₇. Run.alloc1 ! (λ l₈. Run.alloc1 ! (λ l₉. Run.alloc1 ! (λ l₁₀. Run.alloc1 ! (λ l₁₁. Run.alloc1 ! (λ l₁₂. Run.alloc1 ! (λ l₁₃. Run.alloc1 ! (λ l₁₄. Run.alloc1 ! (λ l₁₅. Run.alloc1 ! (λ l₁₆. Run.alloc1 ! (λ l₁₇. Run.alloc1 ! (λ l₁₈. Run.alloc1 ! (λ l₁₉. Run.alloc1 ! (λ l₂₀. Run.alloc1 ! (λ l₂₁. Run.alloc1 ! (λ l₂₂. Run.alloc1 ! (λ l₂₃. Run.alloc1 ! (λ l₂₄. Run.alloc1 ! (λ l₂₅.
         let E : Env 𝓤 H = Walk.at-addresses (code.function .locals) (l₀ ∷ l₁ ∷ l₂ ∷ l₃ ∷ l₄ ∷ l₅ ∷ l₆ ∷ l₇ ∷ l₈ ∷ l₉ ∷ l₁₀ ∷ l₁₁ ∷ l₁₂ ∷ l₁₃ ∷ l₁₄ ∷
-        l₁₅ ∷ l₁₆ ∷ l₁₇ ∷ l₁₈ ∷ l₁₉ ∷ l₂₀ ∷ l₂₁ ∷ l₂₂ ∷ l₂₃ ∷ l₂₄ ∷ l₂₅ ∷ l₂₆ ∷ []) in
-        Walk.move ! (52 ∷ 52 ∷ 50 ∷ 50 ∷ 48 ∷ 48 ∷ 46 ∷ 46 ∷ 44 ∷ 44 ∷ 42 ∷ 42 ∷ 40 ∷ 40 ∷ 38 ∷ 38 ∷ 36 ∷ 36 ∷ 34 ∷ 34 ∷ 32 ∷ 32 ∷ 30 ∷ 30 ∷ 28 ∷
-        28 ∷ 26 ∷ 26 ∷ 24 ∷ 24 ∷ 22 ∷ 22 ∷ 20 ∷ 20 ∷ 18 ∷ 18 ∷ 16 ∷ 16 ∷ 14 ∷ 14 ∷ 12 ∷ 12 ∷ 10 ∷ 10 ∷ 8 ∷ 8 ∷ 6 ∷ 6 ∷ 4 ∷ 4 ∷ 2 ∷ 2 ∷ 0 ∷ 0 ∷ []) (
+        l₁₅ ∷ l₁₆ ∷ l₁₇ ∷ l₁₈ ∷ l₁₉ ∷ l₂₀ ∷ l₂₁ ∷ l₂₂ ∷ l₂₃ ∷ l₂₄ ∷ l₂₅ ∷ []) in
+        Walk.move ! (50 ∷ 50 ∷ 48 ∷ 48 ∷ 46 ∷ 46 ∷ 44 ∷ 44 ∷ 42 ∷ 42 ∷ 40 ∷ 40 ∷ 38 ∷ 38 ∷ 36 ∷ 36 ∷ 34 ∷ 34 ∷ 32 ∷ 32 ∷ 30 ∷ 30 ∷ 28 ∷ 28 ∷ 26 ∷
+        26 ∷ 24 ∷ 24 ∷ 22 ∷ 22 ∷ 20 ∷ 20 ∷ 18 ∷ 18 ∷ 16 ∷ 16 ∷ 14 ∷ 14 ∷ 12 ∷ 12 ∷ 10 ∷ 10 ∷ 8 ∷ 8 ∷ 6 ∷ 6 ∷ 4 ∷ 4 ∷ 2 ∷ 2 ∷ 0 ∷ 0 ∷ []) (
         Walk.gathers ! (Walk.bare Choice-L.mir l₀ ∷ Walk.bare Marks-L.mir l₁ ∷ Walk.bare Y-nodes l₂ ∷ Walk.bare (tyInt w64) l₃ ∷
-        Walk.bare Y-dead l₄ ∷ Walk.bare Y-line l₅ ∷ Walk.bare (tyInt w64) l₆ ∷ Walk.bare (tyArray (tyInt w64) 20) l₇ ∷ Walk.bare (tyInt w8) l₈ ∷
-        Walk.bare (tyInt w8) l₉ ∷ Walk.bare Outcome-L.mir l₁₀ ∷ Walk.bare (tyInt w64) l₁₁ ∷ Walk.bare Node-L.mir l₁₂ ∷ Walk.bare tyUnit l₁₃ ∷
-        Walk.bare (tyRef erased mut (pointee ((UInt w8) .written))) l₁₄ ∷
-        Walk.bare (sliceTy (tyRef erased mut (pointee ((UInt w8) .written)))) l₁₅ ∷ Walk.bare (tyInt w64) l₁₆ ∷ Walk.bare (tyInt w64) l₁₇ ∷
-        Walk.bare (tyRef erased mut (pointee ((UInt w8) .written))) l₁₈ ∷
-        Walk.bare (sliceTy (tyRef erased mut (pointee ((UInt w8) .written)))) l₁₉ ∷
-        Walk.bare (tyRef erased mut (pointee (Array (UInt w64) 20 .written))) l₂₀ ∷
-        Walk.bare (sliceTy (tyRef erased mut (pointee ((UInt w64) .written)))) l₂₁ ∷ Walk.bare tyBool l₂₂ ∷
-        Walk.bare (tyRef erased imm (pointee (Array (UInt w64) 20 .written))) l₂₃ ∷
-        Walk.bare (sliceTy (tyRef erased imm (pointee ((UInt w64) .written)))) l₂₄ ∷
-        Walk.bare (tyRef erased imm (pointee (Array (UInt w64) 20 .written))) l₂₅ ∷
-        Walk.bare (sliceTy (tyRef erased imm (pointee ((UInt w64) .written)))) l₂₆ ∷ []) (‵ (flft κ₀ q₀) ∷ ‵ (flft κ₁ q₁) ∷ ‵ (flft κ₂ q₂) ∷
+        Walk.bare Y-dead l₄ ∷ Walk.bare Y-line l₅ ∷ Walk.bare (tyInt w64) l₆ ∷ Walk.bare (tyArray (tyInt w64) 21) l₇ ∷ Walk.bare (tyInt w8) l₈ ∷
+        Walk.bare (tyInt w8) l₉ ∷ Walk.bare (tyInt w64) l₁₀ ∷ Walk.bare Node-L.mir l₁₁ ∷ Walk.bare tyUnit l₁₂ ∷
+        Walk.bare (tyRef erased mut (pointee ((UInt w8) .written))) l₁₃ ∷
+        Walk.bare (sliceTy (tyRef erased mut (pointee ((UInt w8) .written)))) l₁₄ ∷ Walk.bare (tyInt w64) l₁₅ ∷ Walk.bare (tyInt w64) l₁₆ ∷
+        Walk.bare (tyRef erased mut (pointee ((UInt w8) .written))) l₁₇ ∷
+        Walk.bare (sliceTy (tyRef erased mut (pointee ((UInt w8) .written)))) l₁₈ ∷
+        Walk.bare (tyRef erased mut (pointee (Array (UInt w64) 21 .written))) l₁₉ ∷
+        Walk.bare (sliceTy (tyRef erased mut (pointee ((UInt w64) .written)))) l₂₀ ∷ Walk.bare tyBool l₂₁ ∷
+        Walk.bare (tyRef erased imm (pointee (Array (UInt w64) 21 .written))) l₂₂ ∷
+        Walk.bare (sliceTy (tyRef erased imm (pointee ((UInt w64) .written)))) l₂₃ ∷
+        Walk.bare (tyRef erased imm (pointee (Array (UInt w64) 21 .written))) l₂₄ ∷
+        Walk.bare (sliceTy (tyRef erased imm (pointee ((UInt w64) .written)))) l₂₅ ∷ []) (‵ (flft κ₀ q₀) ∷ ‵ (flft κ₁ q₁) ∷ ‵ (flft κ₂ q₂) ∷
         ‵ (T-line .own line (sliceVal (line .ptr) (length (line .now)) ∷ [])) ∷ ‵ (T-dead .own dead (sliceVal (dead .ptr) (length (dead .now)) ∷
         [])) ∷ ‵ (T-nodes .own nodes (sliceVal (nodes .ptr) (length (nodes .now)) ∷ [])) ∷ []) (λ Fd ed.
         Walk.allocated ! (Walk.after-result ! (
@@ -179,17 +177,17 @@ module _ {M : Type 1} (𝓤 : URA M) (H : Heap 𝓤) (A : Atoms 𝓤) (W : Given
         Walk.pass ! (Run.init ! 5 refl (shr-slice-lawful 𝓤 H A W (named 2) κ₂ (UInt w8) .typed line _ is-line .0)) (
         Walk.pass ! (Run.init ! 6 refl ((tt, record { fits = fits-end }))) (Walk.passed ! (
         Walk.sets ! (Run.addr ! (Run.from ! (Run.fld ! refl (Run.hop ! (Part.look-in ! 4 (Part.sub ! 0 refl (Part.whole !))) (Run.stop !)))))
-        (Run.init ! 14 refl ((tt, tt))) (
-        Walk.sets ! (Part.agg ! (Run.and-then ! (Walk.local ! 14 refl) (Run.and-then ! (Walk.part ! 4 refl refl refl) (Run.no-more !))))
-        (Run.init ! 15 refl ((tt, (tt, (record { fits = is-dead .0 .1 .0 }, tt))))) (
+        (Run.init ! 13 refl ((tt, tt))) (
+        Walk.sets ! (Part.agg ! (Run.and-then ! (Walk.local ! 13 refl) (Run.and-then ! (Walk.part ! 4 refl refl refl) (Run.no-more !))))
+        (Run.init ! 14 refl ((tt, (tt, (record { fits = is-dead .0 .1 .0 }, tt))))) (
         let add1 : (end + 1) < 2 ^ 64 = omega (arith, pre .short) in
-        Walk.sets ! (Run.bin ! (Walk.local ! 6 refl) (Run.lit ! tt) (record { fits = add1 })) (Run.init ! 16 refl ((tt, record { fits = add1 }))) (
+        Walk.sets ! (Run.bin ! (Walk.local ! 6 refl) (Run.lit ! tt) (record { fits = add1 })) (Run.init ! 15 refl ((tt, record { fits = add1 }))) (
         let mul1 : (count * (end + 1)) < 2 ^ 64 = places-fit pre in
-        Walk.sets ! (Run.bin ! (Walk.local ! 3 refl) (Walk.local ! 16 refl) (record { fits = mul1 }))
-        (Run.init ! 17 refl ((tt, record { fits = mul1 }))) (
+        Walk.sets ! (Run.bin ! (Walk.local ! 3 refl) (Walk.local ! 15 refl) (record { fits = mul1 }))
+        (Run.init ! 16 refl ((tt, record { fits = mul1 }))) (
         -- [the locals; their ends; κ₀; κ₁; κ₂; line; dead; nodes]
         -- call 1: clear (dead, count * (end + 1))
-        Walk.move ! (32 ∷ 29 ∷ []) (Again.lends W (UInt w8) κ₁ q₁ dead (named 1) (named 0) (dead .now) ! tt (λ ν1 δ1.
+        Walk.move ! (31 ∷ 28 ∷ []) (Again.lends W (UInt w8) κ₁ q₁ dead (named 1) (named 0) (dead .now) ! tt (λ ν1 δ1.
         Walk.gives W (Walk.kept (MutSlice (named 0) (ν1 ∷ []) (UInt w8) .own (record { ptr = (dead .ptr); name = δ1; now = (dead .now) })
         ((sliceVal (dead .ptr) (length (dead .now))) ∷ [])) ∷ Walk.made ((UInt w64) .own (count * (end + 1)) ((vint w64 (count * (end + 1))) ∷ []))
         (uint-makes 𝓤 H A W w64 (count * (end + 1)) _ (refl, mul1)) ∷ []) _ ! (
@@ -197,56 +195,56 @@ module _ {M : Type 1} (𝓤 : URA M) (H : Heap 𝓤) (A : Atoms 𝓤) (W : Given
         Walk.tokens-in W (((ν1 ∷ []), fullShare) ∷ []) _ ! (alive 𝓤 H A g-clear.signature ((ν1 ∷ []), tt) (fullShare, tt)) (id⊢ 𝓤 _) (
         Walk.asksˡ W ! fm g-clear.ended (g-clear.clauses 𝓤 H A mem run)
         ((((ν1 ∷ []), tt), (fullShare, tt), tt, ((record { ptr = (dead .ptr); name = δ1; now = (dead .now) }), ((count * (end + 1)), tt)), ((sliceVal (dead .ptr) (length (dead .now))) ∷ [], ((vint w64 (count * (end + 1))) ∷ [], tt))), tt) _ (known-clear ((((ν1 ∷ []), tt), (fullShare, tt), tt, ((record { ptr = (dead .ptr); name = δ1; now = (dead .now) }), ((count * (end + 1)), tt)), ((sliceVal (dead .ptr) (length (dead .now))) ∷ [], ((vint w64 (count * (end + 1))) ∷ [], tt))), tt)) (factI 𝓤 _ (emp 𝓤) (clear-fits pre)) (λ r ws. id⊢ 𝓤 _)
-        (Run.and-then ! (Walk.local ! 17 refl) (Run.and-then ! (Walk.local ! 19 refl) (Run.no-more !))) (λ u1 r1 ws1 is1′ e1.
+        (Run.and-then ! (Walk.local ! 16 refl) (Run.and-then ! (Walk.local ! 18 refl) (Run.no-more !))) (λ u1 r1 ws1 is1′ e1.
         Walk.returned W (((ν1 ∷ []), fullShare) ∷ []) (Walk.final (finally (UInt w8) δ1 (ws1 .0)) (length (ws1 .0)) (length (dead .now)) ∷
         Walk.gone _ ∷ []) ! (id⊢ 𝓤 _) (λ len1.
         Walk.move ! (1 ∷ 1 ∷ 0 ∷ 4 ∷ []) (Again.backs W (UInt w8) κ₁ q₁ dead (named 1) (named 0) (dead .now) ! tt (ws1 .0) (is-dead .0 .1) len1 (
-        Walk.lands-in ! (Walk.init-as ! 15 refl (nothing-lawful 𝓤 H A W .typed r1 _ is1′ .0) (ap only (nothing-tells r1 _ is1′))) (
+        Walk.lands-in ! (Walk.init-as ! 14 refl (nothing-lawful 𝓤 H A W .typed r1 _ is1′ .0) (ap only (nothing-tells r1 _ is1′))) (
         let is1 : Is Nothing r1 (vunit ∷ []) = subst (λ (vs : List Val). Is Nothing r1 vs) (nothing-tells r1 _ is1′) is1′ in
         Walk.written-out ! (‵ (T-dead .own (at-last dead (ws1 .0)) (sliceVal (dead .ptr) (length (ws1 .0)) ∷ [])) ∷ ‵ (flft κ₁ q₁) ∷
         ‵ (fat fullShare Y-dead l₄ 0 (sliceVal (dead .ptr) (length (ws1 .0)))) ∷ ‵ (froom Choice-L.mir l₀ 0) ∷
         ‵ (fat fullShare Marks-L.mir l₁ 0 (Marks-L.lowered m)) ∷ ‵ (fat fullShare Y-nodes l₂ 0 (sliceVal (nodes .ptr) (length (nodes .now)))) ∷
         ‵ (fat fullShare (tyInt w64) l₃ 0 (vint w64 count)) ∷ ‵ (fat fullShare Y-line l₅ 0 (sliceVal (line .ptr) (length (line .now)))) ∷
-        ‵ (fat fullShare (tyInt w64) l₆ 0 (vint w64 end)) ∷ ‵ (froom (tyArray (tyInt w64) 20) l₇ 0) ∷ ‵ (froom (tyInt w8) l₈ 0) ∷
-        ‵ (froom (tyInt w8) l₉ 0) ∷ ‵ (froom Outcome-L.mir l₁₀ 0) ∷ ‵ (froom (tyInt w64) l₁₁ 0) ∷ ‵ (froom Node-L.mir l₁₂ 0) ∷
-        ‵ (fat fullShare tyUnit l₁₃ 0 vunit) ∷ ‵ (fat fullShare (tyRef erased mut (pointee ((UInt w8) .written))) l₁₄ 0 (vptr (dead .ptr .0)
-        (dead .ptr .1))) ∷ ‵ (fat fullShare (sliceTy (tyRef erased mut (pointee ((UInt w8) .written)))) l₁₅ 0 (sliceVal (dead .ptr)
-        (length (dead .now)))) ∷ ‵ (fat fullShare (tyInt w64) l₁₆ 0 (vint w64 (end + 1))) ∷
-        ‵ (fat fullShare (tyInt w64) l₁₇ 0 (vint w64 (count * (end + 1)))) ∷ ‵ (froom (tyRef erased mut (pointee ((UInt w8) .written))) l₁₈ 0) ∷
-        ‵ (froom (sliceTy (tyRef erased mut (pointee ((UInt w8) .written)))) l₁₉ 0) ∷
-        ‵ (froom (tyRef erased mut (pointee (Array (UInt w64) 20 .written))) l₂₀ 0) ∷
-        ‵ (froom (sliceTy (tyRef erased mut (pointee ((UInt w64) .written)))) l₂₁ 0) ∷ ‵ (froom tyBool l₂₂ 0) ∷
-        ‵ (froom (tyRef erased imm (pointee (Array (UInt w64) 20 .written))) l₂₃ 0) ∷
-        ‵ (froom (sliceTy (tyRef erased imm (pointee ((UInt w64) .written)))) l₂₄ 0) ∷
-        ‵ (froom (tyRef erased imm (pointee (Array (UInt w64) 20 .written))) l₂₅ 0) ∷
-        ‵ (froom (sliceTy (tyRef erased imm (pointee ((UInt w64) .written)))) l₂₆ 0) ∷ ‵ Fd ∷ ‵ (flft κ₀ q₀) ∷ ‵ (flft κ₂ q₂) ∷
+        ‵ (fat fullShare (tyInt w64) l₆ 0 (vint w64 end)) ∷ ‵ (froom (tyArray (tyInt w64) 21) l₇ 0) ∷ ‵ (froom (tyInt w8) l₈ 0) ∷
+        ‵ (froom (tyInt w8) l₉ 0) ∷ ‵ (froom (tyInt w64) l₁₀ 0) ∷ ‵ (froom Node-L.mir l₁₁ 0) ∷ ‵ (fat fullShare tyUnit l₁₂ 0 vunit) ∷
+        ‵ (fat fullShare (tyRef erased mut (pointee ((UInt w8) .written))) l₁₃ 0 (vptr (dead .ptr .0) (dead .ptr .1))) ∷
+        ‵ (fat fullShare (sliceTy (tyRef erased mut (pointee ((UInt w8) .written)))) l₁₄ 0 (sliceVal (dead .ptr) (length (dead .now)))) ∷
+        ‵ (fat fullShare (tyInt w64) l₁₅ 0 (vint w64 (end + 1))) ∷ ‵ (fat fullShare (tyInt w64) l₁₆ 0 (vint w64 (count * (end + 1)))) ∷
+        ‵ (froom (tyRef erased mut (pointee ((UInt w8) .written))) l₁₇ 0) ∷
+        ‵ (froom (sliceTy (tyRef erased mut (pointee ((UInt w8) .written)))) l₁₈ 0) ∷
+        ‵ (froom (tyRef erased mut (pointee (Array (UInt w64) 21 .written))) l₁₉ 0) ∷
+        ‵ (froom (sliceTy (tyRef erased mut (pointee ((UInt w64) .written)))) l₂₀ 0) ∷ ‵ (froom tyBool l₂₁ 0) ∷
+        ‵ (froom (tyRef erased imm (pointee (Array (UInt w64) 21 .written))) l₂₂ 0) ∷
+        ‵ (froom (sliceTy (tyRef erased imm (pointee ((UInt w64) .written)))) l₂₃ 0) ∷
+        ‵ (froom (tyRef erased imm (pointee (Array (UInt w64) 21 .written))) l₂₄ 0) ∷
+        ‵ (froom (sliceTy (tyRef erased imm (pointee ((UInt w64) .written)))) l₂₅ 0) ∷ ‵ Fd ∷ ‵ (flft κ₀ q₀) ∷ ‵ (flft κ₂ q₂) ∷
         ‵ (T-line .own line (sliceVal (line .ptr) (length (line .now)) ∷ [])) ∷ ‵ (T-nodes .own nodes (sliceVal (nodes .ptr) (length (nodes .now)) ∷
         [])) ∷ []) refl (
         Walk.use0 W ! (‵ ((UInt w64) .own 0 ((vint w64 0) ∷ []))) (uint-makes 𝓤 H A W w64 0 _ (refl, lit< tt)) (
-        Walk.use1 W ! (‵ (Array (UInt w64) 20 .own (replicate {A = ℕ} 20 0) (arrayVal (replicate 20 (vint w64 0)) ∷ [])))
-        (array-repeat 𝓤 H A W (UInt w64) (uint-copy 𝓤 H A W w64) 20 0 (vint w64 0)) (
-        Walk.peek W ! (Array (UInt w64) 20) (replicate {A = ℕ} 20 0) (arrayVal (replicate 20 (vint w64 0)) ∷ []) (λ isa7.
-        Walk.sets ! (Part.rep ! 20 (Run.lit ! tt)) (Run.init ! 10 refl (array-lawful 𝓤 H A W (UInt w64)
-        (uint-lawful 𝓤 H A W w64) 20 .typed (replicate {A = ℕ} 20 0) _ isa7 .0)) (
+        Walk.use1 W ! (‵ (Array (UInt w64) 21 .own (replicate {A = ℕ} 21 0) (arrayVal (replicate 21 (vint w64 0)) ∷ [])))
+        (array-repeat 𝓤 H A W (UInt w64) (uint-copy 𝓤 H A W w64) 21 0 (vint w64 0)) (
+        Walk.peek W ! (Array (UInt w64) 21) (replicate {A = ℕ} 21 0) (arrayVal (replicate 21 (vint w64 0)) ∷ []) (λ isa7.
+        Walk.sets ! (Part.rep ! 21 (Run.lit ! tt)) (Run.init ! 10 refl (array-lawful 𝓤 H A W (UInt w64)
+        (uint-lawful 𝓤 H A W w64) 21 .typed (replicate {A = ℕ} 21 0) _ isa7 .0)) (
         Walk.sets ! (Run.of-opd ! (Walk.part ! 5 refl refl refl))
         (Run.init ! 11 refl ((tt, record { fits = LL.owed Marks-T.the-type Marks-L.the-laws m _ is-m .1 .1 .1 .1 .1 .0 .1 }))) (
         Walk.sets ! (Run.of-opd ! (Walk.part ! 5 refl refl refl))
         (Run.init ! 12 refl ((tt, record { fits = LL.owed Marks-T.the-type Marks-L.the-laws m _ is-m .1 .1 .1 .1 .1 .1 .1 .1 .1 .1 .0 .1 }))) (
         Walk.sets ! (Run.addr ! (Run.from ! (Run.fld ! refl (Run.hop ! (Part.look-in ! 3 (Part.sub ! 0 refl (Part.whole !))) (Run.stop !)))))
-        (Run.init ! 21 refl ((tt, tt))) (
-        Walk.sets ! (Part.agg ! (Run.and-then ! (Walk.local ! 21 refl) (Run.and-then ! (Walk.part ! 3 refl refl refl) (Run.no-more !))))
-        (Run.init ! 22 refl ((tt, (tt, (record { fits = (subst (Slice.Room (UInt w8)) (sym len1) (is-dead .0 .1)) .0 }, tt))))) (
-        Walk.sets ! (Run.addr ! (Run.from ! (Run.stop !))) (Run.init ! 23 refl ((tt, tt))) (
-        Walk.sets ! (Part.agg ! (Run.and-then ! (Walk.local ! 23 refl) (Run.and-then ! (Run.lit ! tt) (Run.no-more !))))
-        (Walk.init-as ! 24 refl ((tt, (tt, (record { fits = lit< tt }, tt)))) (ap (λ (m : ℕ). sliceVal (l₇, 0) m)
-        (sym (length-replicate {A = ℕ} 20 0)))) (
+        (Run.init ! 20 refl ((tt, tt))) (
+        Walk.sets ! (Part.agg ! (Run.and-then ! (Walk.local ! 20 refl) (Run.and-then ! (Walk.part ! 3 refl refl refl) (Run.no-more !))))
+        (Run.init ! 21 refl ((tt, (tt, (record { fits = (subst (Slice.Room (UInt w8)) (sym len1) (is-dead .0 .1)) .0 }, tt))))) (
+        Walk.sets ! (Run.addr ! (Run.from ! (Run.stop !))) (Run.init ! 22 refl ((tt, tt))) (
+        Walk.sets ! (Part.agg ! (Run.and-then ! (Walk.local ! 22 refl) (Run.and-then ! (Run.lit ! tt) (Run.no-more !))))
+        (Walk.init-as ! 23 refl ((tt, (tt, (record { fits = lit< tt }, tt)))) (ap (λ (m : ℕ). sliceVal (l₇, 0) m)
+        (sym (length-replicate {A = ℕ} 21 0)))) (
         -- [the array 7; dead; κ₁; the locals; their ends; κ₀; κ₂; line; nodes]
         -- call 2: search (m .left, m .right, nodes, dead, the array 7, line, end, 0, 0)
         Walk.move ! (1 ∷ 1 ∷ []) (Again.lends W (UInt w8) κ₁ q₁ dead (named 1) (named 1) (ws1 .0) ! tt (λ ν2 δ2.
         Walk.move ! (11 ∷ 3 ∷ []) (
-        Arrays.lends W (UInt w64) tt 20 l₇ (named 2) (replicate {A = ℕ} 20 0) ! tt (subst (Slice.Room (UInt w64))
-        (sym (length-replicate {A = ℕ} 20 0)) (lit< tt, lit< tt)) (λ ν3 δ3.
-        Walk.move ! (36 ∷ 3 ∷ 0 ∷ 33 ∷ []) (
+        Arrays.lends W (UInt w64) tt 21 l₇ (named 2) (replicate {A = ℕ} 21 0) ! tt (subst (Slice.Room (UInt w64))
+        (sym (length-replicate {A = ℕ} 21 0)) (lit< tt, lit< tt)) (λ ν3 δ3.
+        Walk.move ! (35 ∷ 3 ∷ 0 ∷ 32 ∷ []) (
         Walk.gives W (Walk.made ((UInt w8) .own (m .left) ((vint w8 (m .left)) ∷ []))
         (uint-makes 𝓤 H A W w8 (m .left) _ (refl, LL.owed Marks-T.the-type Marks-L.the-laws m _ is-m .1 .1 .1 .1 .1 .0 .1)) ∷
         Walk.made ((UInt w8) .own (m .right) ((vint w8 (m .right)) ∷ []))
@@ -254,35 +252,33 @@ module _ {M : Type 1} (𝓤 : URA M) (H : Heap 𝓤) (A : Atoms 𝓤) (W : Given
         Walk.copied (T-nodes .own nodes (v-nodes ∷ [])) (shr-slice-copy 𝓤 H A W (named 0) κ₀ Node-T.the-row .twice nodes _) ∷
         Walk.kept (MutSlice (named 1) (ν2 ∷ []) (UInt w8) .own (record { ptr = (dead .ptr); name = δ2; now = (ws1 .0) }) ((sliceVal (dead .ptr)
         (length (ws1 .0))) ∷ [])) ∷ Walk.kept (MutSlice (named 2) (ν3 ∷ [])
-        (UInt w64) .own (record { ptr = (l₇, 0); name = δ3; now = (replicate {A = ℕ} 20 0) }) ((sliceVal (l₇, 0)
-        (length (replicate {A = ℕ} 20 0))) ∷ [])) ∷ Walk.copied (T-line .own line (v-line ∷ []))
+        (UInt w64) .own (record { ptr = (l₇, 0); name = δ3; now = (replicate {A = ℕ} 21 0) }) ((sliceVal (l₇, 0)
+        (length (replicate {A = ℕ} 21 0))) ∷ [])) ∷ Walk.copied (T-line .own line (v-line ∷ []))
         (shr-slice-copy 𝓤 H A W (named 2) κ₂ (UInt w8) .twice line _) ∷ Walk.made ((UInt w64) .own end ((vint w64 end) ∷ []))
         (uint-makes 𝓤 H A W w64 end _ (refl, fits-end)) ∷ Walk.made ((UInt w64) .own 0 ((vint w64 0) ∷ []))
         (uint-makes 𝓤 H A W w64 0 _ (refl, lit< tt)) ∷ Walk.made ((UInt w64) .own 0 ((vint w64 0) ∷ []))
         (uint-makes 𝓤 H A W w64 0 _ (refl, lit< tt)) ∷ []) _ ! (
-        Walk.move ! (34 ∷ 6 ∷ 4 ∷ 32 ∷ []) (
+        Walk.move ! (33 ∷ 6 ∷ 4 ∷ 31 ∷ []) (
         Walk.tokens-in W ((κ₀, q₀) ∷ ((ν2 ∷ []), fullShare) ∷ ((ν3 ∷ []), fullShare) ∷ (κ₂, q₂) ∷
         []) _ ! (alive 𝓤 H A g-search.signature (κ₀, ((ν2 ∷ []), ((ν3 ∷ []), (κ₂, tt)))) (q₀, (fullShare, (fullShare, (q₂, tt))))) (id⊢ 𝓤 _) (
         Walk.asksˡ W ! fm g-search.ended (g-search.clauses 𝓤 H A mem run)
-        (((κ₀, ((ν2 ∷ []), ((ν3 ∷ []), (κ₂, tt)))), (q₀, (fullShare, (fullShare, (q₂, tt)))), tt, ((m .left), ((m .right), (nodes, ((record { ptr = (dead .ptr); name = δ2; now = (ws1 .0) }), ((record { ptr = (l₇, 0); name = δ3; now = (replicate {A = ℕ} 20 0) }), (line, (end, (0, (0, tt))))))))), ((vint w8 (m .left)) ∷ [], ((vint w8 (m .right)) ∷ [], (v-nodes ∷ [], ((sliceVal (dead .ptr) (length (ws1 .0))) ∷ [], ((sliceVal (l₇, 0) (length (replicate {A = ℕ} 20 0))) ∷ [], (v-line ∷ [], ((vint w64 end) ∷ [], ((vint w64 0) ∷ [], ((vint w64 0) ∷ [], tt)))))))))), tt) _ (known-search (((κ₀, ((ν2 ∷ []), ((ν3 ∷ []), (κ₂, tt)))), (q₀, (fullShare, (fullShare, (q₂, tt)))), tt, ((m .left), ((m .right), (nodes, ((record { ptr = (dead .ptr); name = δ2; now = (ws1 .0) }), ((record { ptr = (l₇, 0); name = δ3; now = (replicate {A = ℕ} 20 0) }), (line, (end, (0, (0, tt))))))))), ((vint w8 (m .left)) ∷ [], ((vint w8 (m .right)) ∷ [], (v-nodes ∷ [], ((sliceVal (dead .ptr) (length (ws1 .0))) ∷ [], ((sliceVal (l₇, 0) (length (replicate {A = ℕ} 20 0))) ∷ [], (v-line ∷ [], ((vint w64 end) ∷ [], ((vint w64 0) ∷ [], ((vint w64 0) ∷ [], tt)))))))))), tt)) (factI 𝓤 _ (emp 𝓤) (asks-root pre e1 len1 refl)) (λ r ws. id⊢ 𝓤 _)
+        (((κ₀, ((ν2 ∷ []), ((ν3 ∷ []), (κ₂, tt)))), (q₀, (fullShare, (fullShare, (q₂, tt)))), tt, ((m .left), ((m .right), (nodes, ((record { ptr = (dead .ptr); name = δ2; now = (ws1 .0) }), ((record { ptr = (l₇, 0); name = δ3; now = (replicate {A = ℕ} 21 0) }), (line, (end, (0, (0, tt))))))))), ((vint w8 (m .left)) ∷ [], ((vint w8 (m .right)) ∷ [], (v-nodes ∷ [], ((sliceVal (dead .ptr) (length (ws1 .0))) ∷ [], ((sliceVal (l₇, 0) (length (replicate {A = ℕ} 21 0))) ∷ [], (v-line ∷ [], ((vint w64 end) ∷ [], ((vint w64 0) ∷ [], ((vint w64 0) ∷ [], tt)))))))))), tt) _ (known-search (((κ₀, ((ν2 ∷ []), ((ν3 ∷ []), (κ₂, tt)))), (q₀, (fullShare, (fullShare, (q₂, tt)))), tt, ((m .left), ((m .right), (nodes, ((record { ptr = (dead .ptr); name = δ2; now = (ws1 .0) }), ((record { ptr = (l₇, 0); name = δ3; now = (replicate {A = ℕ} 21 0) }), (line, (end, (0, (0, tt))))))))), ((vint w8 (m .left)) ∷ [], ((vint w8 (m .right)) ∷ [], (v-nodes ∷ [], ((sliceVal (dead .ptr) (length (ws1 .0))) ∷ [], ((sliceVal (l₇, 0) (length (replicate {A = ℕ} 21 0))) ∷ [], (v-line ∷ [], ((vint w64 end) ∷ [], ((vint w64 0) ∷ [], ((vint w64 0) ∷ [], tt)))))))))), tt)) (factI 𝓤 _ (emp 𝓤) (asks-root pre e1 len1 refl)) (λ r ws. id⊢ 𝓤 _)
         (Run.and-then ! (Walk.local ! 12 refl) (Run.and-then ! (Walk.local ! 13 refl) (Run.and-then ! (Walk.local ! 8 refl)
-        (Run.and-then ! (Walk.local ! 23 refl) (Run.and-then ! (Walk.local ! 25 refl) (Run.and-then ! (Walk.local ! 10 refl)
+        (Run.and-then ! (Walk.local ! 22 refl) (Run.and-then ! (Walk.local ! 24 refl) (Run.and-then ! (Walk.local ! 10 refl)
         (Run.and-then ! (Walk.local ! 11 refl) (Run.and-then ! (Run.lit ! tt) (Run.and-then ! (Run.lit ! tt) (Run.no-more !))))))))))
         (λ u2 r2 ws2 is2′ e2.
         Walk.returned W ((κ₀, q₀) ∷ ((ν2 ∷ []), fullShare) ∷ ((ν3 ∷ []), fullShare) ∷ (κ₂, q₂) ∷ []) (Walk.gone _ ∷ Walk.gone _ ∷ Walk.gone _ ∷
         Walk.final (finally (UInt w8) δ2 (ws2 .1 .1 .1 .0)) (length (ws2 .1 .1 .1 .0)) (length (ws1 .0)) ∷
-        Walk.final (finally (UInt w64) δ3 (ws2 .1 .1 .1 .1 .0)) (length (ws2 .1 .1 .1 .1 .0)) (length (replicate {A = ℕ} 20 0)) ∷ Walk.gone _ ∷
+        Walk.final (finally (UInt w64) δ3 (ws2 .1 .1 .1 .1 .0)) (length (ws2 .1 .1 .1 .1 .0)) (length (replicate {A = ℕ} 21 0)) ∷ Walk.gone _ ∷
         Walk.gone _ ∷ Walk.gone _ ∷ Walk.gone _ ∷ []) ! (id⊢ 𝓤 _) (λ len2 len3.
         Walk.move ! (3 ∷ 8 ∷ 1 ∷ 7 ∷ []) (
         Again.backs W (UInt w8) κ₁ q₁ dead (named 1) (named 1) (ws1 .0) ! tt (ws2 .1 .1 .1 .0) ((subst (Slice.Room (UInt w8)) (sym len1)
         (is-dead .0 .1))) len2 (
         Walk.move ! (5 ∷ 8 ∷ 3 ∷ []) (
-        Arrays.backs W (UInt w64) tt 20 l₇ (named 2) (replicate {A = ℕ} 20 0) ! tt (ws2 .1 .1 .1 .1 .0) (length-replicate {A = ℕ} 20 0) (λ cell3.
-        Walk.lands-in ! (Walk.init-as ! 17 refl (LL.lawful Outcome-T.the-type Outcome-L.the-laws 𝓤 H A W .typed r2 _ is2′ .0)
-        (ap only (LL.tells Outcome-T.the-type Outcome-L.the-laws r2 _ is2′))) (
-        let is2 : Is Outcome-T.the-row r2 ((Outcome-L.lowered r2) ∷ []) = subst (λ (vs : List Val). Is Outcome-T.the-row r2 vs)
-        (LL.tells Outcome-T.the-type Outcome-L.the-laws r2 _ is2′) is2′ in
-        Walk.written-out ! (‵ (fat fullShare (tyArray (tyInt w64) 20) l₇ 0 cell3) ∷ ‵ (Array (UInt w64) 20 .own (ws2 .1 .1 .1 .1 .0) (cell3 ∷ [])) ∷
+        Arrays.backs W (UInt w64) tt 21 l₇ (named 2) (replicate {A = ℕ} 21 0) ! tt (ws2 .1 .1 .1 .1 .0) (length-replicate {A = ℕ} 21 0) (λ cell3.
+        Walk.lands-in ! (Walk.init-as ! 17 refl (uint-lawful 𝓤 H A W w64 .typed r2 _ is2′ .0) (ap only (uint-tells w64 r2 _ is2′))) (
+        let is2 : Is (UInt w64) r2 ((vint w64 r2) ∷ []) = subst (λ (vs : List Val). Is (UInt w64) r2 vs) (uint-tells w64 r2 _ is2′) is2′ in
+        Walk.written-out ! (‵ (fat fullShare (tyArray (tyInt w64) 21) l₇ 0 cell3) ∷ ‵ (Array (UInt w64) 21 .own (ws2 .1 .1 .1 .1 .0) (cell3 ∷ [])) ∷
         ‵ (T-dead .own (at-last dead (ws2 .1 .1 .1 .0)) (sliceVal (dead .ptr) (length (ws2 .1 .1 .1 .0)) ∷ [])) ∷ ‵ (flft κ₁ q₁) ∷
         ‵ (fat fullShare Y-dead l₄ 0 (sliceVal (dead .ptr) (length (ws2 .1 .1 .1 .0)))) ∷ ‵ (flft κ₀ q₀) ∷ ‵ (flft κ₂ q₂) ∷
         ‵ (T-nodes .own nodes (sliceVal (nodes .ptr) (length (nodes .now)) ∷ [])) ∷ ‵ (T-line .own line (sliceVal (line .ptr) (length (line .now)) ∷
@@ -290,46 +286,43 @@ module _ {M : Type 1} (𝓤 : URA M) (H : Heap 𝓤) (A : Atoms 𝓤) (W : Given
         ‵ (fat fullShare Y-nodes l₂ 0 (sliceVal (nodes .ptr) (length (nodes .now)))) ∷ ‵ (fat fullShare (tyInt w64) l₃ 0 (vint w64 count)) ∷
         ‵ (fat fullShare Y-line l₅ 0 (sliceVal (line .ptr) (length (line .now)))) ∷ ‵ (fat fullShare (tyInt w64) l₆ 0 (vint w64 end)) ∷
         ‵ (fat fullShare (tyInt w8) l₈ 0 (vint w8 (m .left))) ∷ ‵ (fat fullShare (tyInt w8) l₉ 0 (vint w8 (m .right))) ∷
-        ‵ (fat fullShare Outcome-L.mir l₁₀ 0 (Outcome-L.lowered r2)) ∷ ‵ (froom (tyInt w64) l₁₁ 0) ∷ ‵ (froom Node-L.mir l₁₂ 0) ∷
-        ‵ (fat fullShare tyUnit l₁₃ 0 vunit) ∷ ‵ (fat fullShare (tyRef erased mut (pointee ((UInt w8) .written))) l₁₄ 0 (vptr (dead .ptr .0)
-        (dead .ptr .1))) ∷ ‵ (fat fullShare (sliceTy (tyRef erased mut (pointee ((UInt w8) .written)))) l₁₅ 0 (sliceVal (dead .ptr)
-        (length (dead .now)))) ∷ ‵ (fat fullShare (tyInt w64) l₁₆ 0 (vint w64 (end + 1))) ∷
-        ‵ (fat fullShare (tyInt w64) l₁₇ 0 (vint w64 (count * (end + 1)))) ∷
-        ‵ (fat fullShare (tyRef erased mut (pointee ((UInt w8) .written))) l₁₈ 0 (vptr (dead .ptr .0) (dead .ptr .1))) ∷
-        ‵ (fat fullShare (sliceTy (tyRef erased mut (pointee ((UInt w8) .written)))) l₁₉ 0 (sliceVal (dead .ptr) (length (ws1 .0)))) ∷
-        ‵ (fat fullShare (tyRef erased mut (pointee (Array (UInt w64) 20 .written))) l₂₀ 0 (vptr l₇ 0)) ∷
-        ‵ (fat fullShare (sliceTy (tyRef erased mut (pointee ((UInt w64) .written)))) l₂₁ 0 (sliceVal (l₇, 0) (length (replicate {A = ℕ} 20 0)))) ∷
-        ‵ (froom tyBool l₂₂ 0) ∷ ‵ (froom (tyRef erased imm (pointee (Array (UInt w64) 20 .written))) l₂₃ 0) ∷
-        ‵ (froom (sliceTy (tyRef erased imm (pointee ((UInt w64) .written)))) l₂₄ 0) ∷
-        ‵ (froom (tyRef erased imm (pointee (Array (UInt w64) 20 .written))) l₂₅ 0) ∷
-        ‵ (froom (sliceTy (tyRef erased imm (pointee ((UInt w64) .written)))) l₂₆ 0) ∷ ‵ Fd ∷ []) refl (
-        Walk.sets ! (Run.of-opd ! (Walk.part ! 17 refl refl refl))
-        (Run.init ! 18 refl ((tt, record { fits = LL.owed Outcome-T.the-type Outcome-L.the-laws r2 _ is2 .0 .1 }))) (
-        Walk.sets ! (Run.bin ! (Walk.local ! 18 refl) (Run.lit ! tt) tt) (Run.init ! 29 refl ((tt, tt))) (Walk.first-then ! (
-        Run.branches ! (Walk.local ! 29 refl)
-        (λ h1. let t1 : (eqb (r2 .node) 0) ≡ true = Walk.is-true _ h1 in
-        Walk.sets ! (Run.addr ! (Run.from ! (Run.stop !))) (Run.init ! 30 refl ((tt, tt))) (
-        Walk.sets ! (Part.agg ! (Run.and-then ! (Walk.local ! 30 refl) (Run.and-then ! (Run.lit ! tt) (Run.no-more !))))
-        (Walk.init-as ! 31 refl ((tt, (tt, (record { fits = lit< tt }, tt)))) (ap (λ (m : ℕ). sliceVal (l₇, 0) m)
-        (sym (len3 ∙ (length-replicate {A = ℕ} 20 0))))) (
+        ‵ (fat fullShare (tyInt w64) l₁₀ 0 (vint w64 r2)) ∷ ‵ (froom Node-L.mir l₁₁ 0) ∷ ‵ (fat fullShare tyUnit l₁₂ 0 vunit) ∷
+        ‵ (fat fullShare (tyRef erased mut (pointee ((UInt w8) .written))) l₁₃ 0 (vptr (dead .ptr .0) (dead .ptr .1))) ∷
+        ‵ (fat fullShare (sliceTy (tyRef erased mut (pointee ((UInt w8) .written)))) l₁₄ 0 (sliceVal (dead .ptr) (length (dead .now)))) ∷
+        ‵ (fat fullShare (tyInt w64) l₁₅ 0 (vint w64 (end + 1))) ∷ ‵ (fat fullShare (tyInt w64) l₁₆ 0 (vint w64 (count * (end + 1)))) ∷
+        ‵ (fat fullShare (tyRef erased mut (pointee ((UInt w8) .written))) l₁₇ 0 (vptr (dead .ptr .0) (dead .ptr .1))) ∷
+        ‵ (fat fullShare (sliceTy (tyRef erased mut (pointee ((UInt w8) .written)))) l₁₈ 0 (sliceVal (dead .ptr) (length (ws1 .0)))) ∷
+        ‵ (fat fullShare (tyRef erased mut (pointee (Array (UInt w64) 21 .written))) l₁₉ 0 (vptr l₇ 0)) ∷
+        ‵ (fat fullShare (sliceTy (tyRef erased mut (pointee ((UInt w64) .written)))) l₂₀ 0 (sliceVal (l₇, 0) (length (replicate {A = ℕ} 21 0)))) ∷
+        ‵ (froom tyBool l₂₁ 0) ∷ ‵ (froom (tyRef erased imm (pointee (Array (UInt w64) 21 .written))) l₂₂ 0) ∷
+        ‵ (froom (sliceTy (tyRef erased imm (pointee ((UInt w64) .written)))) l₂₃ 0) ∷
+        ‵ (froom (tyRef erased imm (pointee (Array (UInt w64) 21 .written))) l₂₄ 0) ∷
+        ‵ (froom (sliceTy (tyRef erased imm (pointee ((UInt w64) .written)))) l₂₅ 0) ∷ ‵ Fd ∷ []) refl (
+        Walk.sets ! (Run.bin ! (Walk.local ! 17 refl) (Run.lit ! tt) tt) (Run.init ! 28 refl ((tt, tt))) (Walk.first-then ! (
+        Run.branches ! (Walk.local ! 28 refl)
+        (λ h1. let t1 : (eqb r2 0) ≡ true = Walk.is-true _ h1 in
+        Walk.sets ! (Run.addr ! (Run.from ! (Run.stop !))) (Run.init ! 29 refl ((tt, tt))) (
+        Walk.sets ! (Part.agg ! (Run.and-then ! (Walk.local ! 29 refl) (Run.and-then ! (Run.lit ! tt) (Run.no-more !))))
+        (Walk.init-as ! 30 refl ((tt, (tt, (record { fits = lit< tt }, tt)))) (ap (λ (m : ℕ). sliceVal (l₇, 0) m)
+        (sym (len3 ∙ (length-replicate {A = ℕ} 21 0))))) (
         -- [the locals; the array 7; dead; κ₁; κ₀; κ₂; nodes; line; their ends]
         -- call 3: no_choice (the array 7)
-        Arrays.shares W (UInt w64) tt 20 l₇ (named 0) (ws2 .1 .1 .1 .1 .0) ! tt (subst (Slice.Room (UInt w64))
-        (sym (len3 ∙ (length-replicate {A = ℕ} 20 0))) (lit< tt, lit< tt)) (λ ν4 δ4.
+        Arrays.shares W (UInt w64) tt 21 l₇ (named 0) (ws2 .1 .1 .1 .1 .0) ! tt (subst (Slice.Room (UInt w64))
+        (sym (len3 ∙ (length-replicate {A = ℕ} 21 0))) (lit< tt, lit< tt)) (λ ν4 δ4.
         Walk.gives W (Walk.kept (ShrSlice (named 0) (ν4 ∷ []) (UInt w64) .own (record { ptr = (l₇, 0); name = δ4; now = (ws2 .1 .1 .1 .1 .0) })
         ((sliceVal (l₇, 0) (length (ws2 .1 .1 .1 .1 .0))) ∷ [])) ∷ []) _ ! (
         Walk.move ! (2 ∷ []) (
         Walk.tokens-in W (((ν4 ∷ []), fullShare) ∷ []) _ ! (alive 𝓤 H A g-no-choice.signature ((ν4 ∷ []), tt) (fullShare, tt)) (id⊢ 𝓤 _) (
         Walk.asks W ! fm g-no-choice.ended (g-no-choice.clauses 𝓤 H A mem run)
         ((((ν4 ∷ []), tt), (fullShare, tt), tt, ((record { ptr = (l₇, 0); name = δ4; now = (ws2 .1 .1 .1 .1 .0) }), tt), ((sliceVal (l₇, 0) (length (ws2 .1 .1 .1 .1 .0))) ∷ [], tt)), tt) _ (known-no-choice ((((ν4 ∷ []), tt), (fullShare, tt), tt, ((record { ptr = (l₇, 0); name = δ4; now = (ws2 .1 .1 .1 .1 .0) }), tt), ((sliceVal (l₇, 0) (length (ws2 .1 .1 .1 .1 .0))) ∷ [], tt)), tt)) (factI 𝓤 _ (emp 𝓤) (len3)) (λ r ws. id⊢ 𝓤 _)
-        (Run.and-then ! (Walk.local ! 31 refl) (Run.no-more !)) (λ u3 r3 is3′ e3.
+        (Run.and-then ! (Walk.local ! 30 refl) (Run.no-more !)) (λ u3 r3 is3′ e3.
         Walk.tokens-out W (((ν4 ∷ []), fullShare) ∷ []) ! (id⊢ 𝓤 _) (
-        Arrays.unshares W (UInt w64) tt 20 l₇ (named 0) (ws2 .1 .1 .1 .1 .0) ! tt (len3 ∙ (length-replicate {A = ℕ} 20 0)) (λ cell4.
+        Arrays.unshares W (UInt w64) tt 21 l₇ (named 0) (ws2 .1 .1 .1 .1 .0) ! tt (len3 ∙ (length-replicate {A = ℕ} 21 0)) (λ cell4.
         Walk.lands-in ! (Walk.init-as ! 9 refl (LL.lawful Choice-T.the-type Choice-L.the-laws 𝓤 H A W .typed r3 _ is3′ .0)
         (ap only (LL.tells Choice-T.the-type Choice-L.the-laws r3 _ is3′))) (
         let is3 : Is Choice-T.the-row r3 ((LL.val Choice-T.the-type Choice-L.the-laws r3) ∷
         []) = subst (λ (vs : List Val). Is Choice-T.the-row r3 vs) (LL.tells Choice-T.the-type Choice-L.the-laws r3 _ is3′) is3′ in
-        Walk.written-out ! (‵ (fat fullShare (tyArray (tyInt w64) 20) l₇ 0 cell4) ∷ ‵ (Array (UInt w64) 20 .own (ws2 .1 .1 .1 .1 .0) (cell4 ∷ [])) ∷
+        Walk.written-out ! (‵ (fat fullShare (tyArray (tyInt w64) 21) l₇ 0 cell4) ∷ ‵ (Array (UInt w64) 21 .own (ws2 .1 .1 .1 .1 .0) (cell4 ∷ [])) ∷
         ‵ (T-dead .own (at-last dead (ws2 .1 .1 .1 .0)) (sliceVal (dead .ptr) (length (ws2 .1 .1 .1 .0)) ∷ [])) ∷ ‵ (flft κ₁ q₁) ∷
         ‵ (fat fullShare Y-dead l₄ 0 (sliceVal (dead .ptr) (length (ws2 .1 .1 .1 .0)))) ∷ ‵ (flft κ₀ q₀) ∷ ‵ (flft κ₂ q₂) ∷
         ‵ (T-nodes .own nodes (sliceVal (nodes .ptr) (length (nodes .now)) ∷ [])) ∷ ‵ (T-line .own line (sliceVal (line .ptr) (length (line .now)) ∷
@@ -337,39 +330,39 @@ module _ {M : Type 1} (𝓤 : URA M) (H : Heap 𝓤) (A : Atoms 𝓤) (W : Given
         ‵ (fat fullShare Marks-L.mir l₁ 0 (Marks-L.lowered m)) ∷ ‵ (fat fullShare Y-nodes l₂ 0 (sliceVal (nodes .ptr) (length (nodes .now)))) ∷
         ‵ (fat fullShare (tyInt w64) l₃ 0 (vint w64 count)) ∷ ‵ (fat fullShare Y-line l₅ 0 (sliceVal (line .ptr) (length (line .now)))) ∷
         ‵ (fat fullShare (tyInt w64) l₆ 0 (vint w64 end)) ∷ ‵ (fat fullShare (tyInt w8) l₈ 0 (vint w8 (m .left))) ∷
-        ‵ (fat fullShare (tyInt w8) l₉ 0 (vint w8 (m .right))) ∷ ‵ (fat fullShare Outcome-L.mir l₁₀ 0 (Outcome-L.lowered r2)) ∷
-        ‵ (fat fullShare (tyInt w64) l₁₁ 0 (vint w64 (r2 .node))) ∷ ‵ (froom Node-L.mir l₁₂ 0) ∷ ‵ (fat fullShare tyUnit l₁₃ 0 vunit) ∷
-        ‵ (fat fullShare (tyRef erased mut (pointee ((UInt w8) .written))) l₁₄ 0 (vptr (dead .ptr .0) (dead .ptr .1))) ∷
-        ‵ (fat fullShare (sliceTy (tyRef erased mut (pointee ((UInt w8) .written)))) l₁₅ 0 (sliceVal (dead .ptr) (length (dead .now)))) ∷
-        ‵ (fat fullShare (tyInt w64) l₁₆ 0 (vint w64 (end + 1))) ∷ ‵ (fat fullShare (tyInt w64) l₁₇ 0 (vint w64 (count * (end + 1)))) ∷
-        ‵ (fat fullShare (tyRef erased mut (pointee ((UInt w8) .written))) l₁₈ 0 (vptr (dead .ptr .0) (dead .ptr .1))) ∷
-        ‵ (fat fullShare (sliceTy (tyRef erased mut (pointee ((UInt w8) .written)))) l₁₉ 0 (sliceVal (dead .ptr) (length (ws1 .0)))) ∷
-        ‵ (fat fullShare (tyRef erased mut (pointee (Array (UInt w64) 20 .written))) l₂₀ 0 (vptr l₇ 0)) ∷
-        ‵ (fat fullShare (sliceTy (tyRef erased mut (pointee ((UInt w64) .written)))) l₂₁ 0 (sliceVal (l₇, 0) (length (replicate {A = ℕ} 20 0)))) ∷
-        ‵ (fat fullShare tyBool l₂₂ 0 (vbool (eqb (r2 .node) 0))) ∷
-        ‵ (fat fullShare (tyRef erased imm (pointee (Array (UInt w64) 20 .written))) l₂₃ 0 (vptr l₇ 0)) ∷
-        ‵ (fat fullShare (sliceTy (tyRef erased imm (pointee ((UInt w64) .written)))) l₂₄ 0 (sliceVal (l₇, 0) (length (ws2 .1 .1 .1 .1 .0)))) ∷
-        ‵ (froom (tyRef erased imm (pointee (Array (UInt w64) 20 .written))) l₂₅ 0) ∷
-        ‵ (froom (sliceTy (tyRef erased imm (pointee ((UInt w64) .written)))) l₂₆ 0) ∷ ‵ Fd ∷ []) refl (
+        ‵ (fat fullShare (tyInt w8) l₉ 0 (vint w8 (m .right))) ∷ ‵ (fat fullShare (tyInt w64) l₁₀ 0 (vint w64 r2)) ∷ ‵ (froom Node-L.mir l₁₁ 0) ∷
+        ‵ (fat fullShare tyUnit l₁₂ 0 vunit) ∷ ‵ (fat fullShare (tyRef erased mut (pointee ((UInt w8) .written))) l₁₃ 0 (vptr (dead .ptr .0)
+        (dead .ptr .1))) ∷ ‵ (fat fullShare (sliceTy (tyRef erased mut (pointee ((UInt w8) .written)))) l₁₄ 0 (sliceVal (dead .ptr)
+        (length (dead .now)))) ∷ ‵ (fat fullShare (tyInt w64) l₁₅ 0 (vint w64 (end + 1))) ∷
+        ‵ (fat fullShare (tyInt w64) l₁₆ 0 (vint w64 (count * (end + 1)))) ∷
+        ‵ (fat fullShare (tyRef erased mut (pointee ((UInt w8) .written))) l₁₇ 0 (vptr (dead .ptr .0) (dead .ptr .1))) ∷
+        ‵ (fat fullShare (sliceTy (tyRef erased mut (pointee ((UInt w8) .written)))) l₁₈ 0 (sliceVal (dead .ptr) (length (ws1 .0)))) ∷
+        ‵ (fat fullShare (tyRef erased mut (pointee (Array (UInt w64) 21 .written))) l₁₉ 0 (vptr l₇ 0)) ∷
+        ‵ (fat fullShare (sliceTy (tyRef erased mut (pointee ((UInt w64) .written)))) l₂₀ 0 (sliceVal (l₇, 0) (length (replicate {A = ℕ} 21 0)))) ∷
+        ‵ (fat fullShare tyBool l₂₁ 0 (vbool (eqb r2 0))) ∷
+        ‵ (fat fullShare (tyRef erased imm (pointee (Array (UInt w64) 21 .written))) l₂₂ 0 (vptr l₇ 0)) ∷
+        ‵ (fat fullShare (sliceTy (tyRef erased imm (pointee ((UInt w64) .written)))) l₂₃ 0 (sliceVal (l₇, 0) (length (ws2 .1 .1 .1 .1 .0)))) ∷
+        ‵ (froom (tyRef erased imm (pointee (Array (UInt w64) 21 .written))) l₂₄ 0) ∷
+        ‵ (froom (sliceTy (tyRef erased imm (pointee ((UInt w64) .written)))) l₂₅ 0) ∷ ‵ Fd ∷ []) refl (
         Walk.returns-by ! Post (Walk.through 𝓤 H C Λ E _ _ Post refl) (Run.look ! 9 refl) (
-        Walk.move ! (9 ∷ 9 ∷ 9 ∷ 9 ∷ 4 ∷ 8 ∷ 8 ∷ 0 ∷ 7 ∷ 7 ∷ 7 ∷ 7 ∷ 7 ∷ 7 ∷ 7 ∷ 7 ∷ 7 ∷ 7 ∷ 7 ∷ 7 ∷ 7 ∷ 7 ∷ 7 ∷ 7 ∷ 7 ∷ 7 ∷ 7 ∷ 7 ∷ []) (
+        Walk.move ! (9 ∷ 9 ∷ 9 ∷ 9 ∷ 4 ∷ 8 ∷ 8 ∷ 0 ∷ 7 ∷ 7 ∷ 7 ∷ 7 ∷ 7 ∷ 7 ∷ 7 ∷ 7 ∷ 7 ∷ 7 ∷ 7 ∷ 7 ∷ 7 ∷ 7 ∷ 7 ∷ 7 ∷ 7 ∷ 7 ∷ 7 ∷ []) (
         Walk.frees-gathered ! (Walk.full Choice-L.mir l₀ (LL.val Choice-T.the-type Choice-L.the-laws r3) ∷
         Walk.full Marks-L.mir l₁ (Marks-L.lowered m) ∷ Walk.full Y-nodes l₂ (sliceVal (nodes .ptr) (length (nodes .now))) ∷
         Walk.full (tyInt w64) l₃ (vint w64 count) ∷ Walk.full Y-dead l₄ (sliceVal (dead .ptr) (length (ws2 .1 .1 .1 .0))) ∷
         Walk.full Y-line l₅ (sliceVal (line .ptr) (length (line .now))) ∷ Walk.full (tyInt w64) l₆ (vint w64 end) ∷
-        Walk.full (tyArray (tyInt w64) 20) l₇ cell4 ∷ Walk.full (tyInt w8) l₈ (vint w8 (m .left)) ∷ Walk.full (tyInt w8) l₉ (vint w8 (m .right)) ∷
-        Walk.full Outcome-L.mir l₁₀ (Outcome-L.lowered r2) ∷ Walk.full (tyInt w64) l₁₁ (vint w64 (r2 .node)) ∷ Walk.bare Node-L.mir l₁₂ ∷
-        Walk.full tyUnit l₁₃ vunit ∷ Walk.full (tyRef erased mut (pointee ((UInt w8) .written))) l₁₄ (vptr (dead .ptr .0) (dead .ptr .1)) ∷
-        Walk.full (sliceTy (tyRef erased mut (pointee ((UInt w8) .written)))) l₁₅ (sliceVal (dead .ptr) (length (dead .now))) ∷
-        Walk.full (tyInt w64) l₁₆ (vint w64 (end + 1)) ∷ Walk.full (tyInt w64) l₁₇ (vint w64 (count * (end + 1))) ∷
-        Walk.full (tyRef erased mut (pointee ((UInt w8) .written))) l₁₈ (vptr (dead .ptr .0) (dead .ptr .1)) ∷
-        Walk.full (sliceTy (tyRef erased mut (pointee ((UInt w8) .written)))) l₁₉ (sliceVal (dead .ptr) (length (ws1 .0))) ∷
-        Walk.full (tyRef erased mut (pointee (Array (UInt w64) 20 .written))) l₂₀ (vptr l₇ 0) ∷
-        Walk.full (sliceTy (tyRef erased mut (pointee ((UInt w64) .written)))) l₂₁ (sliceVal (l₇, 0) (length (replicate {A = ℕ} 20 0))) ∷
-        Walk.full tyBool l₂₂ (vbool (eqb (r2 .node) 0)) ∷ Walk.full (tyRef erased imm (pointee (Array (UInt w64) 20 .written))) l₂₃ (vptr l₇ 0) ∷
-        Walk.full (sliceTy (tyRef erased imm (pointee ((UInt w64) .written)))) l₂₄ (sliceVal (l₇, 0) (length (ws2 .1 .1 .1 .1 .0))) ∷
-        Walk.bare (tyRef erased imm (pointee (Array (UInt w64) 20 .written))) l₂₅ ∷
-        Walk.bare (sliceTy (tyRef erased imm (pointee ((UInt w64) .written)))) l₂₆ ∷ []) Fd ed (‵ (Array (UInt w64) 20 .own (ws2 .1 .1 .1 .1 .0)
+        Walk.full (tyArray (tyInt w64) 21) l₇ cell4 ∷ Walk.full (tyInt w8) l₈ (vint w8 (m .left)) ∷ Walk.full (tyInt w8) l₉ (vint w8 (m .right)) ∷
+        Walk.full (tyInt w64) l₁₀ (vint w64 r2) ∷ Walk.bare Node-L.mir l₁₁ ∷ Walk.full tyUnit l₁₂ vunit ∷
+        Walk.full (tyRef erased mut (pointee ((UInt w8) .written))) l₁₃ (vptr (dead .ptr .0) (dead .ptr .1)) ∷
+        Walk.full (sliceTy (tyRef erased mut (pointee ((UInt w8) .written)))) l₁₄ (sliceVal (dead .ptr) (length (dead .now))) ∷
+        Walk.full (tyInt w64) l₁₅ (vint w64 (end + 1)) ∷ Walk.full (tyInt w64) l₁₆ (vint w64 (count * (end + 1))) ∷
+        Walk.full (tyRef erased mut (pointee ((UInt w8) .written))) l₁₇ (vptr (dead .ptr .0) (dead .ptr .1)) ∷
+        Walk.full (sliceTy (tyRef erased mut (pointee ((UInt w8) .written)))) l₁₈ (sliceVal (dead .ptr) (length (ws1 .0))) ∷
+        Walk.full (tyRef erased mut (pointee (Array (UInt w64) 21 .written))) l₁₉ (vptr l₇ 0) ∷
+        Walk.full (sliceTy (tyRef erased mut (pointee ((UInt w64) .written)))) l₂₀ (sliceVal (l₇, 0) (length (replicate {A = ℕ} 21 0))) ∷
+        Walk.full tyBool l₂₁ (vbool (eqb r2 0)) ∷ Walk.full (tyRef erased imm (pointee (Array (UInt w64) 21 .written))) l₂₂ (vptr l₇ 0) ∷
+        Walk.full (sliceTy (tyRef erased imm (pointee ((UInt w64) .written)))) l₂₃ (sliceVal (l₇, 0) (length (ws2 .1 .1 .1 .1 .0))) ∷
+        Walk.bare (tyRef erased imm (pointee (Array (UInt w64) 21 .written))) l₂₄ ∷
+        Walk.bare (sliceTy (tyRef erased imm (pointee ((UInt w64) .written)))) l₂₅ ∷ []) Fd ed (‵ (Array (UInt w64) 21 .own (ws2 .1 .1 .1 .1 .0)
         (cell4 ∷ [])) ∷ ‵ (T-dead .own (at-last dead (ws2 .1 .1 .1 .0)) (sliceVal (dead .ptr) (length (ws2 .1 .1 .1 .0)) ∷ [])) ∷ ‵ (flft κ₁ q₁) ∷
         ‵ (flft κ₀ q₀) ∷ ‵ (flft κ₂ q₂) ∷ ‵ (T-nodes .own nodes (sliceVal (nodes .ptr) (length (nodes .now)) ∷ [])) ∷
         ‵ (T-line .own line (sliceVal (line .ptr) (length (line .now)) ∷ [])) ∷ []) (
@@ -383,49 +376,48 @@ module _ {M : Type 1} (𝓤 : URA M) (H : Heap 𝓤) (A : Atoms 𝓤) (W : Given
         Walk.use0 W ! (‵ (Choice-T.the-row .own r3 ((LL.val Choice-T.the-type Choice-L.the-laws r3) ∷ [])))
         (LL.makes Choice-T.the-type Choice-L.the-plain 𝓤 H A r3 _ is3) (
         Walk.keep ! (1 ∷ 1 ∷ 0 ∷ []) (
-        Kit.by ! (Walk.leave-by 𝓤 H A W f-first-reading.ended (f-first-reading.clauses 𝓤 H A mem run) stayed-first-reading bound (LL.val Choice-T.the-type Choice-L.the-laws r3) r3 (tt, (tt, (tt, ((ws2 .1 .1 .1 .0), (tt, (tt, tt)))))) (tt, (tt, (tt, ((len2 ∙ (len1 ∙ refl)), (tt, (tt, tt)))))) (factI 𝓤 _ (emp 𝓤) (no-call (searched-by-brackets m e2) pre refl (none-dead-front pre e1) (front-short pre) (eqb-true (r2 .node) 0 t1) e3))))))))))))))))))))))))
-        (λ h1. let t1 : (eqb (r2 .node) 0) ≡ false = Walk.is-false _ h1 in
+        Kit.by ! (Walk.leave-by 𝓤 H A W f-first-reading.ended (f-first-reading.clauses 𝓤 H A mem run) stayed-first-reading bound (LL.val Choice-T.the-type Choice-L.the-laws r3) r3 (tt, (tt, (tt, ((ws2 .1 .1 .1 .0), (tt, (tt, tt)))))) (tt, (tt, (tt, ((len2 ∙ (len1 ∙ refl)), (tt, (tt, tt)))))) (factI 𝓤 _ (emp 𝓤) (no-call (searched-by-brackets m e2) pre refl (none-dead-front pre e1) (front-short pre) (eqb-true r2 0 t1) e3))))))))))))))))))))))))
+        (λ h1. let t1 : (eqb r2 0) ≡ false = Walk.is-false _ h1 in
         Walk.skips-then ! (
         -- [the locals; the array 7; dead; κ₁; κ₀; κ₂; nodes; line; their ends]
-        -- call 4: node_at (nodes, r2 .node)
+        -- call 4: node_at (nodes, r2)
         Walk.move ! (7 ∷ []) (
         Walk.gives W (Walk.copied (T-nodes .own nodes (v-nodes ∷ [])) (shr-slice-copy 𝓤 H A W (named 0) κ₀ Node-T.the-row .twice nodes _) ∷
-        Walk.made ((UInt w64) .own (r2 .node) ((vint w64 (r2 .node)) ∷ []))
-        (uint-makes 𝓤 H A W w64 (r2 .node) _ (refl, LL.owed Outcome-T.the-type Outcome-L.the-laws r2 _ is2 .0 .1)) ∷ []) _ ! (
+        Walk.made ((UInt w64) .own r2 ((vint w64 r2) ∷ [])) (uint-makes 𝓤 H A W w64 r2 _ (refl, is2 .1)) ∷ []) _ ! (
         Walk.move ! (7 ∷ []) (Walk.tokens-in W ((κ₀, q₀) ∷ []) _ ! (alive 𝓤 H A g-node-at.signature (κ₀, tt) (q₀, tt)) (id⊢ 𝓤 _) (
         Walk.asks W ! fm g-node-at.ended (g-node-at.clauses 𝓤 H A mem run)
-        (((κ₀, tt), (q₀, tt), tt, (nodes, ((r2 .node), tt)), (v-nodes ∷ [], ((vint w64 (r2 .node)) ∷ [], tt))), tt) _ (known-node-at (((κ₀, tt), (q₀, tt), tt, (nodes, ((r2 .node), tt)), (v-nodes ∷ [], ((vint w64 (r2 .node)) ∷ [], tt))), tt)) (factI 𝓤 _ (emp 𝓤) (found-there (searched-by-brackets m e2) pre)) (λ r ws. id⊢ 𝓤 _)
-        (Run.and-then ! (Walk.local ! 11 refl) (Run.and-then ! (Walk.local ! 18 refl) (Run.no-more !))) (λ u4 r4 is4′ e4.
+        (((κ₀, tt), (q₀, tt), tt, (nodes, (r2, tt)), (v-nodes ∷ [], ((vint w64 r2) ∷ [], tt))), tt) _ (known-node-at (((κ₀, tt), (q₀, tt), tt, (nodes, (r2, tt)), (v-nodes ∷ [], ((vint w64 r2) ∷ [], tt))), tt)) (factI 𝓤 _ (emp 𝓤) (found-there (searched-by-brackets m e2) pre)) (λ r ws. id⊢ 𝓤 _)
+        (Run.and-then ! (Walk.local ! 11 refl) (Run.and-then ! (Walk.local ! 17 refl) (Run.no-more !))) (λ u4 r4 is4′ e4.
         Walk.tokens-out W ((κ₀, q₀) ∷ []) ! (id⊢ 𝓤 _) (
-        Walk.lands-in ! (Walk.init-as ! 19 refl (LL.lawful Node-T.the-type Node-L.the-laws 𝓤 H A W .typed r4 _ is4′ .0)
+        Walk.lands-in ! (Walk.init-as ! 18 refl (LL.lawful Node-T.the-type Node-L.the-laws 𝓤 H A W .typed r4 _ is4′ .0)
         (ap only (LL.tells Node-T.the-type Node-L.the-laws r4 _ is4′))) (
         let is4 : Is Node-T.the-row r4 ((Node-L.lowered r4) ∷ []) = subst (λ (vs : List Val). Is Node-T.the-row r4 vs)
         (LL.tells Node-T.the-type Node-L.the-laws r4 _ is4′) is4′ in
         Walk.written-out ! (‵ (flft κ₀ q₀) ∷ ‵ (T-nodes .own nodes (sliceVal (nodes .ptr) (length (nodes .now)) ∷ [])) ∷
-        ‵ (fat fullShare (tyArray (tyInt w64) 20) l₇ 0 cell3) ∷ ‵ (Array (UInt w64) 20 .own (ws2 .1 .1 .1 .1 .0) (cell3 ∷ [])) ∷
+        ‵ (fat fullShare (tyArray (tyInt w64) 21) l₇ 0 cell3) ∷ ‵ (Array (UInt w64) 21 .own (ws2 .1 .1 .1 .1 .0) (cell3 ∷ [])) ∷
         ‵ (T-dead .own (at-last dead (ws2 .1 .1 .1 .0)) (sliceVal (dead .ptr) (length (ws2 .1 .1 .1 .0)) ∷ [])) ∷ ‵ (flft κ₁ q₁) ∷
         ‵ (fat fullShare Y-dead l₄ 0 (sliceVal (dead .ptr) (length (ws2 .1 .1 .1 .0)))) ∷ ‵ (flft κ₂ q₂) ∷ ‵ (T-line .own line (sliceVal (line .ptr)
         (length (line .now)) ∷ [])) ∷ ‵ (froom Choice-L.mir l₀ 0) ∷ ‵ (fat fullShare Marks-L.mir l₁ 0 (Marks-L.lowered m)) ∷
         ‵ (fat fullShare Y-nodes l₂ 0 (sliceVal (nodes .ptr) (length (nodes .now)))) ∷ ‵ (fat fullShare (tyInt w64) l₃ 0 (vint w64 count)) ∷
         ‵ (fat fullShare Y-line l₅ 0 (sliceVal (line .ptr) (length (line .now)))) ∷ ‵ (fat fullShare (tyInt w64) l₆ 0 (vint w64 end)) ∷
         ‵ (fat fullShare (tyInt w8) l₈ 0 (vint w8 (m .left))) ∷ ‵ (fat fullShare (tyInt w8) l₉ 0 (vint w8 (m .right))) ∷
-        ‵ (fat fullShare Outcome-L.mir l₁₀ 0 (Outcome-L.lowered r2)) ∷ ‵ (fat fullShare (tyInt w64) l₁₁ 0 (vint w64 (r2 .node))) ∷
-        ‵ (fat fullShare Node-L.mir l₁₂ 0 (Node-L.lowered r4)) ∷ ‵ (fat fullShare tyUnit l₁₃ 0 vunit) ∷
-        ‵ (fat fullShare (tyRef erased mut (pointee ((UInt w8) .written))) l₁₄ 0 (vptr (dead .ptr .0) (dead .ptr .1))) ∷
-        ‵ (fat fullShare (sliceTy (tyRef erased mut (pointee ((UInt w8) .written)))) l₁₅ 0 (sliceVal (dead .ptr) (length (dead .now)))) ∷
-        ‵ (fat fullShare (tyInt w64) l₁₆ 0 (vint w64 (end + 1))) ∷ ‵ (fat fullShare (tyInt w64) l₁₇ 0 (vint w64 (count * (end + 1)))) ∷
-        ‵ (fat fullShare (tyRef erased mut (pointee ((UInt w8) .written))) l₁₈ 0 (vptr (dead .ptr .0) (dead .ptr .1))) ∷
-        ‵ (fat fullShare (sliceTy (tyRef erased mut (pointee ((UInt w8) .written)))) l₁₉ 0 (sliceVal (dead .ptr) (length (ws1 .0)))) ∷
-        ‵ (fat fullShare (tyRef erased mut (pointee (Array (UInt w64) 20 .written))) l₂₀ 0 (vptr l₇ 0)) ∷
-        ‵ (fat fullShare (sliceTy (tyRef erased mut (pointee ((UInt w64) .written)))) l₂₁ 0 (sliceVal (l₇, 0) (length (replicate {A = ℕ} 20 0)))) ∷
-        ‵ (fat fullShare tyBool l₂₂ 0 (vbool (eqb (r2 .node) 0))) ∷ ‵ (froom (tyRef erased imm (pointee (Array (UInt w64) 20 .written))) l₂₃ 0) ∷
-        ‵ (froom (sliceTy (tyRef erased imm (pointee ((UInt w64) .written)))) l₂₄ 0) ∷
-        ‵ (froom (tyRef erased imm (pointee (Array (UInt w64) 20 .written))) l₂₅ 0) ∷
-        ‵ (froom (sliceTy (tyRef erased imm (pointee ((UInt w64) .written)))) l₂₆ 0) ∷ ‵ Fd ∷ []) refl (
-        Walk.sets ! (Run.addr ! (Run.from ! (Run.stop !))) (Run.init ! 32 refl ((tt, tt))) (
-        Walk.sets ! (Part.agg ! (Run.and-then ! (Walk.local ! 32 refl) (Run.and-then ! (Run.lit ! tt) (Run.no-more !))))
-        (Walk.init-as ! 33 refl ((tt, (tt, (record { fits = lit< tt }, tt)))) (ap (λ (m : ℕ). sliceVal (l₇, 0) m)
-        (sym (len3 ∙ (length-replicate {A = ℕ} 20 0))))) (
+        ‵ (fat fullShare (tyInt w64) l₁₀ 0 (vint w64 r2)) ∷ ‵ (fat fullShare Node-L.mir l₁₁ 0 (Node-L.lowered r4)) ∷
+        ‵ (fat fullShare tyUnit l₁₂ 0 vunit) ∷ ‵ (fat fullShare (tyRef erased mut (pointee ((UInt w8) .written))) l₁₃ 0 (vptr (dead .ptr .0)
+        (dead .ptr .1))) ∷ ‵ (fat fullShare (sliceTy (tyRef erased mut (pointee ((UInt w8) .written)))) l₁₄ 0 (sliceVal (dead .ptr)
+        (length (dead .now)))) ∷ ‵ (fat fullShare (tyInt w64) l₁₅ 0 (vint w64 (end + 1))) ∷
+        ‵ (fat fullShare (tyInt w64) l₁₆ 0 (vint w64 (count * (end + 1)))) ∷
+        ‵ (fat fullShare (tyRef erased mut (pointee ((UInt w8) .written))) l₁₇ 0 (vptr (dead .ptr .0) (dead .ptr .1))) ∷
+        ‵ (fat fullShare (sliceTy (tyRef erased mut (pointee ((UInt w8) .written)))) l₁₈ 0 (sliceVal (dead .ptr) (length (ws1 .0)))) ∷
+        ‵ (fat fullShare (tyRef erased mut (pointee (Array (UInt w64) 21 .written))) l₁₉ 0 (vptr l₇ 0)) ∷
+        ‵ (fat fullShare (sliceTy (tyRef erased mut (pointee ((UInt w64) .written)))) l₂₀ 0 (sliceVal (l₇, 0) (length (replicate {A = ℕ} 21 0)))) ∷
+        ‵ (fat fullShare tyBool l₂₁ 0 (vbool (eqb r2 0))) ∷ ‵ (froom (tyRef erased imm (pointee (Array (UInt w64) 21 .written))) l₂₂ 0) ∷
+        ‵ (froom (sliceTy (tyRef erased imm (pointee ((UInt w64) .written)))) l₂₃ 0) ∷
+        ‵ (froom (tyRef erased imm (pointee (Array (UInt w64) 21 .written))) l₂₄ 0) ∷
+        ‵ (froom (sliceTy (tyRef erased imm (pointee ((UInt w64) .written)))) l₂₅ 0) ∷ ‵ Fd ∷ []) refl (
+        Walk.sets ! (Run.addr ! (Run.from ! (Run.stop !))) (Run.init ! 31 refl ((tt, tt))) (
+        Walk.sets ! (Part.agg ! (Run.and-then ! (Walk.local ! 31 refl) (Run.and-then ! (Run.lit ! tt) (Run.no-more !))))
+        (Walk.init-as ! 32 refl ((tt, (tt, (record { fits = lit< tt }, tt)))) (ap (λ (m : ℕ). sliceVal (l₇, 0) m)
+        (sym (len3 ∙ (length-replicate {A = ℕ} 21 0))))) (
         -- [κ₀; nodes; the locals; the array 7; dead; κ₁; κ₂; line; their ends]
         -- call 5: template_of (r4)
         Walk.gives W (Walk.made (Node-T.the-row .own r4 ((Node-L.lowered r4) ∷ [])) (LL.makes Node-T.the-type Node-L.the-plain 𝓤 H A r4 _ is4) ∷
@@ -433,37 +425,37 @@ module _ {M : Type 1} (𝓤 : URA M) (H : Heap 𝓤) (A : Atoms 𝓤) (W : Given
         Walk.tokens-in W ([]) _ ! (alive 𝓤 H A g-template-of.signature tt tt) (id⊢ 𝓤 _) (
         Walk.asks W ! fm g-template-of.ended (g-template-of.clauses 𝓤 H A mem run)
         ((tt, tt, tt, (r4, tt), ((Node-L.lowered r4) ∷ [], tt)), tt) _ (known-template-of ((tt, tt, tt, (r4, tt), ((Node-L.lowered r4) ∷ [], tt)), tt)) (id⊢ 𝓤 (emp 𝓤)) (λ r ws. id⊢ 𝓤 _)
-        (Run.and-then ! (Walk.local ! 20 refl) (Run.no-more !)) (λ u5 r5 is5′ e5.
+        (Run.and-then ! (Walk.local ! 19 refl) (Run.no-more !)) (λ u5 r5 is5′ e5.
         Walk.tokens-out W ([]) ! (id⊢ 𝓤 _) (
-        Walk.lands-in ! (Walk.store-as ! 23 refl (uint-lawful 𝓤 H A W w64 .typed r5 _ is5′ .0) (ap only (uint-tells w64 r5 _ is5′))) (
+        Walk.lands-in ! (Walk.store-as ! 22 refl (uint-lawful 𝓤 H A W w64 .typed r5 _ is5′ .0) (ap only (uint-tells w64 r5 _ is5′))) (
         let is5 : Is (UInt w64) r5 ((vint w64 r5) ∷ []) = subst (λ (vs : List Val). Is (UInt w64) r5 vs) (uint-tells w64 r5 _ is5′) is5′ in
         Walk.written-out ! (‵ (flft κ₀ q₀) ∷ ‵ (T-nodes .own nodes (sliceVal (nodes .ptr) (length (nodes .now)) ∷ [])) ∷
-        ‵ (fat fullShare (tyArray (tyInt w64) 20) l₇ 0 cell3) ∷ ‵ (Array (UInt w64) 20 .own (ws2 .1 .1 .1 .1 .0) (cell3 ∷ [])) ∷
+        ‵ (fat fullShare (tyArray (tyInt w64) 21) l₇ 0 cell3) ∷ ‵ (Array (UInt w64) 21 .own (ws2 .1 .1 .1 .1 .0) (cell3 ∷ [])) ∷
         ‵ (T-dead .own (at-last dead (ws2 .1 .1 .1 .0)) (sliceVal (dead .ptr) (length (ws2 .1 .1 .1 .0)) ∷ [])) ∷ ‵ (flft κ₁ q₁) ∷
         ‵ (fat fullShare Y-dead l₄ 0 (sliceVal (dead .ptr) (length (ws2 .1 .1 .1 .0)))) ∷ ‵ (flft κ₂ q₂) ∷ ‵ (T-line .own line (sliceVal (line .ptr)
         (length (line .now)) ∷ [])) ∷ ‵ (froom Choice-L.mir l₀ 0) ∷ ‵ (fat fullShare Marks-L.mir l₁ 0 (Marks-L.lowered m)) ∷
         ‵ (fat fullShare Y-nodes l₂ 0 (sliceVal (nodes .ptr) (length (nodes .now)))) ∷ ‵ (fat fullShare (tyInt w64) l₃ 0 (vint w64 count)) ∷
         ‵ (fat fullShare Y-line l₅ 0 (sliceVal (line .ptr) (length (line .now)))) ∷ ‵ (fat fullShare (tyInt w64) l₆ 0 (vint w64 end)) ∷
         ‵ (fat fullShare (tyInt w8) l₈ 0 (vint w8 (m .left))) ∷ ‵ (fat fullShare (tyInt w8) l₉ 0 (vint w8 (m .right))) ∷
-        ‵ (fat fullShare Outcome-L.mir l₁₀ 0 (Outcome-L.lowered r2)) ∷ ‵ (fat fullShare (tyInt w64) l₁₁ 0 (vint w64 (r2 .node))) ∷
-        ‵ (fat fullShare Node-L.mir l₁₂ 0 (Node-L.lowered r4)) ∷ ‵ (fat fullShare tyUnit l₁₃ 0 vunit) ∷
-        ‵ (fat fullShare (tyRef erased mut (pointee ((UInt w8) .written))) l₁₄ 0 (vptr (dead .ptr .0) (dead .ptr .1))) ∷
-        ‵ (fat fullShare (sliceTy (tyRef erased mut (pointee ((UInt w8) .written)))) l₁₅ 0 (sliceVal (dead .ptr) (length (dead .now)))) ∷
-        ‵ (fat fullShare (tyInt w64) l₁₆ 0 (vint w64 r5)) ∷ ‵ (fat fullShare (tyInt w64) l₁₇ 0 (vint w64 (count * (end + 1)))) ∷
-        ‵ (fat fullShare (tyRef erased mut (pointee ((UInt w8) .written))) l₁₈ 0 (vptr (dead .ptr .0) (dead .ptr .1))) ∷
-        ‵ (fat fullShare (sliceTy (tyRef erased mut (pointee ((UInt w8) .written)))) l₁₉ 0 (sliceVal (dead .ptr) (length (ws1 .0)))) ∷
-        ‵ (fat fullShare (tyRef erased mut (pointee (Array (UInt w64) 20 .written))) l₂₀ 0 (vptr l₇ 0)) ∷
-        ‵ (fat fullShare (sliceTy (tyRef erased mut (pointee ((UInt w64) .written)))) l₂₁ 0 (sliceVal (l₇, 0) (length (replicate {A = ℕ} 20 0)))) ∷
-        ‵ (fat fullShare tyBool l₂₂ 0 (vbool (eqb (r2 .node) 0))) ∷ ‵ (froom (tyRef erased imm (pointee (Array (UInt w64) 20 .written))) l₂₃ 0) ∷
-        ‵ (froom (sliceTy (tyRef erased imm (pointee ((UInt w64) .written)))) l₂₄ 0) ∷
-        ‵ (fat fullShare (tyRef erased imm (pointee (Array (UInt w64) 20 .written))) l₂₅ 0 (vptr l₇ 0)) ∷
-        ‵ (fat fullShare (sliceTy (tyRef erased imm (pointee ((UInt w64) .written)))) l₂₆ 0 (sliceVal (l₇, 0) (length (ws2 .1 .1 .1 .1 .0)))) ∷
+        ‵ (fat fullShare (tyInt w64) l₁₀ 0 (vint w64 r2)) ∷ ‵ (fat fullShare Node-L.mir l₁₁ 0 (Node-L.lowered r4)) ∷
+        ‵ (fat fullShare tyUnit l₁₂ 0 vunit) ∷ ‵ (fat fullShare (tyRef erased mut (pointee ((UInt w8) .written))) l₁₃ 0 (vptr (dead .ptr .0)
+        (dead .ptr .1))) ∷ ‵ (fat fullShare (sliceTy (tyRef erased mut (pointee ((UInt w8) .written)))) l₁₄ 0 (sliceVal (dead .ptr)
+        (length (dead .now)))) ∷ ‵ (fat fullShare (tyInt w64) l₁₅ 0 (vint w64 r5)) ∷
+        ‵ (fat fullShare (tyInt w64) l₁₆ 0 (vint w64 (count * (end + 1)))) ∷
+        ‵ (fat fullShare (tyRef erased mut (pointee ((UInt w8) .written))) l₁₇ 0 (vptr (dead .ptr .0) (dead .ptr .1))) ∷
+        ‵ (fat fullShare (sliceTy (tyRef erased mut (pointee ((UInt w8) .written)))) l₁₈ 0 (sliceVal (dead .ptr) (length (ws1 .0)))) ∷
+        ‵ (fat fullShare (tyRef erased mut (pointee (Array (UInt w64) 21 .written))) l₁₉ 0 (vptr l₇ 0)) ∷
+        ‵ (fat fullShare (sliceTy (tyRef erased mut (pointee ((UInt w64) .written)))) l₂₀ 0 (sliceVal (l₇, 0) (length (replicate {A = ℕ} 21 0)))) ∷
+        ‵ (fat fullShare tyBool l₂₁ 0 (vbool (eqb r2 0))) ∷ ‵ (froom (tyRef erased imm (pointee (Array (UInt w64) 21 .written))) l₂₂ 0) ∷
+        ‵ (froom (sliceTy (tyRef erased imm (pointee ((UInt w64) .written)))) l₂₃ 0) ∷
+        ‵ (fat fullShare (tyRef erased imm (pointee (Array (UInt w64) 21 .written))) l₂₄ 0 (vptr l₇ 0)) ∷
+        ‵ (fat fullShare (sliceTy (tyRef erased imm (pointee ((UInt w64) .written)))) l₂₅ 0 (sliceVal (l₇, 0) (length (ws2 .1 .1 .1 .1 .0)))) ∷
         ‵ Fd ∷ []) refl (
         -- [κ₀; nodes; the locals; the array 7; dead; κ₁; κ₂; line; their ends]
         -- call 6: make_choice (the array 7, r5)
         Walk.move ! (2 ∷ 2 ∷ []) (
-        Arrays.shares W (UInt w64) tt 20 l₇ (named 0) (ws2 .1 .1 .1 .1 .0) ! tt (subst (Slice.Room (UInt w64))
-        (sym (len3 ∙ (length-replicate {A = ℕ} 20 0))) (lit< tt, lit< tt)) (λ ν5 δ5.
+        Arrays.shares W (UInt w64) tt 21 l₇ (named 0) (ws2 .1 .1 .1 .1 .0) ! tt (subst (Slice.Room (UInt w64))
+        (sym (len3 ∙ (length-replicate {A = ℕ} 21 0))) (lit< tt, lit< tt)) (λ ν5 δ5.
         Walk.gives W (Walk.kept (ShrSlice (named 0) (ν5 ∷ []) (UInt w64) .own (record { ptr = (l₇, 0); name = δ5; now = (ws2 .1 .1 .1 .1 .0) })
         ((sliceVal (l₇, 0) (length (ws2 .1 .1 .1 .1 .0))) ∷ [])) ∷ Walk.made ((UInt w64) .own r5 ((vint w64 r5) ∷ []))
         (uint-makes 𝓤 H A W w64 r5 _ (refl, is5 .1)) ∷ []) _ ! (
@@ -471,14 +463,14 @@ module _ {M : Type 1} (𝓤 : URA M) (H : Heap 𝓤) (A : Atoms 𝓤) (W : Given
         Walk.tokens-in W (((ν5 ∷ []), fullShare) ∷ []) _ ! (alive 𝓤 H A g-make-choice.signature ((ν5 ∷ []), tt) (fullShare, tt)) (id⊢ 𝓤 _) (
         Walk.asks W ! fm g-make-choice.ended (g-make-choice.clauses 𝓤 H A mem run)
         ((((ν5 ∷ []), tt), (fullShare, tt), tt, ((record { ptr = (l₇, 0); name = δ5; now = (ws2 .1 .1 .1 .1 .0) }), (r5, tt)), ((sliceVal (l₇, 0) (length (ws2 .1 .1 .1 .1 .0))) ∷ [], ((vint w64 r5) ∷ [], tt))), tt) _ (known-make-choice ((((ν5 ∷ []), tt), (fullShare, tt), tt, ((record { ptr = (l₇, 0); name = δ5; now = (ws2 .1 .1 .1 .1 .0) }), (r5, tt)), ((sliceVal (l₇, 0) (length (ws2 .1 .1 .1 .1 .0))) ∷ [], ((vint w64 r5) ∷ [], tt))), tt)) (factI 𝓤 _ (emp 𝓤) (len3)) (λ r ws. id⊢ 𝓤 _)
-        (Run.and-then ! (Walk.local ! 33 refl) (Run.and-then ! (Walk.local ! 23 refl) (Run.no-more !))) (λ u6 r6 is6′ e6.
+        (Run.and-then ! (Walk.local ! 32 refl) (Run.and-then ! (Walk.local ! 22 refl) (Run.no-more !))) (λ u6 r6 is6′ e6.
         Walk.tokens-out W (((ν5 ∷ []), fullShare) ∷ []) ! (id⊢ 𝓤 _) (
-        Arrays.unshares W (UInt w64) tt 20 l₇ (named 0) (ws2 .1 .1 .1 .1 .0) ! tt (len3 ∙ (length-replicate {A = ℕ} 20 0)) (λ cell5.
+        Arrays.unshares W (UInt w64) tt 21 l₇ (named 0) (ws2 .1 .1 .1 .1 .0) ! tt (len3 ∙ (length-replicate {A = ℕ} 21 0)) (λ cell5.
         Walk.lands-in ! (Walk.init-as ! 9 refl (LL.lawful Choice-T.the-type Choice-L.the-laws 𝓤 H A W .typed r6 _ is6′ .0)
         (ap only (LL.tells Choice-T.the-type Choice-L.the-laws r6 _ is6′))) (
         let is6 : Is Choice-T.the-row r6 ((LL.val Choice-T.the-type Choice-L.the-laws r6) ∷
         []) = subst (λ (vs : List Val). Is Choice-T.the-row r6 vs) (LL.tells Choice-T.the-type Choice-L.the-laws r6 _ is6′) is6′ in
-        Walk.written-out ! (‵ (fat fullShare (tyArray (tyInt w64) 20) l₇ 0 cell5) ∷ ‵ (Array (UInt w64) 20 .own (ws2 .1 .1 .1 .1 .0) (cell5 ∷ [])) ∷
+        Walk.written-out ! (‵ (fat fullShare (tyArray (tyInt w64) 21) l₇ 0 cell5) ∷ ‵ (Array (UInt w64) 21 .own (ws2 .1 .1 .1 .1 .0) (cell5 ∷ [])) ∷
         ‵ (flft κ₀ q₀) ∷ ‵ (T-nodes .own nodes (sliceVal (nodes .ptr) (length (nodes .now)) ∷ [])) ∷ ‵ (T-dead .own (at-last dead (ws2 .1 .1 .1 .0))
         (sliceVal (dead .ptr) (length (ws2 .1 .1 .1 .0)) ∷ [])) ∷ ‵ (flft κ₁ q₁) ∷ ‵ (fat fullShare Y-dead l₄ 0 (sliceVal (dead .ptr)
         (length (ws2 .1 .1 .1 .0)))) ∷ ‵ (flft κ₂ q₂) ∷ ‵ (T-line .own line (sliceVal (line .ptr) (length (line .now)) ∷ [])) ∷
@@ -486,42 +478,40 @@ module _ {M : Type 1} (𝓤 : URA M) (H : Heap 𝓤) (A : Atoms 𝓤) (W : Given
         ‵ (fat fullShare Marks-L.mir l₁ 0 (Marks-L.lowered m)) ∷ ‵ (fat fullShare Y-nodes l₂ 0 (sliceVal (nodes .ptr) (length (nodes .now)))) ∷
         ‵ (fat fullShare (tyInt w64) l₃ 0 (vint w64 count)) ∷ ‵ (fat fullShare Y-line l₅ 0 (sliceVal (line .ptr) (length (line .now)))) ∷
         ‵ (fat fullShare (tyInt w64) l₆ 0 (vint w64 end)) ∷ ‵ (fat fullShare (tyInt w8) l₈ 0 (vint w8 (m .left))) ∷
-        ‵ (fat fullShare (tyInt w8) l₉ 0 (vint w8 (m .right))) ∷ ‵ (fat fullShare Outcome-L.mir l₁₀ 0 (Outcome-L.lowered r2)) ∷
-        ‵ (fat fullShare (tyInt w64) l₁₁ 0 (vint w64 (r2 .node))) ∷ ‵ (fat fullShare Node-L.mir l₁₂ 0 (Node-L.lowered r4)) ∷
-        ‵ (fat fullShare tyUnit l₁₃ 0 vunit) ∷ ‵ (fat fullShare (tyRef erased mut (pointee ((UInt w8) .written))) l₁₄ 0 (vptr (dead .ptr .0)
-        (dead .ptr .1))) ∷ ‵ (fat fullShare (sliceTy (tyRef erased mut (pointee ((UInt w8) .written)))) l₁₅ 0 (sliceVal (dead .ptr)
-        (length (dead .now)))) ∷ ‵ (fat fullShare (tyInt w64) l₁₆ 0 (vint w64 r5)) ∷
-        ‵ (fat fullShare (tyInt w64) l₁₇ 0 (vint w64 (count * (end + 1)))) ∷
-        ‵ (fat fullShare (tyRef erased mut (pointee ((UInt w8) .written))) l₁₈ 0 (vptr (dead .ptr .0) (dead .ptr .1))) ∷
-        ‵ (fat fullShare (sliceTy (tyRef erased mut (pointee ((UInt w8) .written)))) l₁₉ 0 (sliceVal (dead .ptr) (length (ws1 .0)))) ∷
-        ‵ (fat fullShare (tyRef erased mut (pointee (Array (UInt w64) 20 .written))) l₂₀ 0 (vptr l₇ 0)) ∷
-        ‵ (fat fullShare (sliceTy (tyRef erased mut (pointee ((UInt w64) .written)))) l₂₁ 0 (sliceVal (l₇, 0) (length (replicate {A = ℕ} 20 0)))) ∷
-        ‵ (fat fullShare tyBool l₂₂ 0 (vbool (eqb (r2 .node) 0))) ∷ ‵ (froom (tyRef erased imm (pointee (Array (UInt w64) 20 .written))) l₂₃ 0) ∷
-        ‵ (froom (sliceTy (tyRef erased imm (pointee ((UInt w64) .written)))) l₂₄ 0) ∷
-        ‵ (fat fullShare (tyRef erased imm (pointee (Array (UInt w64) 20 .written))) l₂₅ 0 (vptr l₇ 0)) ∷
-        ‵ (fat fullShare (sliceTy (tyRef erased imm (pointee ((UInt w64) .written)))) l₂₆ 0 (sliceVal (l₇, 0) (length (ws2 .1 .1 .1 .1 .0)))) ∷
+        ‵ (fat fullShare (tyInt w8) l₉ 0 (vint w8 (m .right))) ∷ ‵ (fat fullShare (tyInt w64) l₁₀ 0 (vint w64 r2)) ∷
+        ‵ (fat fullShare Node-L.mir l₁₁ 0 (Node-L.lowered r4)) ∷ ‵ (fat fullShare tyUnit l₁₂ 0 vunit) ∷
+        ‵ (fat fullShare (tyRef erased mut (pointee ((UInt w8) .written))) l₁₃ 0 (vptr (dead .ptr .0) (dead .ptr .1))) ∷
+        ‵ (fat fullShare (sliceTy (tyRef erased mut (pointee ((UInt w8) .written)))) l₁₄ 0 (sliceVal (dead .ptr) (length (dead .now)))) ∷
+        ‵ (fat fullShare (tyInt w64) l₁₅ 0 (vint w64 r5)) ∷ ‵ (fat fullShare (tyInt w64) l₁₆ 0 (vint w64 (count * (end + 1)))) ∷
+        ‵ (fat fullShare (tyRef erased mut (pointee ((UInt w8) .written))) l₁₇ 0 (vptr (dead .ptr .0) (dead .ptr .1))) ∷
+        ‵ (fat fullShare (sliceTy (tyRef erased mut (pointee ((UInt w8) .written)))) l₁₈ 0 (sliceVal (dead .ptr) (length (ws1 .0)))) ∷
+        ‵ (fat fullShare (tyRef erased mut (pointee (Array (UInt w64) 21 .written))) l₁₉ 0 (vptr l₇ 0)) ∷
+        ‵ (fat fullShare (sliceTy (tyRef erased mut (pointee ((UInt w64) .written)))) l₂₀ 0 (sliceVal (l₇, 0) (length (replicate {A = ℕ} 21 0)))) ∷
+        ‵ (fat fullShare tyBool l₂₁ 0 (vbool (eqb r2 0))) ∷ ‵ (froom (tyRef erased imm (pointee (Array (UInt w64) 21 .written))) l₂₂ 0) ∷
+        ‵ (froom (sliceTy (tyRef erased imm (pointee ((UInt w64) .written)))) l₂₃ 0) ∷
+        ‵ (fat fullShare (tyRef erased imm (pointee (Array (UInt w64) 21 .written))) l₂₄ 0 (vptr l₇ 0)) ∷
+        ‵ (fat fullShare (sliceTy (tyRef erased imm (pointee ((UInt w64) .written)))) l₂₅ 0 (sliceVal (l₇, 0) (length (ws2 .1 .1 .1 .1 .0)))) ∷
         ‵ Fd ∷ []) refl (
         Walk.returns-by ! Post refl (Run.look ! 9 refl) (
-        Walk.move ! (9 ∷ 9 ∷ 9 ∷ 9 ∷ 6 ∷ 8 ∷ 8 ∷ 0 ∷ 7 ∷ 7 ∷ 7 ∷ 7 ∷ 7 ∷ 7 ∷ 7 ∷ 7 ∷ 7 ∷ 7 ∷ 7 ∷ 7 ∷ 7 ∷ 7 ∷ 7 ∷ 7 ∷ 7 ∷ 7 ∷ 7 ∷ 7 ∷ []) (
+        Walk.move ! (9 ∷ 9 ∷ 9 ∷ 9 ∷ 6 ∷ 8 ∷ 8 ∷ 0 ∷ 7 ∷ 7 ∷ 7 ∷ 7 ∷ 7 ∷ 7 ∷ 7 ∷ 7 ∷ 7 ∷ 7 ∷ 7 ∷ 7 ∷ 7 ∷ 7 ∷ 7 ∷ 7 ∷ 7 ∷ 7 ∷ 7 ∷ []) (
         Walk.frees-gathered ! (Walk.full Choice-L.mir l₀ (LL.val Choice-T.the-type Choice-L.the-laws r6) ∷
         Walk.full Marks-L.mir l₁ (Marks-L.lowered m) ∷ Walk.full Y-nodes l₂ (sliceVal (nodes .ptr) (length (nodes .now))) ∷
         Walk.full (tyInt w64) l₃ (vint w64 count) ∷ Walk.full Y-dead l₄ (sliceVal (dead .ptr) (length (ws2 .1 .1 .1 .0))) ∷
         Walk.full Y-line l₅ (sliceVal (line .ptr) (length (line .now))) ∷ Walk.full (tyInt w64) l₆ (vint w64 end) ∷
-        Walk.full (tyArray (tyInt w64) 20) l₇ cell5 ∷ Walk.full (tyInt w8) l₈ (vint w8 (m .left)) ∷ Walk.full (tyInt w8) l₉ (vint w8 (m .right)) ∷
-        Walk.full Outcome-L.mir l₁₀ (Outcome-L.lowered r2) ∷ Walk.full (tyInt w64) l₁₁ (vint w64 (r2 .node)) ∷
-        Walk.full Node-L.mir l₁₂ (Node-L.lowered r4) ∷ Walk.full tyUnit l₁₃ vunit ∷
-        Walk.full (tyRef erased mut (pointee ((UInt w8) .written))) l₁₄ (vptr (dead .ptr .0) (dead .ptr .1)) ∷
-        Walk.full (sliceTy (tyRef erased mut (pointee ((UInt w8) .written)))) l₁₅ (sliceVal (dead .ptr) (length (dead .now))) ∷
-        Walk.full (tyInt w64) l₁₆ (vint w64 r5) ∷ Walk.full (tyInt w64) l₁₇ (vint w64 (count * (end + 1))) ∷
-        Walk.full (tyRef erased mut (pointee ((UInt w8) .written))) l₁₈ (vptr (dead .ptr .0) (dead .ptr .1)) ∷
-        Walk.full (sliceTy (tyRef erased mut (pointee ((UInt w8) .written)))) l₁₉ (sliceVal (dead .ptr) (length (ws1 .0))) ∷
-        Walk.full (tyRef erased mut (pointee (Array (UInt w64) 20 .written))) l₂₀ (vptr l₇ 0) ∷
-        Walk.full (sliceTy (tyRef erased mut (pointee ((UInt w64) .written)))) l₂₁ (sliceVal (l₇, 0) (length (replicate {A = ℕ} 20 0))) ∷
-        Walk.full tyBool l₂₂ (vbool (eqb (r2 .node) 0)) ∷ Walk.bare (tyRef erased imm (pointee (Array (UInt w64) 20 .written))) l₂₃ ∷
-        Walk.bare (sliceTy (tyRef erased imm (pointee ((UInt w64) .written)))) l₂₄ ∷
-        Walk.full (tyRef erased imm (pointee (Array (UInt w64) 20 .written))) l₂₅ (vptr l₇ 0) ∷
-        Walk.full (sliceTy (tyRef erased imm (pointee ((UInt w64) .written)))) l₂₆ (sliceVal (l₇, 0) (length (ws2 .1 .1 .1 .1 .0))) ∷
-        []) Fd ed (‵ (Array (UInt w64) 20 .own (ws2 .1 .1 .1 .1 .0) (cell5 ∷ [])) ∷ ‵ (flft κ₀ q₀) ∷ ‵ (T-nodes .own nodes (sliceVal (nodes .ptr)
+        Walk.full (tyArray (tyInt w64) 21) l₇ cell5 ∷ Walk.full (tyInt w8) l₈ (vint w8 (m .left)) ∷ Walk.full (tyInt w8) l₉ (vint w8 (m .right)) ∷
+        Walk.full (tyInt w64) l₁₀ (vint w64 r2) ∷ Walk.full Node-L.mir l₁₁ (Node-L.lowered r4) ∷ Walk.full tyUnit l₁₂ vunit ∷
+        Walk.full (tyRef erased mut (pointee ((UInt w8) .written))) l₁₃ (vptr (dead .ptr .0) (dead .ptr .1)) ∷
+        Walk.full (sliceTy (tyRef erased mut (pointee ((UInt w8) .written)))) l₁₄ (sliceVal (dead .ptr) (length (dead .now))) ∷
+        Walk.full (tyInt w64) l₁₅ (vint w64 r5) ∷ Walk.full (tyInt w64) l₁₆ (vint w64 (count * (end + 1))) ∷
+        Walk.full (tyRef erased mut (pointee ((UInt w8) .written))) l₁₇ (vptr (dead .ptr .0) (dead .ptr .1)) ∷
+        Walk.full (sliceTy (tyRef erased mut (pointee ((UInt w8) .written)))) l₁₈ (sliceVal (dead .ptr) (length (ws1 .0))) ∷
+        Walk.full (tyRef erased mut (pointee (Array (UInt w64) 21 .written))) l₁₉ (vptr l₇ 0) ∷
+        Walk.full (sliceTy (tyRef erased mut (pointee ((UInt w64) .written)))) l₂₀ (sliceVal (l₇, 0) (length (replicate {A = ℕ} 21 0))) ∷
+        Walk.full tyBool l₂₁ (vbool (eqb r2 0)) ∷ Walk.bare (tyRef erased imm (pointee (Array (UInt w64) 21 .written))) l₂₂ ∷
+        Walk.bare (sliceTy (tyRef erased imm (pointee ((UInt w64) .written)))) l₂₃ ∷
+        Walk.full (tyRef erased imm (pointee (Array (UInt w64) 21 .written))) l₂₄ (vptr l₇ 0) ∷
+        Walk.full (sliceTy (tyRef erased imm (pointee ((UInt w64) .written)))) l₂₅ (sliceVal (l₇, 0) (length (ws2 .1 .1 .1 .1 .0))) ∷
+        []) Fd ed (‵ (Array (UInt w64) 21 .own (ws2 .1 .1 .1 .1 .0) (cell5 ∷ [])) ∷ ‵ (flft κ₀ q₀) ∷ ‵ (T-nodes .own nodes (sliceVal (nodes .ptr)
         (length (nodes .now)) ∷ [])) ∷ ‵ (T-dead .own (at-last dead (ws2 .1 .1 .1 .0)) (sliceVal (dead .ptr) (length (ws2 .1 .1 .1 .0)) ∷ [])) ∷
         ‵ (flft κ₁ q₁) ∷ ‵ (flft κ₂ q₂) ∷ ‵ (T-line .own line (sliceVal (line .ptr) (length (line .now)) ∷ [])) ∷ []) (
         Walk.move ! (3 ∷ []) (
@@ -534,7 +524,7 @@ module _ {M : Type 1} (𝓤 : URA M) (H : Heap 𝓤) (A : Atoms 𝓤) (W : Given
         Walk.use0 W ! (‵ (Choice-T.the-row .own r6 ((LL.val Choice-T.the-type Choice-L.the-laws r6) ∷ [])))
         (LL.makes Choice-T.the-type Choice-L.the-plain 𝓤 H A r6 _ is6) (
         Walk.keep ! (1 ∷ 1 ∷ 0 ∷ []) (
-        Kit.by ! (Walk.leave-by 𝓤 H A W f-first-reading.ended (f-first-reading.clauses 𝓤 H A mem run) stayed-first-reading bound (LL.val Choice-T.the-type Choice-L.the-laws r6) r6 (tt, (tt, (tt, ((ws2 .1 .1 .1 .0), (tt, (tt, tt)))))) (tt, (tt, (tt, ((len2 ∙ (len1 ∙ refl)), (tt, (tt, tt)))))) (factI 𝓤 _ (emp 𝓤) (is-call (searched-by-brackets m e2) pre refl (none-dead-front pre e1) (front-short pre) (eqb-false (r2 .node) 0 t1) e4 e5 e6)))))))))))))))))))))))))))))))))))))))))))))))))))))))))))))))))))))))))))))))))))))))))))))))))))))))))))))))))))))))))))))))
+        Kit.by ! (Walk.leave-by 𝓤 H A W f-first-reading.ended (f-first-reading.clauses 𝓤 H A mem run) stayed-first-reading bound (LL.val Choice-T.the-type Choice-L.the-laws r6) r6 (tt, (tt, (tt, ((ws2 .1 .1 .1 .0), (tt, (tt, tt)))))) (tt, (tt, (tt, ((len2 ∙ (len1 ∙ refl)), (tt, (tt, tt)))))) (factI 𝓤 _ (emp 𝓤) (is-call (searched-by-brackets m e2) pre refl (none-dead-front pre e1) (front-short pre) (eqb-false r2 0 t1) e4 e5 e6)))))))))))))))))))))))))))))))))))))))))))))))))))))))))))))))))))))))))))))))))))))))))))))))))))))))))))))))))))))))))))))
 
 pub first-reading-spec : {M : Type 1} → stated.statement M
 unfolding code.routine tablesOf

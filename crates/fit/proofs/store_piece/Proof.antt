@@ -10,6 +10,9 @@ mul-notes c = search needs
 slice-write-notes : tie.Need-slice-write-notes
 slice-write-notes c = search needs
 
+slice-read-notes : tie.Need-slice-read-notes
+slice-read-notes c = search needs
+
 add-notes : tie.Need-add-notes
 add-notes c = search needs
 
@@ -19,6 +22,9 @@ mul-notes-2 c = search needs
 slice-write-notes-2 : tie.Need-slice-write-notes-2
 slice-write-notes-2 c = search (piece-room, needs)
 
+slice-write-notes-3 : tie.Need-slice-write-notes-3
+slice-write-notes-3 c = search needs
+
 same-length : tie.Need-same-length
 same-length c = search needs
 
@@ -26,4 +32,4 @@ returns : tie.Need-returns
 returns c = search (piece-noted, needs)
 
 pub store-piece-spec : {M : Type 1} → statement M
-store-piece-spec = tie.close (tie.spec mul-notes slice-write-notes add-notes mul-notes-2 slice-write-notes-2 same-length returns)
+store-piece-spec = tie.close (tie.spec mul-notes slice-write-notes slice-read-notes add-notes mul-notes-2 slice-write-notes-2 slice-write-notes-3 same-length returns)
