@@ -2,7 +2,7 @@
  *
  * Link with target/staticlib/libapi.a (x86-64 Linux), which `rt staticlib api` writes. The calls keep nothing between one and
  * the next, allocate nothing, and may run in several threads at once. A check and a fit need 128 KB of stack, a run 256 KB;
- * the deepest search that was found takes 70 KB, and a run with it 170 KB.
+ * the deepest search that was found takes 57 KB, and a run with it 160 KB.
  *
  * An array is passed as a pointer and a count of elements. No pointer may be NULL, not even with a count of 0. The arrays
  * that a call writes to, the node row, the row of dead places, both outputs and the store, overlap neither each other nor the
@@ -35,15 +35,24 @@ extern "C" {
 /* The least count of a store. No run lists more than this. */
 #define STAGE2_STORE 8704
 
-/* A node of the tree of a text's templates. A caller only lends a row of them: what they hold before a call and after it
- * means nothing. */
+/* The key of a node's element: a literal's is its byte, then come a template's end, a placeholder, and the root, which has no
+ * element. */
+#define STAGE2_END_KEY 256
+#define STAGE2_PLACEHOLDER_KEY 257
+#define STAGE2_ROOT_KEY 258
+
+/* A node of the tree of a text's templates, which has a node for each distinct beginning of a template. A caller lends a row of
+ * them; what they hold before a call means nothing. After stage2_fit and stage2_run of a text that loads, where the number is
+ * not 1, the tree stands at the front of the row: node 0 is the root, and the children of each node stand side by side,
+ * ascending by their keys: literals by their bytes, then the end, then the placeholder. What the other nodes hold means
+ * nothing, and so do all nodes after stage2_check and after a text that does not load. */
 typedef struct {
-    uint16_t element;   /* the template's end 0, a placeholder 1, a literal byte b is b + 2 */
+    uint16_t element;   /* the key of its element */
     uint16_t first;     /* the first child */
-    uint16_t count;     /* how many children stand from there on */
-    uint16_t template_; /* the number of its template; C++ keeps the name without the underscore */
-    uint16_t height;    /* how many elements follow it at most */
-    uint16_t holes;     /* how many placeholders stand up to and with it */
+    uint16_t count;     /* how many children stand from there on; 0 at a template's end */
+    uint16_t template_; /* at an end the template's place in the text, from 0 on; C++ keeps the name without the underscore */
+    uint16_t height;    /* how many elements may follow it: 201 less the length of its beginning */
+    uint16_t holes;     /* how many placeholders its beginning has */
 } stage2_node;
 
 /* What checking a text gives. */

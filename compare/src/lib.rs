@@ -3,12 +3,18 @@
 
 pub mod cases;
 pub mod lent;
+pub mod sets;
 
 use stage2_reference::{Checked, Fitted, Ran};
 
+/// A node's `element` where it is no literal byte.
+pub const END_KEY: u16 = 256;
+pub const PLACEHOLDER_KEY: u16 = 257;
+pub const ROOT_KEY: u16 = 258;
+
 /// An element of the lent node row.
 #[repr(C)]
-#[derive(Clone, Copy, Default)]
+#[derive(Clone, Copy, Debug, Default)]
 pub struct Node {
     pub element: u16,
     pub first: u16,

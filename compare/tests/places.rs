@@ -6,7 +6,7 @@ mod common;
 
 use std::time::{Duration, Instant};
 
-use common::{answered, for_brackets_texts, for_places_texts, shown, Rows};
+use common::{answered, for_brackets_texts, for_places_texts, least_times, shown, Rows};
 use stage2_compare::cases::{bracket_lines, bracket_texts, nested, text_of};
 use stage2_compare::fit;
 use stage2_compare::lent::Lent;
@@ -248,19 +248,4 @@ fn the_time_of_nested_brackets_grows_as_the_bytes_read() {
         );
         assert!(ratio <= growth * ALLOWANCE, "{templates}: {ratio:.2}, bytes {growth:.2}");
     }
-}
-
-/// The least times of proved runs, each taken so often, in turn with the others.
-fn least_times<const N: usize>(rounds: usize, texts: [&[u8]; N]) -> [Duration; N] {
-    let mut lent = Lent::default();
-    let mut least = [Duration::MAX; N];
-    for _ in 0..rounds {
-        for (least, text) in least.iter_mut().zip(texts) {
-            let start = Instant::now();
-            let ran = lent.run_proved(text);
-            *least = start.elapsed().min(*least);
-            assert_eq!(ran.number, 0);
-        }
-    }
-    least
 }

@@ -1,7 +1,8 @@
 //! An independent implementation of document 01, STAGE2 for name tables and
 //! export, with requests 1 (UTF-8), 2 (values of 64 bits), 3 (places), 4 (two
-//! outputs, and input lines copied to them) and 5 (bytes read) of document 02. It
-//! is written from the documents alone so that others can be compared with it.
+//! outputs, and input lines copied to them), 5 (bytes read) and 6 (children side by
+//! side) of document 02. It is written from the documents alone so that others can
+//! be compared with it.
 //!
 //! The public calls are [`check`], [`fit`] and [`run`]. Each takes the text
 //! itself.
@@ -14,6 +15,7 @@ mod machine;
 mod number;
 mod output;
 pub mod programs;
+mod row;
 mod search;
 mod store;
 mod text;
@@ -22,6 +24,7 @@ mod utf8;
 mod value;
 
 pub use number::Number;
+pub use row::{Element, RowNode};
 pub use search::Looks;
 
 /// The largest legal fuel.
@@ -114,6 +117,27 @@ pub fn most_places(text: &[u8], line: &[u8]) -> Option<u64> {
 pub fn looks(text: &[u8], line: &[u8]) -> Option<Looks> {
     let program = load::load(text, NODE_ROW).ok()?;
     (line.len() <= text::LINE_LIMIT).then(|| search::fit(&program.tree, line, &program.marks).looks)
+}
+
+/// The tree of a text's templates as a row of nodes, each node's children side by
+/// side. `None` if the text does not load.
+pub fn row(text: &[u8]) -> Option<Vec<RowNode>> {
+    Some(row::row(&load::load(text, NODE_ROW).ok()?.tree))
+}
+
+/// How much a text has of what document 01 limits in a section.
+#[derive(Clone, Copy, Debug, PartialEq, Eq)]
+pub struct Counts {
+    pub macros: usize,
+    /// Layouts included.
+    pub code_lines: usize,
+    pub nodes: usize,
+}
+
+/// Counts what a text has. `None` if it does not load.
+pub fn counts(text: &[u8]) -> Option<Counts> {
+    let program = load::load(text, NODE_ROW).ok()?;
+    Some(Counts { macros: program.macros.len(), code_lines: program.code_lines, nodes: program.tree.size() })
 }
 
 /// Expands a text's input lines with at most `fuel` events. Bytes of `output`,

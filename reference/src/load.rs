@@ -20,6 +20,8 @@ pub struct Program<'a> {
     pub tree: Tree,
     /// In the text's order, which is the tree's order of templates.
     pub macros: Vec<Macro<'a>>,
+    /// Code lines of all bodies, layouts included.
+    pub code_lines: usize,
     /// The number of the section's last line.
     pub section_end: u64,
     /// The lines after the section, whole.
@@ -105,7 +107,8 @@ impl<'a> Section<'a> {
     }
 
     fn program(self, section_end: u64, input: Vec<&'a [u8]>) -> Program<'a> {
-        Program { marks: self.marks, tree: self.tree, macros: self.macros, section_end, input }
+        let Section { marks, tree, macros, code_lines, .. } = self;
+        Program { marks, tree, macros, code_lines, section_end, input }
     }
 
     /// Reads the section's next line. Faults are tested by ascending number,

@@ -96,6 +96,13 @@ impl Tree {
         None
     }
 
+    /// The literal children of `parent` with their bytes, in no order that matters.
+    pub fn literals(&self, parent: u32) -> impl Iterator<Item = (u8, u32)> + '_ {
+        let next = |child: &u32| self.nodes[*child as usize].sibling;
+        let children = std::iter::successors(self.nodes[parent as usize].literal, next);
+        children.map(|child| (self.nodes[child as usize].byte, child))
+    }
+
     /// The child of `parent` for a placeholder.
     pub fn placeholder(&self, parent: u32) -> Option<u32> {
         self.nodes[parent as usize].placeholder

@@ -2,12 +2,14 @@
 //! the ratio of the two times. Both are timed in turn, and the shortest of many
 //! times counts, which other work on the machine disturbs least. A run loads its
 //! text first; where the same text is timed without input too, a last column has
-//! the ratio of what the input adds.
+//! the ratio of what the input adds. The last lines say how loading grows with the
+//! macros.
 
 use std::time::{Duration, Instant};
 
 use stage2_compare::cases::{bracket_lines, bracket_separators, each_depth};
 use stage2_compare::lent::Lent;
+use stage2_compare::sets::{apart, largest, sharing, text_of};
 use stage2_reference::{self as reference, Ran, DEAD_ROW, FUEL_LIMIT, NODE_ROW};
 
 /// How long both libraries are timed on a case.
@@ -21,7 +23,8 @@ fn main() {
         "case", "events", "proved", "reference", "ratio", "input"
     );
     let mut lent = Lent::default();
-    let mut print = |case: &str, text: &str, loading: Option<Times>| print(&mut lent, case, text, loading);
+    let mut print =
+        |case: &str, text: &str, loading: Option<Times>| print(&mut lent, case, text.as_bytes(), loading);
     print("1,000,000 events: passes of an iteration", &passes(), None);
     print("1,000,000 events: calls in an iteration", &calls(), None);
     print("900 order lines through name templates", &orders(""), None);
@@ -54,6 +57,32 @@ fn main() {
                 );
             }
         }
+    }
+    print_loading(&mut lent);
+}
+
+/// How many macros are loaded.
+const LOADED: [usize; 5] = [1, 10, 50, 100, 128];
+
+/// Sets without input, and how their times grow from ten macros to 128.
+fn print_loading(lent: &mut Lent) {
+    let sets: [(&str, fn(usize) -> Vec<Vec<u8>>); 2] = [("nothing", apart), ("180 bytes", sharing)];
+    let times = sets.map(|(shared, templates)| {
+        LOADED.map(|macros| {
+            let case = format!("{macros} macros that share {shared}, no line");
+            print(lent, &case, &text_of(&templates(macros)), None)
+        })
+    });
+    print(lent, "largest set: 65,536 bytes, 1,024 code lines, 2,048 nodes", &largest(), None);
+    println!();
+    let n_log_n = |macros: usize| macros as f64 * (macros as f64).ln();
+    let allowed = n_log_n(LOADED[4]) / n_log_n(LOADED[1]);
+    for ((shared, _), [_, ten, _, _, most]) in sets.iter().zip(times) {
+        let proved = most.proved.as_secs_f64() / ten.proved.as_secs_f64();
+        let reference = most.reference.as_secs_f64() / ten.reference.as_secs_f64();
+        println!(
+            "128 macros over 10, sharing {shared}: proved {proved:.1}, reference {reference:.1}, n log n {allowed:.1}"
+        );
     }
 }
 
@@ -135,8 +164,7 @@ impl Times {
 }
 
 /// One row: both libraries run the text and agree.
-fn print(lent: &mut Lent, case: &str, text: &str, loading: Option<Times>) -> Times {
-    let text = text.as_bytes();
+fn print(lent: &mut Lent, case: &str, text: &[u8], loading: Option<Times>) -> Times {
     let start = Instant::now();
     let mut shortest = Times { proved: Duration::MAX, reference: Duration::MAX };
     while start.elapsed() < LEAST {

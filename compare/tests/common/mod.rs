@@ -10,8 +10,9 @@ use std::collections::BTreeMap;
 use std::env;
 use std::sync::mpsc;
 use std::thread;
-use std::time::Duration;
+use std::time::{Duration, Instant};
 
+use stage2_compare::lent::Lent;
 use stage2_compare::Node;
 use stage2_reference::generate::{Generator, Size};
 use stage2_reference::{DEAD_ROW, NODE_ROW};
@@ -54,6 +55,11 @@ pub fn for_brackets_texts(size: Size, test: impl FnMut(&mut Generator, &[u8])) {
 /// Calls `test` with random texts about outputs, of a size.
 pub fn for_output_texts(size: Size, test: impl FnMut(&mut Generator, &[u8])) {
     for_made(&format!("{size:?}, outputs"), |generator| generator.output_text(size), test);
+}
+
+/// Calls `test` with random texts of templates alone.
+pub fn for_tree_texts(test: impl FnMut(&mut Generator, &[u8])) {
+    for_made("trees", Generator::tree_text, test);
 }
 
 /// Calls `test` with the texts that `make` makes, and prints the seed.
@@ -156,6 +162,21 @@ pub fn any_dead(turn: u64) -> usize {
 
 /// The longest of them.
 pub const LONGEST_DEAD: usize = DEAD_ROW + 60;
+
+/// The least times of proved runs, each taken so often, in turn with the others.
+pub fn least_times<const N: usize>(rounds: usize, texts: [&[u8]; N]) -> [Duration; N] {
+    let mut lent = Lent::default();
+    let mut least = [Duration::MAX; N];
+    for _ in 0..rounds {
+        for (least, text) in least.iter_mut().zip(texts) {
+            let start = Instant::now();
+            let ran = lent.run_proved(text);
+            *least = start.elapsed().min(*least);
+            assert_eq!(ran.number, 0);
+        }
+    }
+    least
+}
 
 /// What a call gives, which must answer within a minute.
 pub fn answered<T: Send + 'static>(call: impl FnOnce() -> T + Send + 'static) -> T {

@@ -26,6 +26,13 @@ pub fn files(folder: &Path, ending: &str) -> Vec<PathBuf> {
     files
 }
 
+/// The files with an ending in a folder and all folders below it.
+pub fn files_below(folder: &Path, ending: &str) -> Vec<PathBuf> {
+    let entries = fs::read_dir(folder).unwrap_or_else(|_| panic!("{} cannot be read", folder.display()));
+    let folders = entries.map(|entry| entry.unwrap().path()).filter(|path| path.is_dir());
+    folders.flat_map(|below| files_below(&below, ending)).chain(files(folder, ending)).collect()
+}
+
 /// A file for a test, which is removed with this.
 pub struct Scratch(PathBuf);
 

@@ -9,6 +9,7 @@ ghost use Rattle.model.specs.Results.{checkText, fitLine, illegal, runText};
 ghost use Rattle.model.specs.FirstReading.{FitsFirst};
 ghost use Rattle.model.specs.Runs.{Runs};
 ghost use Rattle.model.specs.Demands.{FollowsExpansion};
+ghost use Rattle.nodes.specs.SideBySide.{HoldsTree};
 use model::Checked;
 use model::Fitted;
 use model::Ran;
@@ -30,7 +31,7 @@ pub extern "C" fn stage2_fit(
 ) -> Fitted
     ensures { λ r. ⌜ r ≡ fitLine (length (now (nodes .entry))) (length (now (dead .entry))) (now (text .entry)) (now (line .entry)) ⌝ }
     ensures { λ r. ⌜ ((t : Loaded) → load (now (text .entry)) ≡ loaded t → 2048 ≤ length (now (nodes .entry)) → 51456 ≤ length (now (dead .entry))
-        → length (now (line .entry)) ≤ 200 → FitsFirst t (now (line .entry)) r) ⌝ }
+        → HoldsTree t (now (nodes .exit)) × (length (now (line .entry)) ≤ 200 → FitsFirst t (now (line .entry)) r)) ⌝ }
 {
     stage2::fit(text, nodes, dead, line)
 }
@@ -50,7 +51,7 @@ pub extern "C" fn stage2_run(
         (now (output .entry)) (now (second .entry)) (now (store .entry)) r (now (output .exit)) (now (second .exit)) (now (store .exit)) ⌝ }
     ensures { λ r. ⌜ ((t : Loaded) → load (now (text .entry)) ≡ loaded t
         → illegal fuel (length (now (nodes .entry))) (length (now (dead .entry))) (length (now (store .entry))) ≡ false
-        → FollowsExpansion t fuel (now (output .entry)) (now (second .entry)) (now (store .entry)) r
+        → HoldsTree t (now (nodes .exit)) × FollowsExpansion t fuel (now (output .entry)) (now (second .entry)) (now (store .entry)) r
         (now (output .exit)) (now (second .exit)) (now (store .exit))) ⌝ }
 {
     stage2::run(text, fuel, nodes, dead, output, second, store)

@@ -1,4 +1,4 @@
--- The laws of the search's steps, of a place taken up by them, and of the chosen reading; callers use tree-of of Choose.
+-- The laws of the search's steps, of a place taken up by them, and of the chosen reading; callers use can-fit.
 pub mod Nine
 mod Steps
 mod Taken
@@ -6,3 +6,4 @@ mod Few
 mod Pieces
 mod Trees
 pub mod Choose
+pub mod Asking

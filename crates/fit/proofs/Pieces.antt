@@ -18,8 +18,10 @@ use Rattle.model.specs.Results.{startsOf, nine}
 use Rattle.model.proofs.Chosen.{Tested, alike, apart, tested}
 use Rattle.model.proofs.Search.{walk, onward-inv}
 use Rattle.nodes.specs.declared.Node.{Node}
-use Rattle.nodes.specs.Rows.{kid, holes, Tree}
-use Rattle.nodes.proofs.Rows.{kid-child, holes-lit, holes-hole}
+use Rattle.nodes.specs.Rows.{kid, holes}
+use Rattle.nodes.specs.SideBySide.{SideBySide}
+use Rattle.nodes.proofs.Rows.{holes-lit, holes-stop, holes-hole}
+use Rattle.nodes.proofs.Templates.{walk-there}
 use Rattle.fit.specs.Outcome.{withPieces, startsIn, lensIn}
 
 -- ---- nine numbers
@@ -174,23 +176,22 @@ module _ (m : Marks) where
 
 -- ---- how many pieces
 
-module _ (rows : List Node) (tree : Tree rows) where
+module _ {marks : Marks} {templates : List Bytes} {rows : List Node} (tree : SideBySide marks templates rows) where
   -- a node has as many placeholders as the reading that leads there has pieces
   holes-pieces : (r : List ReadingPart) (i j : ℕ) → walk (kid rows) i (elements r) ≡ suc j → holes rows (suc j) ≡ holes rows i + length (pieces r)
   holes-pieces [] i j w =
       let (c, x, y) = onward-inv (λ k. k) (kid rows i stop) j w in
-      let h = kid-child rows i stop c x in
-      ap (holes rows) (sym y) ∙ tree .no-hole i (suc c) (h .0) (λ z. omega (arith, h .1, z)) ∙ omega arith
+      ap (holes rows) (sym y) ∙ holes-stop tree i c x ∙ omega arith
   holes-pieces (byte b ∷ r) i j w =
       let (c, x, y) = onward-inv (λ k. walk (kid rows) k (elements r)) (kid rows i (lit b)) j w in
-      holes-pieces r (suc c) j y ∙ ap (λ (n : ℕ). n + length (pieces r)) (holes-lit rows tree i b c x)
+      holes-pieces r (suc c) j y ∙ ap (λ (n : ℕ). n + length (pieces r)) (holes-lit tree i b c x)
   holes-pieces (piece p ∷ r) i j w =
       let (c, x, y) = onward-inv (λ k. walk (kid rows) k (elements r)) (kid rows i hole) j w in
-      omega (arith, holes-pieces r (suc c) j y, holes-hole rows tree i c x)
+      omega (arith, holes-pieces r (suc c) j y, holes-hole tree i c x)
 
   -- so there are nine at most
-  pub few-pieces : (r : List ReadingPart) (i j : ℕ) → walk (kid rows) i (elements r) ≡ suc j → holes rows i + length (pieces r) ≤ 9
-  few-pieces r i j w = omega (arith, holes-pieces r i j w, tree .nine (suc j))
+  pub few-pieces : (r : List ReadingPart) (i j : ℕ) → i < length rows → walk (kid rows) i (elements r) ≡ suc j → holes rows i + length (pieces r) ≤ 9
+  few-pieces r i j lt w = omega (arith, holes-pieces r i j w, tree .says (suc j) (walk-there tree (elements r) i j lt w) .nine)
 
 -- ---- all of it
 

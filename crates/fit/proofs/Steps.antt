@@ -15,6 +15,7 @@ use Rattle.model.specs.Limits.{lineMost, nodesMost}
 use Rattle.model.specs.declared.Marks.{Marks}
 use Rattle.model.specs.Text.{Bytes, part}
 use Rattle.model.specs.Parts.{Elem, lit, hole, stop}
+use Rattle.model.specs.Children.{placeholderKey, elementOf}
 use Rattle.model.specs.Places.{Found, withByte, pieceFound, withAtom, Place, isIn, Tried, idle, within, orTry, takeUp, tryChild, tryEnd, tryAtom, tryByte, tryPiece, tryPlace}
 use Rattle.model.proofs.Choices.{false-not-true}
 use Rattle.model.proofs.Atoms.{none-some}
@@ -22,25 +23,27 @@ use Rattle.model.proofs.Search.{rest-end, rest-byte, rest-piece}
 use Rattle.atom.specs.declared.Scanned.{Scanned}
 use Rattle.atom.specs.Atoms.{AtomAt}
 use Rattle.nodes.specs.declared.Node.{Node}
-use Rattle.nodes.specs.Rows.{noNode, firstOf, countOf, code, kid, holey, height, holes, Tree, ChildFor, Stands}
-use Rattle.nodes.proofs.Rows.{kid-falls, kid-lit, holes-lit, holes-hole, front-node, front-long, front-within, front-child}
-use Rattle.fit.specs.Outcome.{elementOf, elementAt, piecesIn, restIn, Counted, Counts, PassesAtom, EndsTemplate, withPieceAt, withPieces, StoresPiece, startsIn, lensIn, Told, Says, HoldsDead}
+use Rattle.nodes.specs.Rows.{noNode, kid, holey, height, holes, InRun, ChildFor}
+use Rattle.nodes.specs.SideBySide.{SideBySide, Stands}
+use Rattle.model.proofs.Children.{byte-key, end-key, hole-key}
+use Rattle.nodes.proofs.Rows.{kid-within, kid-falls, kid-lit, holes-lit, holes-hole, front-node, front-long, front-run, front-child}
+use Rattle.fit.specs.Outcome.{nextElement, elementAt, piecesIn, restIn, Counted, Counts, PassesAtom, EndsTemplate, withPieceAt, withPieces, StoresPiece, startsIn, lensIn, Told, Says, HoldsDead}
 use Rattle.fit.specs.Outcome.{Lent, Outcomes, sizeIn, placeTried, byteStep, pieceStep, atomStep, Asks, Comes, SearchedIn, ByteSearched, PieceSearched, AtomSearched}
 
 -- ---- the element that leads on
 
 -- a byte's, before the end
-pub element-byte : (line : Bytes) (end at r : ℕ) → at < end → end ≤ length line → r ≡ getD line at 0 + 2 → r ≡ code (elementAt (take end line) at)
-element-byte [] end at r lt le w = absurd (omega arith)
-element-byte (b ∷ line) zero at r lt le w = absurd (omega arith)
-element-byte (b ∷ line) (suc end) zero r lt le w = w
-element-byte (b ∷ line) (suc end) (suc at) r lt le w = element-byte line end at r (omega arith) (omega arith) w
+pub element-byte : (line : Bytes) (end at r : ℕ) → at < end → end ≤ length line → r ≡ getD line at 0 → r < 256 → elementOf r ≡ elementAt (take end line) at
+element-byte [] end at r lt le w u = absurd (omega arith)
+element-byte (b ∷ line) zero at r lt le w u = absurd (omega arith)
+element-byte (b ∷ line) (suc end) zero r lt le w u = byte-key r u ∙ ap lit w
+element-byte (b ∷ line) (suc end) (suc at) r lt le w u = element-byte line end at r (omega arith) (omega arith) w u
 
 -- the template's end, there
-pub element-end : (line : Bytes) (end at : ℕ) → end ≤ at → 0 ≡ code (elementAt (take end line) at)
+pub element-end : (line : Bytes) (end at : ℕ) → end ≤ at → elementOf 256 ≡ elementAt (take end line) at
 element-end line end at le =
     let short : length (take end line) ≤ at = omega (arith, length-take end line) in
-    sym (ap (λ (s : Bytes). code (elementOf s)) (drop-of-length-le (take end line) short))
+    end-key ∙ sym (ap nextElement (drop-of-length-le (take end line) short))
 
 -- ---- the atom in the front of a line
 
@@ -173,14 +176,18 @@ module _ {row : List Node} {made node : ℕ} (s : Stands row made) (lt : node < 
   child-there = omega (arith, front-child s node lt e c h .within, front-long s)
 
   -- the child there for an element
-  child-is : (x : Elem) → e ≡ code x → c ≡ kid (take made row) node x
+  child-is : (x : Elem) → elementOf e ≡ x → c ≡ kid (take made row) node x
   child-is x w = rw (← w) (front-child s node lt e c h .is)
 
+  -- and for a placeholder
+  hole-is : e ≡ placeholderKey → c ≡ kid (take made row) node hole
+  hole-is w = child-is hole (ap elementOf w ∙ hole-key)
+
   -- it is less high
-  child-lower : (x : Elem) → e ≡ code x → ¬ (c ≡ 0) → height row c < height row node
+  child-lower : (x : Elem) → elementOf e ≡ x → ¬ (c ≡ 0) → height row c < height row node
   child-lower x w z =
       let (j, v) = suc-of c z in
-      let l = kid-falls (take made row) (s .tree) node x j (sym (child-is x w) ∙ v) in
+      let l = kid-falls (s .tree) node x j (sym (child-is x w) ∙ v) in
       let y : height (take made row) (suc j) ≡ height row c = ap (height (take made row)) (sym v) ∙ ap (λ (n : Node). n .height) (front-node row made c child-there) in
       omega (arith, l, y, ap (λ (n : Node). n .height) (front-node row made node lt))
 
@@ -204,9 +211,9 @@ module _ {row : List Node} {dead : Bytes} {notes : List ℕ} {line : Bytes} {end
   pub asks-node : node < length row
   asks-node = omega (arith, a .there, a .stands .within)
 
-  -- and so are its children
-  pub asks-children : (node < length row) × (firstOf row node + countOf row node ≤ length row)
-  asks-children = (asks-node, front-within (a .stands) node (a .there))
+  -- and so are its children, in a run
+  pub asks-children : InRun row node
+  asks-children = front-run (a .stands) node (a .there)
 
   -- its place has a number
   pub asks-number : (node < nodesMost) × (end ≤ lineMost) × (at ≤ end)
@@ -237,21 +244,21 @@ module _ {row : List Node} {dead : Bytes} {notes : List ℕ} {line : Bytes} {end
     asks-byte n = elsewhere a dead notes c (at + 1) refl refl (child-there (a .stands) (a .there) h) (omega (arith, a .low, n))
 
     -- the child is less high, so the measure falls
-    pub byte-less : e ≡ code (elementAt (take end line) at) → ¬ (c ≡ 0) → ¬ (at ≡ end) → 3 * (height row c + (end - (at + 1))) + 2 < 3 * (height row node + (end - at))
+    pub byte-less : elementOf e ≡ elementAt (take end line) at → ¬ (c ≡ 0) → ¬ (at ≡ end) → 3 * (height row c + (end - (at + 1))) + 2 < 3 * (height row node + (end - at))
     byte-less w z n = omega (arith, child-lower (a .stands) (a .there) h (elementAt (take end line) at) w z)
 
-    pub piece-less : e ≡ 1 → ¬ (c ≡ 0) → 3 * (height row c + (end - at)) + 2 < 3 * (height row node + (end - at))
-    piece-less w z = omega (arith, child-lower (a .stands) (a .there) h hole w z)
+    pub piece-less : e ≡ placeholderKey → ¬ (c ≡ 0) → 3 * (height row c + (end - at)) + 2 < 3 * (height row node + (end - at))
+    piece-less w z = omega (arith, child-lower (a .stands) (a .there) h hole (ap elementOf w ∙ hole-key) z)
 
     -- there is room for the piece of one more placeholder
-    below-nine : {n : Node} {k : ℕ} → e ≡ 1 → ¬ (c ≡ 0) → n ≡ getD row node noNode → k ≡ n .holes → k < 9
+    below-nine : {n : Node} {k : ℕ} → e ≡ placeholderKey → ¬ (c ≡ 0) → n ≡ getD row node noNode → k ≡ n .holes → k < 9
     below-nine w z x y =
         let (j, v) = suc-of c z in
-        let rows = take (a .made) row in
-        let u = holes-hole rows (a .stands .tree) node j (sym (child-is (a .stands) (a .there) h hole w) ∙ v) in
-        omega (arith, u, a .stands .tree .nine (suc j), y, ap (λ (n : Node). n .holes) (x ∙ sym (front-node row (a .made) node (a .there))))
+        let tree = a .stands .tree in
+        let q = sym (hole-is (a .stands) (a .there) h w) ∙ v in
+        omega (arith, holes-hole tree node j q, tree .says (suc j) (kid-within tree node hole j q) .nine, y, ap (λ (n : Node). n .holes) (x ∙ sym (front-node row (a .made) node (a .there))))
 
-    pub piece-fits : {m : Marks} {n : Node} {k : ℕ} {dead1 : Bytes} {notes1 : List ℕ} {r : ℕ} → e ≡ 1 → ¬ (c ≡ 0) → SearchedIn m row (take end line) c at dead dead1 notes notes1 r
+    pub piece-fits : {m : Marks} {n : Node} {k : ℕ} {dead1 : Bytes} {notes1 : List ℕ} {r : ℕ} → e ≡ placeholderKey → ¬ (c ≡ 0) → SearchedIn m row (take end line) c at dead dead1 notes notes1 r
         → length notes1 ≡ length notes → n ≡ getD row node noNode → k ≡ n .holes → (k < 9) × (length notes1 ≡ 21)
     piece-fits w z g l x y = (below-nine w z x y, l ∙ a .all-notes)
 
@@ -312,39 +319,39 @@ idle-comes {notes = notes} h e = rw e record {
 }
 
 -- no child has the byte, nor the end
-no-child : (kid : ℕ → Elem → ℕ) (F : ℕ → ℕ → Bytes → List Place → Tried) (i p : ℕ) (s : Bytes) (ds : List Place) → kid i (elementOf s) ≡ 0 → tryByte kid F i p s ds ≡ idle ds
+no-child : (kid : ℕ → Elem → ℕ) (F : ℕ → ℕ → Bytes → List Place → Tried) (i p : ℕ) (s : Bytes) (ds : List Place) → kid i (nextElement s) ≡ 0 → tryByte kid F i p s ds ≡ idle ds
 no-child kid F i p [] ds z = ap (λ (c : ℕ). tryEnd c p ds) z
 no-child kid F i p (b ∷ s) ds z = ap (λ (c : ℕ). within (withByte b) (tryChild (λ j. F j (p + 1) s ds) c ds)) z
 
 module _ {m : Marks} {row : List Node} {line : Bytes} {node at e c : ℕ} {dead : Bytes} {notes : List ℕ} (h : ChildFor row node e c) where
   -- no child has the byte, nor the end
-  pub byte-none : {r : ℕ} → e ≡ code (elementAt line at) → c ≡ 0 → r ≡ 0 → ByteSearched m row line node at dead dead notes notes r
+  pub byte-none : {r : ℕ} → elementOf e ≡ elementAt line at → c ≡ 0 → r ≡ 0 → ByteSearched m row line node at dead dead notes notes r
   byte-none w z q = record {
     comes = idle-comes (λ made s lt n ds k l. no-child (kid (take made row)) (tryPlace m (kid (take made row)) (holey (take made row)) n) node at (drop at line) ds
         (sym (child-is s lt h (elementAt line at) w) ∙ z)) q;
   }
 
   -- no child is a placeholder's
-  pub piece-none : {r : ℕ} → e ≡ 1 → c ≡ 0 → r ≡ 0 → PieceSearched m row line node at dead dead notes notes r
+  pub piece-none : {r : ℕ} → e ≡ placeholderKey → c ≡ 0 → r ≡ 0 → PieceSearched m row line node at dead dead notes notes r
   piece-none w z q = record {
     comes = idle-comes (λ made s lt n ds k l. ap (λ (i : ℕ). within pieceFound (tryChild (λ j. tryPlace m (kid (take made row)) (holey (take made row)) n j at (drop at line) ds) i ds))
-        (sym (child-is s lt h hole w) ∙ z)) q;
+        (sym (hole-is s lt h w) ∙ z)) q;
   }
 
 -- ---- steps that lead to a child
 
 -- what is found at a child: c is the child for x, and r the answer from `next` on
-child-said : (m : Marks) (rows : List Node) (line : Bytes) (node at next n : ℕ) (x : Elem) (c : ℕ) (l : Lent) (ds : List Place) (r : ℕ) → Tree rows → c ≡ kid rows node x → ¬ (c ≡ 0) → at ≤ next
+child-said : (m : Marks) (rows : List Node) (line : Bytes) (node at next n : ℕ) (x : Elem) (c : ℕ) (l : Lent) (ds : List Place) (r : ℕ) {marks : Marks} {templates : List Bytes} → SideBySide marks templates rows → c ≡ kid rows node x → ¬ (c ≡ 0) → at ≤ next
     → sizeIn rows line node at ≤ n → HoldsDead (length rows) (suc (length line)) (l .dead) ds → Outcomes rows line c next (suc (sizeIn rows line c next)) (λ n. placeTried m rows line c next n) l r
     → Says (holes rows c) next (tryChild (λ j. tryPlace m (kid rows) (holey rows) n j next (drop next line) ds) (kid rows node x) ds) r (l .notes) (l .notes′)
     × HoldsDead (length rows) (suc (length line)) (l .dead′) (tryChild (λ j. tryPlace m (kid rows) (holey rows) n j next (drop next line) ds) (kid rows node x) ds .dead)
 child-said m rows line node at next n x c l ds r tree w z le lt k h =
     let (j, v) = suc-of c z in
     let y : kid rows node x ≡ suc j = sym w ∙ v in
-    let f = kid-falls rows tree node x j y in
+    let f = kid-falls tree node x j y in
     rw (y, ← v) (h .says n (omega (arith, f, ap (height rows) v)) ds k)
 
-module _ (m : Marks) (rows : List Node) (line : Bytes) (node at c r : ℕ) (tree : Tree rows) (z : ¬ (c ≡ 0)) where
+module _ (m : Marks) (rows : List Node) (line : Bytes) (node at c r : ℕ) {marks : Marks} {templates : List Bytes} (tree : SideBySide marks templates rows) (z : ¬ (c ≡ 0)) where
   -- the template ends here, at a place that is counted
   end-outcomes : (dead : Bytes) (notes notes1 : List ℕ) → length line ≤ at → c ≡ kid rows node (elementAt line at) → c < length rows → EndsTemplate notes notes1 → r ≡ c
       → Outcomes rows line node at (sizeIn rows line node at) (λ n. byteStep m rows line node at n) (record { dead = dead; dead′ = dead; notes = notes; notes′ = notes1 }) r
@@ -352,7 +359,7 @@ module _ (m : Marks) (rows : List Node) (line : Bytes) (node at c r : ℕ) (tree
   end-outcomes dead notes notes1 le w lt q e =
       let (j, x) = suc-of c z in
       let d : drop at line ≡ [] = drop-of-length-le line le in
-      let y : kid rows node stop ≡ suc j = ap (λ (s : Bytes). kid rows node (elementOf s)) (sym d) ∙ sym w ∙ x in
+      let y : kid rows node stop ≡ suc j = ap (λ (s : Bytes). kid rows node (nextElement s)) (sym d) ∙ sym w ∙ x in
       rw e record {
         says = λ n l ds k. rw (d, y) (record { told = (omega (arith, x), x, q .ended, q .counts .stay); counted = q .counts .counted }, k);
         short = λ _. omega (arith, q .ended);
@@ -371,7 +378,7 @@ module _ (m : Marks) (rows : List Node) (line : Bytes) (node at c r : ℕ) (tree
       d = rw add-one (drop-cons line at 0 lt)
 
       is : c ≡ kid rows node (lit b)
-      is = w ∙ ap (λ (s : Bytes). kid rows node (elementOf s)) d
+      is = w ∙ ap (λ (s : Bytes). kid rows node (nextElement s)) d
 
       says : (n : ℕ) → sizeIn rows line node at ≤ n → (ds : List Place) → HoldsDead (length rows) (suc (length line)) (l .dead) ds
           → Says (holes rows node) at (byteStep m rows line node at n ds) r (l .notes) (l .notes′) × HoldsDead (length rows) (suc (length line)) (l .dead′) (byteStep m rows line node at n ds .dead)
@@ -382,8 +389,8 @@ module _ (m : Marks) (rows : List Node) (line : Bytes) (node at c r : ℕ) (tree
           let (s, g) = child-said m rows line node at (at + 1) n (lit b) c l ds r tree is z (omega arith) le k h in
           rw d (
             record {
-              told = told-byte (holes rows node) (holes rows c) at b (t .found) r (l .notes) (l .notes′) (ap (holes rows) v ∙ holes-lit rows tree node b j y)
-                  (λ f e. place-rest m (kid rows) (holey rows) n (suc j) (at + 1) (drop (at + 1) line) ds f (kid-lit rows tree node b j y)
+              told = told-byte (holes rows node) (holes rows c) at b (t .found) r (l .notes) (l .notes′) (ap (holes rows) v ∙ holes-lit tree node b j y)
+                  (λ f e. place-rest m (kid rows) (holey rows) n (suc j) (at + 1) (drop (at + 1) line) ds f (kid-lit rows node b j y)
                   (subst (λ (i : ℕ). tryChild (λ j. tryPlace m (kid rows) (holey rows) n j (at + 1) (drop (at + 1) line) ds) i ds .found ≡ some f) y e)) (s .told);
               counted = s .counted;
             },
@@ -408,7 +415,7 @@ module _ (m : Marks) (rows : List Node) (line : Bytes) (node at c r : ℕ) (tree
           let t : Tried = tryChild (λ j. tryPlace m (kid rows) (holey rows) n j at (drop at line) ds) (kid rows node hole) ds in
           let (s, g) = said-child n le ds k in (
             record {
-              told = told-piece (holes rows node) (holes rows c) at (t .found) r notes notes1 notes2 (ap (holes rows) v ∙ holes-hole rows tree node j (sym w ∙ v)) f q (s .told);
+              told = told-piece (holes rows node) (holes rows c) at (t .found) r notes notes1 notes2 (ap (holes rows) v ∙ holes-hole tree node j (sym w ∙ v)) f q (s .told);
               counted = counted-more _ _ (omega arith) (omega arith) (s .counted) (q .counted);
             },
             g,
@@ -431,7 +438,7 @@ module _ (m : Marks) (rows : List Node) (line : Bytes) (node at c r : ℕ) (tree
 module _ {m : Marks} {row : List Node} {dead : Bytes} {notes : List ℕ} {line : Bytes} {end node at : ℕ} (a : Asks row dead notes line end node at) where
   module _ {e c : ℕ} (h : ChildFor row node e c) {r : ℕ} (z : ¬ (c ≡ 0)) where
     -- the template ends here
-    pub byte-end : {notes1 : List ℕ} → e ≡ code (elementAt (take end line) at) → at ≡ end → EndsTemplate notes notes1 → r ≡ c → ByteSearched m row (take end line) node at dead dead notes notes1 r
+    pub byte-end : {notes1 : List ℕ} → elementOf e ≡ elementAt (take end line) at → at ≡ end → EndsTemplate notes notes1 → r ≡ c → ByteSearched m row (take end line) node at dead dead notes notes1 r
     byte-end {notes1} w t k q = record {
       comes = record {
         each = λ made s lt.
@@ -441,7 +448,7 @@ module _ {m : Marks} {row : List Node} {dead : Bytes} {notes : List ℕ} {line :
     }
 
     -- what is found at the byte's child is found here
-    pub byte-below : {dead′ : Bytes} {notes′ : List ℕ} → e ≡ code (elementAt (take end line) at) → ¬ (at ≡ end) → SearchedIn m row (take end line) c (at + 1) dead dead′ notes notes′ r
+    pub byte-below : {dead′ : Bytes} {notes′ : List ℕ} → elementOf e ≡ elementAt (take end line) at → ¬ (at ≡ end) → SearchedIn m row (take end line) c (at + 1) dead dead′ notes notes′ r
         → ByteSearched m row (take end line) node at dead dead′ notes notes′ r
     byte-below {dead′} {notes′} w t g = record {
       comes = record {
@@ -451,7 +458,7 @@ module _ {m : Marks} {row : List Node} {dead : Bytes} {notes : List ℕ} {line :
       };
     }
 
-    module _ {dead1 : Bytes} {notes1 : List ℕ} (w : e ≡ 1) (g : SearchedIn m row (take end line) c at dead dead1 notes notes1 r) where
+    module _ {dead1 : Bytes} {notes1 : List ℕ} (w : e ≡ placeholderKey) (g : SearchedIn m row (take end line) c at dead dead1 notes notes1 r) where
       -- what is found at the placeholder's child is a piece, and what follows it
       pub piece-below : {n : Node} {k : ℕ} {notes2 : List ℕ} → ¬ (r ≡ 0) → n ≡ getD row node noNode → k ≡ n .holes → StoresPiece k at notes1 notes2
           → PieceSearched m row (take end line) node at dead dead1 notes notes2 r
@@ -459,7 +466,7 @@ module _ {m : Marks} {row : List Node} {dead : Bytes} {notes : List ℕ} {line :
         comes = record {
           each = λ made s lt.
               let v : k ≡ holes (take made row) node = y ∙ ap (λ (n : Node). n .holes) (x ∙ sym (front-node row made node lt)) in
-              piece-outcomes m (take made row) (take end line) node at c r (s .tree) z dead dead1 notes notes1 (child-is s lt h hole w) (g .comes .each made s (child-there s lt h)) notes2 f
+              piece-outcomes m (take made row) (take end line) node at c r (s .tree) z dead dead1 notes notes1 (hole-is s lt h w) (g .comes .each made s (child-there s lt h)) notes2 f
               (subst (λ (k : ℕ). StoresPiece k at notes1 notes2) v q);
         };
       }
@@ -469,15 +476,15 @@ module _ {m : Marks} {row : List Node} {dead : Bytes} {notes : List ℕ} {line :
       piece-nowhere f q = rw (q ∙ sym f) record {
         comes = record {
           each = λ made s lt.
-              no-piece-outcomes m (take made row) (take end line) node at c r (s .tree) z dead dead1 notes notes1 (child-is s lt h hole w) (g .comes .each made s (child-there s lt h)) f;
+              no-piece-outcomes m (take made row) (take end line) node at c r (s .tree) z dead dead1 notes notes1 (hole-is s lt h w) (g .comes .each made s (child-there s lt h)) f;
         };
       }
 
 -- ---- the atom
 
 -- whether the tree's node is a placeholder's
-holey-is : (row : List Node) (node made : ℕ) {n : Node} {b : Bool} → node < made → n ≡ getD row node noNode → b ≡ eqb (n .element) 1 → holey (take made row) node ≡ b
-holey-is row node made lt x y = sym (y ∙ ap (λ (n : Node). eqb (n .element) 1) (x ∙ sym (front-node row made node lt)))
+holey-is : (row : List Node) (node made : ℕ) {n : Node} {b : Bool} → node < made → n ≡ getD row node noNode → b ≡ eqb (n .element) placeholderKey → holey (take made row) node ≡ b
+holey-is row node made lt x y = sym (y ∙ ap (λ (n : Node). eqb (n .element) placeholderKey) (x ∙ sym (front-node row made node lt)))
 
 module _ (m : Marks) (rows : List Node) (line : Bytes) (node at : ℕ) (r : Scanned) (t : holey rows node ≡ true) (a : AtomAt m line at r) where
   -- there is no atom, and what the look reads is counted
@@ -531,7 +538,7 @@ module _ (m : Marks) (rows : List Node) (line : Bytes) (node at : ℕ) (r : Scan
       there = h .there;
     }
 
-module _ {m : Marks} {row : List Node} {line : Bytes} {node at : ℕ} {dead : Bytes} {notes : List ℕ} {n : Node} {b : Bool} (x : n ≡ getD row node noNode) (y : b ≡ eqb (n .element) 1) where
+module _ {m : Marks} {row : List Node} {line : Bytes} {node at : ℕ} {dead : Bytes} {notes : List ℕ} {n : Node} {b : Bool} (x : n ≡ getD row node noNode) (y : b ≡ eqb (n .element) placeholderKey) where
   -- the node is no placeholder's
   pub atom-not : {u : ℕ} → b ≡ false → u ≡ 0 → AtomSearched m row line node at dead dead notes notes u
   atom-not f q = record { comes = idle-comes (λ made s lt k ds h l. rw (holey-is row node made lt x y ∙ f) refl) q }

@@ -17,8 +17,9 @@ use Rattle.model.specs.Places.{Found, Place, isIn, Tried, idle, orTry, takeUp, 
 use Rattle.model.proofs.Chosen.{Tested, alike, apart, tested}
 use Rattle.model.proofs.Once.{number-apart}
 use Rattle.nodes.specs.declared.Node.{Node}
-use Rattle.nodes.specs.Rows.{kid, holey, holes, Stands}
-use Rattle.nodes.proofs.Rows.{front-long}
+use Rattle.nodes.specs.Rows.{kid, holey, holes}
+use Rattle.nodes.specs.SideBySide.{Stands}
+use Rattle.nodes.proofs.Rows.{front-long, front-root}
 use Rattle.places.specs.Bits.{bit, AddsBit, ClearsBits}
 use Rattle.fit.specs.Chosen.{Fits}
 use Rattle.fit.specs.Outcome.{Counted, Counts, Told, Says, HoldsDead, Outcomes, sizeIn, placeTried, byteStep, pieceStep, atomStep, laterStep, allSteps}
@@ -274,7 +275,7 @@ module _ {row : List Node} {count : ℕ} {dead line : Bytes} {end : ℕ} (f : Fi
     pub asks-root : {notes : List ℕ} → length dead1 ≡ length dead → length notes ≡ 21 → Asks row dead1 notes line end 0 0
     asks-root l k =
         let w : count * suc end ≡ count * (end + 1) = ap (λ (n : ℕ). count * n) (omega arith) in
-        record { made = count; stands = f .stands; there = f .root; low = omega arith; high = f .high; few = f .few; short = f .short; room = omega (arith, clear-fits, l, w); all-notes = k }
+        record { made = count; stands = f .stands; there = front-root (f .stands); low = omega arith; high = f .high; few = f .few; short = f .short; room = omega (arith, clear-fits, l, w); all-notes = k }
 
     -- for the line that is searched, too
     pub none-dead-front : HoldsDead (length (take count row)) (suc (length (take end line))) dead1 []

@@ -10,12 +10,10 @@ use Rattle.model.specs.declared.Marks.{Marks}
 use Rattle.model.specs.Text.{Bytes}
 use Rattle.model.specs.Reading.{Reading, chosen}
 use Rattle.model.specs.Fitting.{Distinct}
-use Rattle.model.specs.Parts.{Elem, elems}
 use Rattle.model.specs.Places.{placesTaken, bytesRead}
 use Rattle.model.specs.Results.{startsOf, nine}
 use Rattle.nodes.specs.declared.Node.{Node}
-use Rattle.nodes.specs.Rows.{elem, holes, Stands}
-use Rattle.nodes.specs.Templates.{Beginnings}
+use Rattle.nodes.specs.SideBySide.{SideBySide, Stands}
 use Rattle.fit.specs.declared.Choice.{Choice}
 use Rattle.fit.specs.Outcome.{piecesIn, placesIn, bytesIn}
 
@@ -36,29 +34,18 @@ pub record Makes (c r : Choice) : Type 0 where
 -- what fitting the first `end` bytes of a line asks: a tree of `count` nodes stands in the row of nodes, and the row of dead places is long enough
 pub record Fits (row : List Node) (count : ℕ) (dead line : Bytes) (end : ℕ) : Type 0 where
   pub stands : Stands row count
-  pub root : 0 < count
   pub few : count ≤ nodesMost
   pub high : end ≤ length line
   pub short : end ≤ lineMost
   pub room : deadLeast ≤ length dead
 
--- the nodes are the tree of the templates ts, no two of which are equal, and the brackets differ: `pre` gives the beginning of the templates at
--- each node, and no two nodes have one beginning
-pub record TreeOf (m : Marks) (rows : List Node) (ts : List Bytes) : Type 0 where
-  pub pre : ℕ → List Elem
-  pub begins : Beginnings rows (map (elems m) ts) pre
-  pub apart : (i j : ℕ) → i < j → j < length rows → ¬ (pre i ≡ pre j)
-  pub plain-root : ¬ (elem rows 0 ≡ 1)
-  pub no-holes : holes rows 0 ≡ 0
+-- the first `count` nodes of the row are the tree of the templates ts, no two of which are equal, and the brackets differ
+pub record TreeAt (m : Marks) (row : List Node) (count : ℕ) (ts : List Bytes) : Type 0 where
+  pub within : count ≤ length row
+  pub few : count ≤ nodesMost
+  pub tree : SideBySide m ts (take count row)
   pub distinct : Distinct ts
   pub differ : ¬ (m .left ≡ m .right)
-
--- it stands at the front of the row, with `count` nodes
-pub record TreeAt (m : Marks) (row : List Node) (count : ℕ) (ts : List Bytes) : Type 0 where
-  pub stands : Stands row count
-  pub root : 0 < count
-  pub few : count ≤ nodesMost
-  pub of : TreeOf m (take count row) ts
 
 -- the call is the chosen reading of the line by the templates ts
 pub record Chosen (m : Marks) (ts : List Bytes) (line : Bytes) (c : Choice) : Type 0 where

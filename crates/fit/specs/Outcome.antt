@@ -10,19 +10,20 @@ use Rattle.model.specs.Text.{Bytes}
 use Rattle.model.specs.Parts.{Elem, lit, stop, ReadingPart, byte, piece, pieces}
 use Rattle.model.specs.Places.{Found, Place, isIn, Tried, orTry, tryByte, tryPiece, tryAtom, tryPlace}
 use Rattle.nodes.specs.declared.Node.{Node}
-use Rattle.nodes.specs.Rows.{kid, holey, height, holes, Stands}
+use Rattle.nodes.specs.Rows.{kid, holey, height, holes}
+use Rattle.nodes.specs.SideBySide.{Stands}
 use Rattle.places.specs.Bits.{bit}
 
 -- ---- the element that leads on
 
 -- at the beginning of a row of bytes: the byte's, or the template's end
-abbrev pub elementOf : Bytes → Elem
-elementOf [] = stop
-elementOf (b ∷ s) = lit b
+abbrev pub nextElement : Bytes → Elem
+nextElement [] = stop
+nextElement (b ∷ s) = lit b
 
 -- at a place of a line
 abbrev pub elementAt : Bytes → ℕ → Elem
-elementAt line at = elementOf (drop at line)
+elementAt line at = nextElement (drop at line)
 
 -- ---- the lent notes: nine starts and nine lengths of pieces, a count of places and one of bytes, and what is left of the open piece
 

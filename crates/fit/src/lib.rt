@@ -6,12 +6,14 @@ ghost use mathlib.Core.Path.{_≡_};
 ghost use Prim.Native.Nat.{_+_, _*_, _≤_, _<_, _^_};
 ghost use lib.ListN.{length, take};
 ghost use Rattle.model.specs.Limits.{lineMost, nodesMost};
+ghost use Rattle.model.specs.Children.{elementOf};
 ghost use Rattle.atom.specs.Atoms.{brackets, AtomAt};
-ghost use Rattle.nodes.specs.Rows.{code};
 ghost use Rattle.fit.specs.Outcome.{restIn, StoresPiece, PassesAtom, EndsTemplate, Counts, elementAt, Asks, SearchedIn, TakenUp, ByteSearched, PieceSearched, AtomSearched};
 ghost use Rattle.fit.specs.Chosen.{noChoice, choiceOf, Makes, Fits, Chooses};
 use atom::Scanned;
+use model::END_KEY;
 use model::Marks;
+use model::PLACEHOLDER_KEY;
 use nodes::Node;
 use places::clear;
 use places::is_dead;
@@ -80,15 +82,15 @@ fn number_place(end: usize, node: usize, at: usize) -> usize
     node * (end + 1) + at
 }
 
-// The element that leads on at a place of the first `end` bytes of a line: the byte's, or the template's end.
+// The key of the element that leads on at a place of the first `end` bytes of a line: the byte's, or the template's end.
 fn element_at(line: &[u8], end: usize, at: usize) -> u16
     requires { ⌜ (at ≤ end) × (end ≤ length (now line)) ⌝ }
-    ensures { λ r. ⌜ r ≡ code (elementAt (take end (now (line .entry))) at) ⌝ }
+    ensures { λ r. ⌜ elementOf r ≡ elementAt (take end (now (line .entry))) at ⌝ }
 {
     if at < end {
-        return nodes::literal(line[at]);
+        return line[at] as u16;
     }
-    0
+    END_KEY
 }
 
 // The atom at a place of the first `end` bytes of a line.
@@ -199,7 +201,7 @@ fn search_piece(
     ensures { λ r. ⌜ PieceSearched (brackets left right) (now (nodes .entry)) (take end (now (line .entry))) node at
         (now (dead .entry)) (now (dead .exit)) (now (notes .entry)) (now (notes .exit)) r ⌝ }
 {
-    let c = nodes::child(nodes, node, 1);
+    let c = nodes::placeholder_child(nodes, node);
     if c == 0 {
         return 0;
     }
@@ -228,7 +230,7 @@ fn search_atom(
     ensures { λ r. ⌜ AtomSearched (brackets left right) (now (nodes .entry)) (take end (now (line .entry))) node at
         (now (dead .entry)) (now (dead .exit)) (now (notes .entry)) (now (notes .exit)) r ⌝ }
 {
-    if !nodes::has_element(nodes::node_at(nodes, node), 1) {
+    if !nodes::has_element(nodes::node_at(nodes, node), PLACEHOLDER_KEY) {
         return 0;
     }
     let next = find_atom(left, right, line, end, at);

@@ -1,22 +1,18 @@
 -- What an answer of loading says: of a text that is refused, and of one that loads.
 use mathlib.Core.Path.{_≡_, _∙_, subst, sym}
-use mathlib.Core.List.{List, []}
 use Prim.Native.Nat.{ℕ, suc, _≤_, _<_}
 use native.Mathlib.Omega.{arith}
 use borrow.Author.Tests.{eq-eqb, ne-eqb}
-use lib.ListN.{length, getD}
 use Rattle.model.specs.Text.{Bytes}
-use Rattle.model.specs.Load.{templates, count, nodes, Load, refused, loaded, load}
+use Rattle.model.specs.Load.{templates, Load, refused, loaded, load}
 use Rattle.model.specs.Fitting.{Distinct}
 use Rattle.model.specs.Legal.{Legal}
 use Rattle.model.proofs.Choices.{when-true, when-false}
 use Rattle.model.proofs.Loading.{load-legal}
-use Rattle.nodes.specs.declared.Node.{Node}
 use Rattle.macros.specs.Table.{Table, macrosIn, templatesIn}
-use Rattle.macros.proofs.Table.{templates-in-length, macros-templates}
+use Rattle.macros.proofs.Table.{macros-templates}
 use Rattle.templates.specs.Count.{beginnings}
 use Rattle.templates.proofs.Count.{nodes-beginnings}
-use Rattle.tree.specs.Built.{ReadyToBuild}
 use Rattle.load.specs.declared.Loading.{Loading}
 use Rattle.load.specs.Answer.{refusedLoading, loadedOf, answerOf, Loads}
 
@@ -35,6 +31,7 @@ refused-as {x} {text} {t} {k} {n} {r} e some-fault q = rw q (record {
   is = e ∙ sym (answer-refused text t (refusedLoading k n) (λ z. omega arith));
   inside = λ z. absurd (omega arith);
   counted = λ z. absurd (omega arith);
+  in-order = λ z. absurd (omega arith);
   input = omega arith;
   read = λ z. absurd (omega arith);
 })
@@ -65,13 +62,3 @@ module _ {text : Bytes} {t : Table} {r : Loading} (h : Loads (load text) text t 
   -- they are 2,048 at most
   pub loads-nodes : r .nodes ≤ 2048
   loads-nodes = omega (arith, h .counted e, loads-legal .tree)
-
-  -- the templates are ready for it, in a row of as many nodes or more
-  pub loads-ready : {rows : List Node} → 2048 ≤ length rows → ReadyToBuild (r .marks .placeholder) (templatesIn text t (r .count)) rows
-  loads-ready a = record {
-    few = omega (arith, templates-in-length text t (r .count), h .inside e .entries .few);
-    short = λ k. subst (λ (ts : List Bytes). length (getD ts k []) ≤ 200) loads-templates (loads-legal .short k);
-    nine = λ k. subst (λ (ts : List Bytes). count (r .marks .placeholder) (getD ts k []) ≤ 9) loads-templates (loads-legal .nine k);
-    room = omega (arith, loads-counted, loads-nodes);
-    small = omega (arith, loads-counted, loads-nodes);
-  }

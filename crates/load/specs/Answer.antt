@@ -6,7 +6,8 @@ use lib.Dec.{eqb}
 use lib.ListN.{length, drop}
 use Rattle.model.specs.Text.{Bytes, lines}
 use Rattle.model.specs.Load.{nodes, Loaded, Load, refused, loaded}
-use Rattle.macros.specs.Table.{Table, macrosIn, EntriesInside}
+use Rattle.macros.specs.Table.{Table, orderIn, templatesIn, macrosIn, EntriesInside}
+use Rattle.templates.specs.Order.{InOrder}
 use Rattle.load.specs.declared.Loading.{Loading}
 
 -- the answer for fault k at line n
@@ -33,5 +34,6 @@ pub record Loads (x : Load) (text : Bytes) (t : Table) (r : Loading) : Type 0 wh
   pub is : x ≡ answerOf text t r
   pub inside : r .number ≡ 0 → EntriesInside text t (r .count)
   pub counted : r .number ≡ 0 → r .nodes ≡ nodes (macrosIn (r .marks) text t (r .count))
+  pub in-order : r .number ≡ 0 → InOrder (r .marks .placeholder) (templatesIn text t (r .count)) (orderIn t)
   pub input : r .input ≤ length text
   pub read : r .number ≡ 0 → r .line ≤ r .input

@@ -7,7 +7,8 @@ use Rattle.model.specs.declared.Marks.{Marks}
 use Rattle.model.specs.Text.{Bytes, part, lines}
 use Rattle.model.specs.Load as Load
 use Rattle.model.specs.Load.{nodes, lineSeen}
-use Rattle.macros.specs.Table.{Table, tableSize, macrosIn, EntriesInside}
+use Rattle.macros.specs.Table.{Table, tableSize, orderIn, templatesIn, macrosIn, EntriesInside}
+use Rattle.templates.specs.Order.{InOrder}
 use Rattle.load.specs.declared.LineFault.{LineFault}
 use Rattle.load.specs.declared.LineFault.the-variants.{Long, Crowded, Met, Wrong, Over}
 use Rattle.load.specs.declared.Progress.{Progress}
@@ -30,12 +31,13 @@ seenOf m text t (Fault f) = Load.fault (faultNumber f)
 seenOf m text t (More p) = Load.more (progressOf m text t p)
 seenOf m text t Ends = Load.sectionEnds
 
--- the table holds the macros so far, and their tree's nodes are counted
+-- the table holds the macros so far and has them in order, and their tree's nodes are counted
 pub record TableSound (m : Marks) (text : Bytes) (t : Table) (p : Progress) : Type 0 where
   pub size : length t ≡ tableSize
   pub inside : EntriesInside text t (p .count)
   pub counted : p .nodes ≡ nodes (macrosIn m text t (p .count))
   pub tree : p .nodes ≤ nodesMost
+  pub in-order : InOrder (m .placeholder) (templatesIn text t (p .count)) (orderIn t)
 
 -- the table u that is left after a line which began with t and came to r
 abbrev pub Left : Marks → Bytes → Table → Table → Seen → Type 0

@@ -2,6 +2,7 @@
 use super::LineFault;
 use super::Progress;
 use super::Seen;
+use macros::put_in_order;
 use macros::put_macro;
 use model::LINE_MOST;
 use model::MACROS_MOST;
@@ -9,20 +10,21 @@ use model::Marks;
 use model::NODES_MOST;
 use model::PLACEHOLDERS_MOST;
 use scan::find_byte;
-use templates::count_new;
+use templates::find_place;
 ghost use mathlib.Core.Path.{_≡_};
 ghost use mathlib.Core.Bool.{false};
 ghost use Prim.Native.Nat.{_+_, _≤_};
 ghost use lib.ListN.{length};
 ghost use Rattle.model.specs.Limits.{nodesMost};
-ghost use Rattle.macros.specs.Table.{Entries};
+ghost use Rattle.macros.specs.Table.{templatesIn, orderIn, Entries};
+ghost use Rattle.templates.specs.Order.{InOrder};
 ghost use Rattle.load.specs.Lines.{TableSound, SeesLine};
 ghost use Rattle.load.specs.Template.{CountsByte, Weighs};
 
-// What a template comes to: its fault, or how many nodes the tree has with it.
+// What a template comes to: its fault, or how many nodes the tree has with it and its place in the order of the templates.
 enum Weighed {
     Fault(LineFault),
-    Fits(usize),
+    Fits(usize, usize),
 }
 
 // How many of the bytes text[at..end] are b.
@@ -51,6 +53,7 @@ fn weigh_template(
     len: usize,
 ) -> Weighed
     requires { ⌜ Entries (now text) (now table) (p .count) × (p .nodes ≤ nodesMost) × (at + len ≤ length (now text)) ⌝ }
+    requires { ⌜ InOrder (m .placeholder) (templatesIn (now text) (now table) (p .count)) (orderIn (now table)) ⌝ }
     ensures { λ r. ⌜ Weighs m (now (text .entry)) (now (table .entry)) p at len r ⌝ }
 {
     if LINE_MOST < len {
@@ -59,7 +62,8 @@ fn weigh_template(
     if PLACEHOLDERS_MOST < count_byte(text, at, at + len, m.placeholder) {
         return Weighed::Fault(LineFault::Crowded);
     }
-    let new = count_new(text, table, p.count, at, len);
+    let found = find_place(m.placeholder, text, table, p.count, at, len);
+    let new = found.new;
     if new == 0 {
         return Weighed::Fault(LineFault::Met);
     }
@@ -69,10 +73,11 @@ fn weigh_template(
     if NODES_MOST - p.nodes < new {
         return Weighed::Fault(LineFault::Over);
     }
-    Weighed::Fits(p.nodes + new)
+    Weighed::Fits(p.nodes + new, found.place)
 }
 
-// Line n at a template's place, text[at..end]: the macro that it begins, whose body starts at `next`, is the table's next.
+// Line n at a template's place, text[at..end]: the macro that it begins, whose body starts at `next`, is the table's next, and goes to its
+// place in the order.
 pub fn add_macro(
     m: Marks,
     text: &[u8],
@@ -91,10 +96,12 @@ pub fn add_macro(
     let len = stop - at;
     match weigh_template(m, text, table, p, at, len) {
         Weighed::Fault(f) => Seen::Fault(f),
-        Weighed::Fits(nodes) => {
-            put_macro(table, p.count, at, len, n, next);
+        Weighed::Fits(nodes, place) => {
+            let k = p.count;
+            put_macro(table, k, at, len, n, next);
+            put_in_order(table, k, place);
             Seen::More(Progress {
-                count: p.count + 1,
+                count: k + 1,
                 nodes,
                 codes: p.codes,
                 inside: true,

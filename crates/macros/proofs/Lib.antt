@@ -1,2 +1,3 @@
--- The laws of the table of macros.
+-- The laws of the table of macros and of its order.
 pub mod Table
+pub mod Order

@@ -12,7 +12,7 @@ use Rattle.model.specs.declared.Marks.{Marks}
 use Rattle.model.specs.Text.{Bytes, part}
 use Rattle.model.specs.Load.{noMacro, templates, bodyAt}
 use Rattle.model.proofs.Loading.{templates-snoc}
-use Rattle.macros.specs.Table.{Table, tableSize, startIn, lenIn, lineIn, bodyIn, withMacro, HasBodies, templateIn, templatesIn, macroIn, macrosIn, Entries, EntriesInside}
+use Rattle.macros.specs.Table.{Table, tableSize, startIn, lenIn, lineIn, bodyIn, orderIn, withMacro, HasBodies, templateIn, templatesIn, macroIn, macrosIn, Entries, EntriesInside}
 
 -- what holds below n and of n holds below n + 1
 pub one-more : (n : ℕ) (P : ℕ → Type 0) → ((k : ℕ) → k < n → P k) → P n → (k : ℕ) → k < n + 1 → P k
@@ -62,6 +62,29 @@ module _ (m : Marks) (text : Bytes) (t : Table) where
   macros-templates zero = refl
   macros-templates (suc n) = templates-snoc (macrosIn m text t n) (macroIn m text t n) ∙ ap (λ (l : List Bytes). l ++ (templateIn text t n ∷ [])) (macros-templates n)
 
+-- ---- tables that hold the same macros
+
+-- the first n macros of t′ have the numbers that they have in t
+pub record SameMacros (t t′ : Table) (n : ℕ) : Type 0 where
+  pub start : (k : ℕ) → k < n → startIn t′ k ≡ startIn t k
+  pub len : (k : ℕ) → k < n → lenIn t′ k ≡ lenIn t k
+  pub line : (k : ℕ) → k < n → lineIn t′ k ≡ lineIn t k
+  pub body : (k : ℕ) → k < n → bodyIn t′ k ≡ bodyIn t k
+
+-- they are the same macros
+pub macros-same : (m : Marks) (text : Bytes) (t t′ : Table) (n : ℕ) → SameMacros t t′ n → (i : ℕ) → i ≤ n → macrosIn m text t′ i ≡ macrosIn m text t i
+unfolding macrosIn
+macros-same m text t t′ n h zero u = refl
+macros-same m text t t′ n h (suc i) u = rw (macros-same m text t t′ n h i (omega arith), h .start i u, h .len i u, h .line i u, h .body i u)
+
+-- and lie in the text as they did
+pub entries-same : (text : Bytes) (t t′ : Table) (n : ℕ) → SameMacros t t′ n → length t′ ≡ length t → EntriesInside text t n → EntriesInside text t′ n
+entries-same text t t′ n h e i = record {
+  entries = record { whole = omega (arith, i .entries .whole); few = i .entries .few; inside = λ k u. rw (h .start k u, h .len k u) (i .entries .inside k u) };
+  short = λ k u. rw (h .len k u) (i .short k u);
+  body = λ k u. rw (h .body k u) (i .body k u);
+}
+
 -- ---- a macro more
 
 -- four columns are stored, one after the other
@@ -98,42 +121,27 @@ module _ (t : Table) (k start len line body : ℕ) (w : tableSize ≤ length t) 
       ∙ getD-set-other (set t (0 + k) start) (128 + k) (0 + k) len 0 (λ z. omega arith)
       ∙ getD-set-same t (0 + k) start 0 (omega arith)
 
-  -- those of an earlier macro
-  module _ (j : ℕ) (v : j < k) where
-    kept-start : startIn (withMacro t k start len line body) j ≡ startIn t j
-    kept-start = stored-other (0 + j) (λ z. omega arith) (λ z. omega arith) (λ z. omega arith) (λ z. omega arith)
+  -- the earlier macros, and the order
+  stored-same : SameMacros t (withMacro t k start len line body) k
+  stored-same = record {
+    start = λ j v. stored-other (0 + j) (λ z. omega arith) (λ z. omega arith) (λ z. omega arith) (λ z. omega arith);
+    len = λ j v. stored-other (128 + j) (λ z. omega arith) (λ z. omega arith) (λ z. omega arith) (λ z. omega arith);
+    line = λ j v. stored-other (256 + j) (λ z. omega arith) (λ z. omega arith) (λ z. omega arith) (λ z. omega arith);
+    body = λ j v. stored-other (384 + j) (λ z. omega arith) (λ z. omega arith) (λ z. omega arith) (λ z. omega arith);
+  }
 
-    kept-len : lenIn (withMacro t k start len line body) j ≡ lenIn t j
-    kept-len = stored-other (128 + j) (λ z. omega arith) (λ z. omega arith) (λ z. omega arith) (λ z. omega arith)
-
-    kept-line : lineIn (withMacro t k start len line body) j ≡ lineIn t j
-    kept-line = stored-other (256 + j) (λ z. omega arith) (λ z. omega arith) (λ z. omega arith) (λ z. omega arith)
-
-    kept-body : bodyIn (withMacro t k start len line body) j ≡ bodyIn t j
-    kept-body = stored-other (384 + j) (λ z. omega arith) (λ z. omega arith) (λ z. omega arith) (λ z. omega arith)
+  pub stored-order : (i : ℕ) → orderIn (withMacro t k start len line body) i ≡ orderIn t i
+  stored-order i = stored-other (512 + i) (λ z. omega arith) (λ z. omega arith) (λ z. omega arith) (λ z. omega arith)
 
 module _ (m : Marks) (text : Bytes) (t : Table) (k start len line body : ℕ) (w : tableSize ≤ length t) (u : k < 128) where
-  -- the earlier macros are what they were
-  kept-macros : (n : ℕ) → n ≤ k → macrosIn m text (withMacro t k start len line body) n ≡ macrosIn m text t n
-  unfolding macrosIn
-  kept-macros zero h = refl
-  kept-macros (suc n) h =
-      rw (
-        kept-macros n (omega arith),
-        kept-start t k start len line body w u n h,
-        kept-len t k start len line body w u n h,
-        kept-line t k start len line body w u n h,
-        kept-body t k start len line body w u n h,
-      )
-
-  -- and the new one comes after them
+  -- the new macro comes after the earlier ones
   pub macros-stored : macrosIn m text (withMacro t k start len line body) (k + 1)
       ≡ macrosIn m text t k ++ (record { line = line; template = part text start (start + len); body = bodyAt m text body } ∷ [])
   unfolding macrosIn
   macros-stored =
       ap (macrosIn m text (withMacro t k start len line body)) (add-one k)
       ∙ rw (
-        kept-macros k (omega arith),
+        macros-same m text t (withMacro t k start len line body) k (stored-same t k start len line body w u) k (omega arith),
         stored-start t k start len line body w u,
         stored-len t k start len line body w u,
         stored-line t k start len line body w u,
@@ -145,18 +153,16 @@ pub entries-stored : (text : Bytes) (t : Table) (k start len line body : ℕ) �
     → EntriesInside text t k → EntriesInside text (withMacro t k start len line body) (k + 1)
 entries-stored text t k start len line body u a l b h =
     let w : tableSize ≤ length t = h .entries .whole in
+    let g = entries-same text t (withMacro t k start len line body) k (stored-same t k start len line body w u) (stored-length t k start len line body) h in
     record {
       entries = record {
-        whole = rw (stored-length t k start len line body) w;
+        whole = g .entries .whole;
         few = omega arith;
-        inside = one-more k (λ j. startIn (withMacro t k start len line body) j + lenIn (withMacro t k start len line body) j ≤ length text)
-            (λ j x. rw (kept-start t k start len line body w u j x, kept-len t k start len line body w u j x) (h .entries .inside j x))
+        inside = one-more k (λ j. startIn (withMacro t k start len line body) j + lenIn (withMacro t k start len line body) j ≤ length text) (g .entries .inside)
             (rw (stored-start t k start len line body w u, stored-len t k start len line body w u) a);
       };
-      short = one-more k (λ j. lenIn (withMacro t k start len line body) j ≤ 200)
-          (λ j x. rw (kept-len t k start len line body w u j x) (h .short j x)) (rw (stored-len t k start len line body w u) l);
-      body = one-more k (λ j. bodyIn (withMacro t k start len line body) j ≤ length text)
-          (λ j x. rw (kept-body t k start len line body w u j x) (h .body j x)) (rw (stored-body t k start len line body w u) b);
+      short = one-more k (λ j. lenIn (withMacro t k start len line body) j ≤ 200) (g .short) (rw (stored-len t k start len line body w u) l);
+      body = one-more k (λ j. bodyIn (withMacro t k start len line body) j ≤ length text) (g .body) (rw (stored-body t k start len line body w u) b);
     }
 
 -- ---- the column of bodies

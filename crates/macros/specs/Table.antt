@@ -24,8 +24,11 @@ linesFrom = 256
 abbrev pub bodiesFrom : ℕ
 bodiesFrom = 384
 
+abbrev pub orderFrom : ℕ
+orderFrom = 512
+
 abbrev pub tableSize : ℕ
-tableSize = 512
+tableSize = 640
 
 -- of macro k: where its template starts, how long that is, the number of its line, and where its body starts
 abbrev pub startIn : Table → ℕ → ℕ
@@ -40,6 +43,10 @@ lineIn t k = getD t (linesFrom + k) 0
 abbrev pub bodyIn : Table → ℕ → ℕ
 bodyIn t k = getD t (bodiesFrom + k) 0
 
+-- the number of the macro at a place of the order
+abbrev pub orderIn : Table → ℕ → ℕ
+orderIn t place = getD t (orderFrom + place) 0
+
 -- the table has a place for macro k
 pub record Within (t : Table) (k : ℕ) : Type 0 where
   pub whole : tableSize ≤ length t
@@ -53,6 +60,14 @@ withMacro t k start len line body = set (set (set (set t (startsFrom + k) start)
 pub record HasBodies (t : Table) (bodies : List ℕ) : Type 0 where
   pub whole : macrosMost ≤ length bodies
   pub same : (k : ℕ) → k < macrosMost → getD bodies k 0 ≡ bodyIn t k
+
+-- macro k stands at a place of the order, those of the first k from there on one place further, and all other columns are as they were
+pub record PutsInOrder (t : Table) (k place : ℕ) (t′ : Table) : Type 0 where
+  pub long : length t′ ≡ length t
+  pub before : (i : ℕ) → i < place → orderIn t′ i ≡ orderIn t i
+  pub there : orderIn t′ place ≡ k
+  pub further : (i : ℕ) → place ≤ i → i < k → orderIn t′ (suc i) ≡ orderIn t i
+  pub others : (i : ℕ) → i < orderFrom → getD t′ i 0 ≡ getD t i 0
 
 -- ---- what a table stands for
 

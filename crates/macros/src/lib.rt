@@ -1,11 +1,11 @@
 // The table of a text's macros: one row of numbers, column by column. Each column has a place for every macro that a text may
 // have. The columns say where a macro's template starts in the text, how long the template is, the number of its line, and where
-// its body starts.
+// its body starts. The last column has the numbers of the macros in the order of their templates' keys.
 ghost use mathlib.Core.Path.{_≡_};
 ghost use Prim.Native.Nat.{_≤_, _<_};
 ghost use lib.ListN.{length};
 ghost use Rattle.model.specs.Limits.{macrosMost};
-ghost use Rattle.macros.specs.Table.{tableSize, startIn, lenIn, lineIn, withMacro, Within, HasBodies};
+ghost use Rattle.macros.specs.Table.{tableSize, startIn, lenIn, lineIn, orderIn, withMacro, Within, HasBodies, PutsInOrder};
 use model::MACROS_MOST;
 
 // Where each column begins.
@@ -17,8 +17,10 @@ pub const LINES_FROM: usize = 256;
 
 pub const BODIES_FROM: usize = 384;
 
+pub const ORDER_FROM: usize = 512;
+
 // All columns together.
-pub const TABLE_SIZE: usize = 512;
+pub const TABLE_SIZE: usize = 640;
 
 // Where template k starts.
 pub fn start_of(table: &[usize], k: usize) -> usize
@@ -44,6 +46,14 @@ pub fn line_of(table: &[usize], k: usize) -> usize
     table[LINES_FROM + k]
 }
 
+// The number of the macro at a place of the order.
+pub fn macro_at(table: &[usize], place: usize) -> usize
+    requires { ⌜ Within (now table) place ⌝ }
+    ensures { λ r. ⌜ r ≡ orderIn (now (table .entry)) place ⌝ }
+{
+    table[ORDER_FROM + place]
+}
+
 // Stores macro k.
 pub fn put_macro(table: &mut [usize], k: usize, start: usize, len: usize, line: usize, body: usize)
     requires { ⌜ Within (now table) k ⌝ }
@@ -65,4 +75,17 @@ pub fn copy_bodies(table: &[usize], bodies: &mut [usize])
         bodies[k] = table[BODIES_FROM + k];
         k += 1;
     }
+}
+
+// Puts macro k at a place of the order of the k macros before it; those from there on stand one place further.
+pub fn put_in_order(table: &mut [usize], k: usize, place: usize)
+    requires { ⌜ Within (now table) k × (place ≤ k) ⌝ }
+    ensures { λ _. ⌜ PutsInOrder (now (table .entry)) k place (now (table .exit)) ⌝ }
+{
+    let mut i = k;
+    while place < i {
+        table[ORDER_FROM + i] = table[ORDER_FROM + i - 1];
+        i -= 1;
+    }
+    table[ORDER_FROM + place] = k;
 }

@@ -19,6 +19,7 @@ use Rattle.call.specs.Params.{PiecesInside, Opens}
 use Rattle.call.proofs.Reading.{opens-reading}
 use Rattle.fit.specs.declared.Choice.{Choice}
 use Rattle.fit.specs.Chosen.{Fits, Chosen, Chooses}
+use Rattle.fit.proofs.Asking.{can-fit}
 use Rattle.matching.specs.Book.{Book, Prepared}
 use Rattle.matching.specs.Matches.{opened, Opening, Opened, Calls}
 
@@ -40,9 +41,7 @@ opened-call {bodies} {number} {c} {x} {line} n e o = record { nine = e; opens = 
 -- the tree of a text that is loaded can be searched, with room for its dead places
 pub book-asks : {m : Marks} {text : Bytes} {row : List Node} {count : ℕ} {bodies : List ℕ} {line dead : Bytes} {n : ℕ} → Prepared m text row count bodies → n ≤ 200 → n ≤ length line → 51456 ≤ length dead
     → Fits row count dead line n
-book-asks p s n d =
-    let f = p .book .fits in
-    record { stands = f .stands; root = f .root; few = f .few; high = n; short = s; room = d }
+book-asks p s n d = can-fit (p .book .fits) n s d
 
 module _ {m : Marks} {row : List Node} {count : ℕ} (line : Bytes) (n : ℕ) {c : Choice} (g : Chooses m row count (take n line) c) (f : c .found ≡ true) where
   -- what is chosen can be opened

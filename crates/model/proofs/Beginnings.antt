@@ -17,7 +17,7 @@ use Rattle.model.proofs.Choices.{false-not-true}
 -- ---- two beginnings are the same
 
 -- elements that are the same are equal
-one-elem : (x y : Elem) → sameElem x y ≡ true → x ≡ y
+pub one-elem : (x y : Elem) → sameElem x y ≡ true → x ≡ y
 unfolding sameElem
 one-elem (lit a) (lit b) e = ap lit (eqb-true a b e)
 one-elem (lit a) hole e = false-not-true e
@@ -30,7 +30,7 @@ one-elem stop hole e = false-not-true e
 one-elem stop stop e = refl
 
 -- and each is the same as itself
-elem-itself : (x : Elem) → sameElem x x ≡ true
+pub elem-itself : (x : Elem) → sameElem x x ≡ true
 unfolding sameElem
 elem-itself (lit a) = eq-eqb a a refl
 elem-itself hole = refl

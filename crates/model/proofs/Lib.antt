@@ -23,6 +23,8 @@ pub mod Renumbered
 pub mod SearchFuel
 pub mod Places
 pub mod FirstReading
+-- Keys and elements.
+pub mod Children
 -- The starred examples.
 pub mod Starred
 -- Conversions and channels, and their digits.

@@ -1,4 +1,4 @@
--- What is proved of document 01's definitions, in one place: the first reading, the places of a search, the fuels, the events, the numbers, what is demanded of a run, the sizes
+-- What is proved of document 01's definitions, in one place: the first reading, the places of a search, the keys of children, the fuels, the events, the numbers, what is demanded of a run, the sizes
 -- of its states, the places of its lines, the digits of conversions and channels, function 2, characters, and the range of values. Every statement is for all texts that load and all rooms; the proofs are in the
 -- modules that each line cites.
 use mathlib.Core.Path.{_≡_, refl}
@@ -7,6 +7,7 @@ use mathlib.Core.Bool.{true, false}
 use mathlib.Core.Option.{none, some}
 use mathlib.Core.List.{List, [], _∷_, _++_}
 use Prim.Native.Nat.{ℕ, suc, _+_, _*_, _^_, _≤_, _<_}
+use native.Mathlib.Omega.{arith}
 use lib.ListN.{length}
 use lib.IntN.{ℤ}
 use Rattle.model.specs.declared.Marks.{Marks}
@@ -25,6 +26,8 @@ use Rattle.model.specs.Value.{FitsWidth, checked, expression, whole, val
 use Rattle.model.specs.Load.{begins, templates, nodes, Loaded, Load, loaded, load}
 use Rattle.model.specs.Machine.{Rooms, rooms, Extends, Loop, Frame, Shared, halts, param, failed, add, addConverted, pieceOf, passOf, takePass, State, tooLong, copyInput, skipIn, running, ended, counted, event, after, initial, resultOf, run}
 use Rattle.model.specs.Places.{Found, bytesOfLook, tryPlace, beginnings, childIn, holeyIn, together, fitting, placesTaken, bytesRead, Once}
+use Rattle.model.specs.Parts.{lit, hole, stop}
+use Rattle.model.specs.Children.{endKey, placeholderKey, elementOf}
 use Rattle.model.specs.Results.{checkText, fitLine, runText}
 use Rattle.model.specs.Fitting.{Reads, First}
 use Rattle.model.specs.FirstReading.{FitsFirst, OffersFirst}
@@ -38,6 +41,7 @@ use Rattle.model.proofs.FirstReading as FirstReading
 use Rattle.model.proofs.Search.{search}
 use Rattle.model.proofs.Looks as Looks
 use Rattle.model.proofs.Places as Places
+use Rattle.model.proofs.Children as Children
 use Rattle.model.proofs.Places.{IsChosen}
 use Rattle.model.proofs.SearchFuel as SearchFuel
 use Rattle.model.proofs.Fuel as Fuel
@@ -128,6 +132,16 @@ look-open m b s l r e = Looks.look-open m b s r e
 -- and none at the line's end. There are no other looks: a byte that is no bracket is an atom
 pub look-end : (m : Marks) → bytesOfLook m [] ≡ 0
 look-end = Looks.look-end
+
+-- ---- the children of a node
+
+-- the order of keys is the order of children: a literal's key is its byte, after all bytes comes the end's key, and last the placeholder's
+pub keys-in-order : (b : ℕ) → b < 256 → (elementOf b ≡ lit b) × (b < endKey) × (elementOf endKey ≡ stop) × (endKey < placeholderKey) × (elementOf placeholderKey ≡ hole)
+keys-in-order b u = (Children.byte-key b u, u, Children.end-key, omega arith, Children.hole-key)
+
+-- and no two keys have one element
+pub one-key : (a b : ℕ) → elementOf a ≡ elementOf b → a ≡ b
+one-key = Children.one-key
 
 -- ---- two fuels
 

@@ -10,10 +10,11 @@ pub mod Load
 pub mod Machine
 pub mod Places
 pub mod Results
--- What is said of them: readings and their order in 01's words, function 2 in 02's, what a loaded text has, how large a run's states are.
+-- What is said of them: readings and their order in 01's words, the children of a node and function 2 in 02's, what a loaded text has, how large a run's states are.
 pub mod Fitting
 pub mod FirstReading
 pub mod Parts
+pub mod Children
 pub mod Copies
 pub mod Legal
 pub mod Sizes

@@ -39,6 +39,12 @@ pub const STORE_LEAST: usize = 8704;
 // The least length of a lent row of dead places: a bit for each node at each position of a line.
 pub const DEAD_LEAST: usize = 51456;
 
+// The keys of a template's elements, by which a node's children stand in order: a literal's is its byte, then come the end's and
+// the placeholder's.
+pub const END_KEY: u16 = 256;
+
+pub const PLACEHOLDER_KEY: u16 = 257;
+
 // A value of an expression, and the largest one; the least is one further below 0.
 pub type Integer = i64;
 

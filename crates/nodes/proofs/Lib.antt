@@ -1,3 +1,4 @@
--- The laws of the row of nodes.
+-- The laws of a node's children, of the looks for one, and of walks down the tree.
 pub mod Rows
+mod Halving
 pub mod Templates

@@ -1,3 +1,4 @@
--- The row of nodes, and the templates' tree that it holds.
+-- The row of nodes, how a child is found in it, and the templates' tree that it holds.
 pub mod Rows
-pub mod Templates
+pub mod Halving
+pub mod SideBySide

@@ -4,6 +4,7 @@ use mathlib.Core.Bool.{Bool, true, false, _||_}
 use Prim.Native.Nat.{ℕ, _≤_}
 use native.Mathlib.Omega.{arith}
 use lib.Dec.{ltb}
+use mathlib.Core.List.{List}
 use lib.ListN.{length}
 use borrow.Author.Tests.{ltb-false}
 use Rattle.model.specs.declared.Ran.{Ran}
@@ -14,7 +15,12 @@ use Rattle.model.specs.Results.{shortRow, shortDead, illegal, runText, ranAs}
 use Rattle.model.specs.Runs.{Runs}
 use Rattle.model.specs.Demands.{FollowsExpansion}
 use Rattle.model.proofs.Theorems.{run-follows}
-use Rattle.model.proofs.Choices.{when-true, when-false, or-false}
+use Rattle.model.proofs.Choices.{when-true, when-false, or-false, false-not-true}
+use Rattle.nodes.specs.declared.Node.{Node}
+use Rattle.nodes.specs.SideBySide.{HoldsTree}
+use Rattle.prepare.specs.declared.Tables.{Tables}
+use Rattle.prepare.specs.Prepares.{Prepares}
+use Rattle.prepare.proofs.Trees.{holds-tree}
 use Rattle.run.specs.Inner.{refusal}
 use Rattle.run.proofs.Running.{same-runs, refuses}
 use Rattle.stage2.specs.Rooms.{TestsRooms}
@@ -66,9 +72,16 @@ module _ (fuel rows dead : ℕ) (text output second store : Bytes) where
         → Runs (runText fuel rows dead room (length store) text) output second store r output′ second′ store′
     legal-runs e u a = same-runs (ap (λ (n : ℕ). run n room (load text)) u ∙ when-legal fuel rows dead room text (length store) (sym (h .is) ∙ e)) a
 
-  -- what document 01 demands of them
+  -- what document 01 demands of them, and the tree that is left in the row
+  module _ {row : List Node} {r : Ran} {output′ second′ store′ : Bytes} (h : Runs (runText fuel rows dead room (length store) text) output second store r output′ second′ store′) where
+    -- of illegal ones nothing
+    pub no-demand : {b : Bool} → TestsRooms fuel rows dead (length store) b → b ≡ true → (t : Loaded) → load text ≡ loaded t → illegal fuel rows dead (length store) ≡ false
+        → HoldsTree t row × FollowsExpansion t fuel output second store r output′ second′ store′
+    no-demand g e t loads legal = absurd (false-not-true (sym legal ∙ sym (g .is) ∙ e))
 
-  pub follows-expansion : {r : Ran} {output′ second′ store′ : Bytes} → Runs (runText fuel rows dead room (length store) text) output second store r output′ second′ store′
-      → (t : Loaded) → load text ≡ loaded t → illegal fuel rows dead (length store) ≡ false → FollowsExpansion t fuel output second store r output′ second′ store′
-  follows-expansion h t loads legal =
-      run-follows text t loads fuel output second store (same-runs (sym (when-legal fuel rows dead room text (length store) legal) ∙ ap (run fuel room) loads) h)
+    pub follows-expansion : {p : Tables} → Prepares text row p → (t : Loaded) → load text ≡ loaded t → illegal fuel rows dead (length store) ≡ false
+        → HoldsTree t row × FollowsExpansion t fuel output second store r output′ second′ store′
+    follows-expansion p t loads legal = (
+      holds-tree p t loads,
+      run-follows text t loads fuel output second store (same-runs (sym (when-legal fuel rows dead room text (length store) legal) ∙ ap (run fuel room) loads) h),
+    )

@@ -22,14 +22,17 @@ use Rattle.model.proofs.Theorems.{fit-is-first}
 use Rattle.model.proofs.Choices.{when-true, when-false, or-false}
 use Rattle.model.proofs.Loading.{templates-length}
 use Rattle.nodes.specs.declared.Node.{Node}
+use Rattle.nodes.specs.SideBySide.{HoldsTree}
 use Rattle.fit.specs.declared.Choice.{Choice}
 use Rattle.fit.specs.Chosen.{Fits, Chosen, Chooses}
+use Rattle.fit.proofs.Asking.{can-fit}
 use Rattle.macros.specs.Table.{Table, lineIn, macroIn, macrosIn}
 use Rattle.macros.proofs.Table.{macros-in-length, macros-in-at}
 use Rattle.load.specs.Answer.{loadedOf}
 use Rattle.load.proofs.Answer.{loads-loaded, loads-refused}
 use Rattle.prepare.specs.declared.Tables.{Tables}
 use Rattle.prepare.specs.Prepares.{LoadsAll, Prepares}
+use Rattle.prepare.proofs.Trees.{holds-tree}
 use Rattle.stage2.specs.Answers.{Answers}
 use Rattle.stage2.specs.Rooms.{TestsRows}
 
@@ -71,10 +74,19 @@ module _ (rows dead : ℕ) (text line : Bytes) {b : Bool} (h : TestsRows rows de
   unfolding fitLine
   fit-legal e a = a ∙ sym (when-false _ _ (sym (h .is) ∙ e))
 
--- the first-reading rule
-pub first-rule : (rows dead : ℕ) (text line : Bytes) {f : Fitted} → f ≡ fitLine rows dead text line
-    → (t : Loaded) → load text ≡ loaded t → 2048 ≤ rows → 51456 ≤ dead → length line ≤ 200 → FitsFirst t line f
-first-rule rows dead text line e t l u d v = subst (FitsFirst t line) (sym e) (fit-is-first text t l line rows dead u d v)
+-- long rows don't
+rows-long : {rows dead : ℕ} {b : Bool} → TestsRows rows dead b → 2048 ≤ rows → 51456 ≤ dead → b ≡ false
+unfolding shortRow shortDead
+rows-long {rows} {dead} h u d = h .is ∙ ap (λ (t : Bool). t || ltb dead 51456) (le-ltb rows 2048 u) ∙ le-ltb dead 51456 d
+
+-- the first-reading rule, and the tree that is left in the row
+module _ {rows dead : ℕ} (text line : Bytes) {row : List Node} {f : Fitted} (e : f ≡ fitLine rows dead text line) where
+  -- with rows that are too short there is neither
+  pub no-rule : {b : Bool} → TestsRows rows dead b → b ≡ true → (t : Loaded) → load text ≡ loaded t → 2048 ≤ rows → 51456 ≤ dead → HoldsTree t row × (length line ≤ 200 → FitsFirst t line f)
+  no-rule h s t l u d = absurd (false-not-true (sym (rows-long h u d) ∙ s))
+
+  pub first-rule : {p : Tables} → Prepares text row p → (t : Loaded) → load text ≡ loaded t → 2048 ≤ rows → 51456 ≤ dead → HoldsTree t row × (length line ≤ 200 → FitsFirst t line f)
+  first-rule p t l u d = (holds-tree p t l, λ v. subst (FitsFirst t line) (sym e) (fit-is-first text t l line rows dead u d v))
 
 -- the answer with no pieces
 pub no-pieces : {k n k′ n′ : ℕ} → k ≡ k′ → n ≡ n′ → record { number = k; line = n; start = replicate 9 0; length = replicate 9 0; places = 0; bytes = 0 } ≡ noPieces k′ n′
@@ -122,9 +134,7 @@ module _ {text : Bytes} {t : Tables} {row : List Node} (line : Bytes) (p : Prepa
 
     -- the tree is there to be searched, with room for its dead places
     pub asks-whole : {dead : Bytes} → 51456 ≤ length dead → length line ≤ 200 → Fits row (t .loading .nodes) dead line (length line)
-    asks-whole d l =
-        let x = p .has-tree z .fits in
-        record { stands = x .stands; root = x .root; few = x .few; high = omega arith; short = l; room = d }
+    asks-whole d l = can-fit (p .has-tree z .fits) (omega arith) l d
 
     module _ {c : Choice} (chose : Chooses (t .loading .marks) row (t .loading .nodes) (take (length line) line) c) where
       h : Chooses (t .loading .marks) row (t .loading .nodes) line c

@@ -1,6 +1,6 @@
 // The public calls of STAGE2 (document 01, "Events, store and result"): check a text, fit a line against its templates, and run it.
-// Each takes the text itself and a lent row of nodes, and fit and run a lent row of dead places; what these rows hold is free. No public
-// function has a `requires`.
+// Each takes the text itself and a lent row of nodes, and fit and run a lent row of dead places. Fit and run leave the tree of a text that
+// loads at the front of the row of nodes; what else these rows hold is free. No public function has a `requires`.
 // `&[Node]` is not covered by the checker's own account of a function: check, fit, fit_prepared and run are proved by walks.
 ghost use mathlib.Core.Path.{_≡_};
 ghost use Prim.Native.Nat.{_≤_, _<_};
@@ -11,6 +11,7 @@ ghost use Rattle.model.specs.Load.{Loaded, loaded};
 ghost use Rattle.model.specs.Machine.{rooms};
 ghost use Rattle.model.specs.Results.{shortRow, checkedAs, checkText, noPieces, fittedIn, fitLine, illegal, runText};
 ghost use Rattle.model.specs.FirstReading.{FitsFirst};
+ghost use Rattle.nodes.specs.SideBySide.{HoldsTree};
 ghost use Rattle.prepare.specs.Prepares.{Prepares};
 ghost use Rattle.model.specs.Runs.{Runs};
 ghost use Rattle.model.specs.Demands.{FollowsExpansion};
@@ -154,7 +155,7 @@ fn fit_prepared(text: &[u8], nodes: &[Node], dead: &mut [u8], t: Tables, line: &
 pub fn fit(text: &[u8], nodes: &mut [Node], dead: &mut [u8], line: &[u8]) -> Fitted
     ensures { λ r. ⌜ r ≡ fitLine (length (now (nodes .entry))) (length (now (dead .entry))) (now (text .entry)) (now (line .entry)) ⌝ }
     ensures { λ r. ⌜ ((t : Loaded) → Load.load (now (text .entry)) ≡ loaded t → 2048 ≤ length (now (nodes .entry)) → 51456 ≤ length (now (dead .entry))
-        → length (now (line .entry)) ≤ 200 → FitsFirst t (now (line .entry)) r) ⌝ }
+        → HoldsTree t (now (nodes .exit)) × (length (now (line .entry)) ≤ 200 → FitsFirst t (now (line .entry)) r)) ⌝ }
 {
     if lack_room(nodes.len(), dead.len()) {
         return no_pieces(1, 0);
@@ -179,7 +180,7 @@ fn count_of(n: u64) -> usize
     n as usize
 }
 
-// Runs a text. No more than 2,048 nodes and 51,456 bytes of the lent rows are used; what they hold is free. Channel 3 is the output, and
+// Runs a text. No more than 2,048 nodes and 51,456 bytes of the lent rows are used. Channel 3 is the output, and
 // channel 4 the second one; either may have any length.
 pub fn run(
     text: &[u8],
@@ -195,7 +196,7 @@ pub fn run(
         (now (output .entry)) (now (second .entry)) (now (store .entry)) r (now (output .exit)) (now (second .exit)) (now (store .exit)) ⌝ }
     ensures { λ r. ⌜ ((t : Loaded) → Load.load (now (text .entry)) ≡ loaded t
         → illegal fuel (length (now (nodes .entry))) (length (now (dead .entry))) (length (now (store .entry))) ≡ false
-        → FollowsExpansion t fuel (now (output .entry)) (now (second .entry)) (now (store .entry)) r
+        → HoldsTree t (now (nodes .exit)) × FollowsExpansion t fuel (now (output .entry)) (now (second .entry)) (now (store .entry)) r
         (now (output .exit)) (now (second .exit)) (now (store .exit))) ⌝ }
 {
     if is_illegal(fuel, nodes.len(), dead.len(), store.len()) {

@@ -15,7 +15,7 @@ use Rattle.templates.specs.Count.{common, longest, known, added, sum, be
 
 -- ---- what two templates have in common
 
-pub common-most : (s t : Bytes) → common s t ≤ suc (length s)
+common-most : (s t : Bytes) → common s t ≤ suc (length s)
 unfolding common
 common-most [] [] = omega arith
 common-most [] (y ∷ t) = omega arith
@@ -101,7 +101,7 @@ counted ts c r e = record {
 }
 
 -- one template more
-pub longest-snoc : (s : Bytes) (ts : List Bytes) (t : Bytes) → longest s (ts ++ (t ∷ [])) ≡ max (longest s ts) (common s t)
+longest-snoc : (s : Bytes) (ts : List Bytes) (t : Bytes) → longest s (ts ++ (t ∷ [])) ≡ max (longest s ts) (common s t)
 unfolding longest
 longest-snoc s [] t = omega arith
 longest-snoc s (u ∷ ts) t = omega (arith, longest-snoc s ts t)

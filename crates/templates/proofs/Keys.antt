@@ -13,28 +13,10 @@ use lib.Seq.{getD-take, getD-drop}
 use borrow.Author.Tests.{eqb-true, eqb-false, eq-eqb, ne-eqb, ltb-true, ltb-false}
 use Rattle.model.specs.Text.{Bytes, part}
 use Rattle.model.specs.Load.{count}
-use Rattle.templates.specs.Keys.{AllBytes, pick, byteKey, keyOf, codeOf, Share, one, cnt, Key}
+use Rattle.templates.specs.Keys.{AllBytes, pick, byteKey, keyOf, Share, one, cnt, Key}
 use Rattle.model.proofs.Text.{part-long}
 
--- keys and their numbers
-pub code-end : (k : ℕ) → k ≡ 256 → 0 ≡ codeOf k
-unfolding codeOf
-code-end k e = rw (eq-eqb k 256 e) refl
-
-pub code-hole : (k : ℕ) → k ≡ 257 → 1 ≡ codeOf k
-unfolding codeOf
-code-hole k e = rw (ne-eqb k 256 (λ z. omega arith), eq-eqb k 257 e) refl
-
-pub code-byte : (k : ℕ) → (k ≡ 256 → ⊥) → (k ≡ 257 → ⊥) → k + 2 ≡ codeOf k
-unfolding codeOf
-code-byte k p q = rw (ne-eqb k 256 p, ne-eqb k 257 q) refl
-
--- a key is the end's, the placeholder's or a byte's
-pub data Sorted (k : ℕ) : Type 0 where
-  is-end : k ≡ 256 → Sorted k
-  is-hole : k ≡ 257 → Sorted k
-  is-byte : (k ≡ 256 → ⊥) → (k ≡ 257 → ⊥) → Sorted k
-
+-- numbers are equal or not, and one is less or not
 pub eq-or : (a b : ℕ) → (a ≡ b) ⊎ (a ≡ b → ⊥)
 eq-or a b = go (eqb a b) refl
   where
@@ -48,24 +30,6 @@ lt-or a b = go (ltb a b) refl
     go : (t : Bool) → ltb a b ≡ t → (a < b) ⊎ (b ≤ a)
     go true e = inl (ltb-true a b e)
     go false e = inr (ltb-false a b e)
-
-pub sorted : (k : ℕ) → Sorted k
-sorted k = ⊎-elim (λ e. is-end e) (λ p. ⊎-elim (λ e. is-hole e) (λ q. is-byte p q) (eq-or k 257)) (eq-or k 256)
-
--- different keys have different numbers
-pub code-inj : (a b : ℕ) → codeOf a ≡ codeOf b → a ≡ b
-code-inj a b e = go (sorted a) (sorted b)
-  where
-    go : Sorted a → Sorted b → a ≡ b
-    go (is-end p) (is-end q) = omega arith
-    go (is-end p) (is-hole q) = absurd (omega (arith, code-end a p, code-hole b q))
-    go (is-end p) (is-byte q r) = absurd (omega (arith, code-end a p, code-byte b q r))
-    go (is-hole p) (is-end q) = absurd (omega (arith, code-hole a p, code-end b q))
-    go (is-hole p) (is-hole q) = omega arith
-    go (is-hole p) (is-byte q r) = absurd (omega (arith, code-hole a p, code-byte b q r))
-    go (is-byte p s) (is-end q) = absurd (omega (arith, code-byte a p s, code-end b q))
-    go (is-byte p s) (is-hole q) = absurd (omega (arith, code-byte a p s, code-hole b q))
-    go (is-byte p s) (is-byte q r) = omega (arith, code-byte a p s, code-byte b q r)
 
 -- the key at a place
 pub byte-hole : (p b : ℕ) → b ≡ p → 257 ≡ byteKey p b
@@ -95,14 +59,18 @@ module _ (p : ℕ) (text : Bytes) (s l x : ℕ) (inside : s + l ≤ length text)
   part-key : x < l → keyOf p (part text s (s + l)) x ≡ byteKey p (getD text (s + x) 0)
   part-key u = key-in p (part text s (s + l)) x (omega (arith, part-long text s l inside)) ∙ ap (byteKey p) (part-at u)
 
-  pub key-hole : x < l → getD text (s + x) 0 ≡ p → Key p (part text s (s + l)) x 257
-  key-hole u e = record { is = byte-hole p _ e ∙ sym (part-key u); small = omega arith }
+  pub key-hole : x < l → getD text (s + x) 0 ≡ p → getD text (s + x) 0 < 256 → Key p (part text s (s + l)) x 257
+  key-hole u e b = record { is = byte-hole p _ e ∙ sym (part-key u); small = omega arith; byte = λ v. omega (arith, part-at u) }
 
   pub key-byte : x < l → (getD text (s + x) 0 ≡ p → ⊥) → getD text (s + x) 0 < 256 → Key p (part text s (s + l)) x (getD text (s + x) 0)
-  key-byte u e b = record { is = byte-plain p _ e ∙ sym (part-key u); small = omega arith }
+  key-byte u e b = record { is = byte-plain p _ e ∙ sym (part-key u); small = omega arith; byte = λ v. omega (arith, part-at u) }
 
   pub key-end : l ≤ x → Key p (part text s (s + l)) x 256
-  key-end u = record { is = sym (key-past p (part text s (s + l)) x (omega (arith, part-long text s l inside))); small = omega arith }
+  key-end u = let e = part-long text s l inside in record {
+    is = sym (key-past p (part text s (s + l)) x (omega arith));
+    small = omega arith;
+    byte = λ v. absurd (omega arith);
+  }
 
 -- of bytes: no key is past the placeholder's, none but the end's is 256, and bytes differ where their keys do
 module _ (p b : ℕ) (small : b < 256) where

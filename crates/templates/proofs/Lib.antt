@@ -1,6 +1,12 @@
 -- How many beginnings templates have.
 pub mod Count
 mod Matching
--- Keys, and the templates that stand at a node.
+-- Their keys.
 pub mod Keys
-pub mod Choosing
+-- Their order, and the test of two of them.
+pub mod Order
+mod Comparing
+-- The template at a place of the order, the place of a new one, and the runs of those that have one key at a place.
+mod Placed
+mod Finding
+mod Runs

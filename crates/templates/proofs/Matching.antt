@@ -1,25 +1,20 @@
--- The loops of `match_both` and `count_new`.
-use mathlib.Core.Path.{_≡_, refl, sym, _∙_, ap}
-use mathlib.Core.List.{List, _∷_}
-use Prim.Native.Nat.{ℕ, suc, _+_, _-_, _≤_, _<_, max}
+-- The loop of `match_both`: how much two templates have in common.
+use mathlib.Core.Path.{_≡_, refl, sym, _∙_}
+use mathlib.Core.List.{_∷_}
+use Prim.Native.Nat.{ℕ, suc, _+_, _≤_, _<_}
 use native.Mathlib.Omega.{arith}
-use native.Mathlib.Numerals.{add-one}
 use borrow.Author.Tests.{eq-eqb, ne-eqb}
 use lib.ListN.{length, getD}
 use Rattle.model.specs.Text.{Bytes, part}
-use Rattle.model.proofs.Text.{part-first, part-empty, part-long}
-use Rattle.macros.specs.Table.{startIn, lenIn, templateIn, templatesIn}
-use Rattle.macros.proofs.Table.{entry-is}
-use Rattle.templates.specs.Count.{common, longest, Counted}
-use Rattle.templates.proofs.Count.{longest-most, longest-snoc, counted}
+use Rattle.model.proofs.Text.{part-first, part-empty}
+use Rattle.templates.specs.Count.{common}
 
--- ---- what two templates have in common
-
-common-same : (x y : ℕ) (s t : Bytes) → x ≡ y → common (x ∷ s) (y ∷ t) ≡ suc (common s t)
+-- the first elements are the same, or differ
+pub common-same : (x y : ℕ) (s t : Bytes) → x ≡ y → common (x ∷ s) (y ∷ t) ≡ suc (common s t)
 unfolding common
 common-same x y s t e = rw (eq-eqb x y e, common) refl
 
-common-other : (x y : ℕ) (s t : Bytes) → (x ≡ y → ⊥) → common (x ∷ s) (y ∷ t) ≡ 0
+pub common-other : (x y : ℕ) (s t : Bytes) → (x ≡ y → ⊥) → common (x ∷ s) (y ∷ t) ≡ 0
 unfolding common
 common-other x y s t e = rw (ne-eqb x y e, common) refl
 
@@ -75,37 +70,3 @@ module _ (text : Bytes) (a la b lb : ℕ) where
     pub match-all : la ≤ x → lb ≤ x → x + 1 ≡ common (part text a (a + la)) (part text b (b + lb))
     unfolding common
     match-all u v = sym (m .rest ∙ rw (part-empty text (a + x) (a + la) (omega arith), part-empty text (b + x) (b + lb) (omega arith)) refl)
-
--- ---- what a template has in common with those of a table
-
--- `most` is the most that the template at start has in common with one of the first m
-pub record Passed (text table : List ℕ) (k start len m most : ℕ) : Type 0 where
-  pub within : m ≤ k
-  pub is : most ≡ longest (part text start (start + len)) (templatesIn text table m)
-
-module _ (text table : List ℕ) (k start len : ℕ) where
-  pub passed-none : Passed text table k start len 0 0
-  unfolding longest templatesIn
-  passed-none = record { within = omega arith; is = refl }
-
-  pub passed-more : (m most c r s l : ℕ) → Passed text table k start len m most → m < k → s ≡ startIn table m → l ≡ lenIn table m
-      → c ≡ common (part text start (start + len)) (part text s (s + l)) → r ≡ max most c → Passed text table k start len (m + 1) r
-  unfolding templatesIn
-  passed-more m most c r s l h u a b p q =
-      let e : c ≡ common (part text start (start + len)) (templateIn text table m) = p ∙ ap (common (part text start (start + len))) (entry-is text table m s l a b) in
-      record {
-        within = omega arith;
-        is = q ∙ rw add-one (rw (longest-snoc (part text start (start + len)) (templatesIn text table m) (templateIn text table m), h .is, e) refl);
-      }
-
-  -- it is no more than all
-  pub passed-within : (m most : ℕ) → Passed text table k start len m most → start + len ≤ length text → most ≤ len + 1
-  passed-within m most h u = omega (arith, h .is, longest-most (part text start (start + len)) (templatesIn text table m), part-long text start len u)
-
-  -- the rest is new
-  pub passed-all : (m most r : ℕ) → Passed text table k start len m most → k ≤ m → start + len ≤ length text → r ≡ len + 1 - most
-      → Counted (templatesIn text table k) (part text start (start + len)) r
-  passed-all m most r h u v q =
-      let z : m ≡ k = omega (arith, h .within) in
-      let e = ap (λ (n : ℕ). longest (part text start (start + len)) (templatesIn text table n)) z in
-      counted (templatesIn text table k) (part text start (start + len)) r (omega (arith, part-long text start len v, h .is, e))

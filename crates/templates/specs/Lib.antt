@@ -1,3 +1,4 @@
--- How many beginnings templates have, and their keys.
+-- How many beginnings templates have, their keys, and their order.
 pub mod Count
 pub mod Keys
+pub mod Order

@@ -1,15 +1,20 @@
-// The templates that the table of macros holds: how many beginnings a new one adds, and the least key at a place of those that
-// stand at a node.
+// The templates that the table of macros holds, in the order of their keys: where a new one goes and how many beginnings it adds, and
+// the runs of those that have one key at a place.
 ghost use mathlib.Core.Path.{_≡_};
-ghost use Prim.Native.Nat.{ℕ, _+_, _≤_, _<_, max};
+ghost use Prim.Native.Nat.{_+_, _≤_, _<_, max, min};
 ghost use lib.ListN.{length};
 ghost use lib.Dec.{eqb};
 ghost use Rattle.model.specs.Text.{part};
-ghost use Rattle.macros.specs.Table.{templatesIn, Entries};
-ghost use Rattle.templates.specs.Count.{common, Counted};
-ghost use Rattle.templates.specs.Keys.{keyOf, codeOf, one, Key, LeastOfAll, moveTo, MovedOn};
+ghost use Rattle.model.specs.Children.{placeholderKey};
+ghost use Rattle.macros.specs.Table.{templatesIn, orderIn, Entries};
+ghost use Rattle.templates.specs.Count.{common};
+ghost use Rattle.templates.specs.Keys.{keys, one, Key};
+ghost use Rattle.templates.specs.Order.{InOrder, Compared, Finds, TakesRun};
 use macros::len_of;
+use macros::macro_at;
 use macros::start_of;
+use model::END_KEY;
+use model::PLACEHOLDER_KEY;
 
 fn larger(a: usize, b: usize) -> usize
     ensures { λ r. ⌜ r ≡ max a b ⌝ }
@@ -18,6 +23,15 @@ fn larger(a: usize, b: usize) -> usize
         return b;
     }
     a
+}
+
+fn smaller(a: usize, b: usize) -> usize
+    ensures { λ r. ⌜ r ≡ min a b ⌝ }
+{
+    if a < b {
+        return a;
+    }
+    b
 }
 
 // How many elements the templates at a and b have in common at their beginnings; the end counts as one.
@@ -41,21 +55,6 @@ fn match_both(text: &[u8], a: usize, la: usize, b: usize, lb: usize) -> usize
     x + 1
 }
 
-// How many beginnings the template at start has that none of the first k of the table has: 0 where it is one of them.
-pub fn count_new(text: &[u8], table: &[usize], k: usize, start: usize, len: usize) -> usize
-    requires { ⌜ Entries (now text) (now table) k × (start + len ≤ length (now text)) ⌝ }
-    ensures { λ r. ⌜ Counted (templatesIn (now (text .entry)) (now (table .entry)) k) (part (now (text .entry)) start (start + len)) r ⌝ }
-{
-    let mut most = 0;
-    let mut m = 0;
-    while m < k {
-        let c = match_both(text, start, len, start_of(table, m), len_of(table, m));
-        most = larger(most, c);
-        m += 1;
-    }
-    (len + 1) - most
-}
-
 // The key at place x of the template at start.
 fn key_at(mark: u8, text: &[u8], start: usize, len: usize, x: usize) -> u16
     requires { ⌜ start + len ≤ length (now text) ⌝ }
@@ -64,119 +63,128 @@ fn key_at(mark: u8, text: &[u8], start: usize, len: usize, x: usize) -> u16
     if x < len {
         let b = text[start + x];
         if b == mark {
-            return 257;
+            return PLACEHOLDER_KEY;
         }
         return b as u16;
     }
-    256
+    END_KEY
 }
 
-// A key, and the first template that has it.
+// Whether the template at a has the lesser key at place x.
+fn stands_before(mark: u8, text: &[u8], a: usize, la: usize, b: usize, lb: usize, x: usize) -> bool
+    requires { ⌜ (a + la ≤ length (now text)) × (b + lb ≤ length (now text)) ⌝ }
+    ensures { λ r. ⌜ Compared mark (part (now (text .entry)) a (a + la)) (part (now (text .entry)) b (b + lb)) x r ⌝ }
+{
+    key_at(mark, text, a, la, x) < key_at(mark, text, b, lb, x)
+}
+
+// Where a template goes in the order of others, and how many beginnings it has that none of them has: 0 where it is one of them.
+pub struct Found {
+    pub place: usize,
+    pub new: usize,
+}
+
+// Where the template at start goes in the order of the first k of the table. Of all of these, its neighbours there have the most in
+// common with it.
+pub fn find_place(
+    mark: u8,
+    text: &[u8],
+    table: &[usize],
+    k: usize,
+    start: usize,
+    len: usize,
+) -> Found
+    requires { ⌜ Entries (now text) (now table) k × (start + len ≤ length (now text)) × InOrder mark (templatesIn (now text) (now table) k) (orderIn (now table)) ⌝ }
+    ensures { λ r. ⌜ Finds mark (templatesIn (now (text .entry)) (now (table .entry)) k) (orderIn (now (table .entry)))
+        (part (now (text .entry)) start (start + len)) (r .place) (r .new) ⌝ }
+{
+    let mut low = 0;
+    let mut high = k;
+    let mut below = 0;
+    let mut above = 0;
+    while low < high {
+        let mid = (low + high) / 2;
+        let t = macro_at(table, mid);
+        let other = start_of(table, t);
+        let length = len_of(table, t);
+        let both = match_both(text, start, len, other, length);
+        if len < both {
+            return Found { place: mid, new: 0 };
+        }
+        if stands_before(mark, text, start, len, other, length, both) {
+            high = mid;
+            above = both;
+        } else {
+            low = mid + 1;
+            below = both;
+        }
+    }
+    Found {
+        place: low,
+        new: (len + 1) - larger(below, above),
+    }
+}
+
+// The key at place d of the template at a place of the order.
+fn key_in_order(mark: u8, text: &[u8], table: &[usize], n: usize, place: usize, d: usize) -> u16
+    requires { ⌜ Entries (now text) (now table) n × (place < n) × (orderIn (now table) place < n) ⌝ }
+    ensures { λ r. ⌜ (r ≡ keys mark (templatesIn (now (text .entry)) (now (table .entry)) n) (orderIn (now (table .entry)) place) d) × (r ≤ placeholderKey) ⌝ }
+{
+    let t = macro_at(table, place);
+    key_at(mark, text, start_of(table, t), len_of(table, t), d)
+}
+
+// Templates that stand next to each other in the order and have one key at a place: their key, the first of them in the text, and their
+// places in the order.
 pub struct Pick {
     pub key: u16,
     pub template: usize,
+    pub from: usize,
+    pub end: usize,
 }
 
-// The least key at place d of the templates that stand at node i, and the first of them that has it.
-pub fn least(
+// The run of those that have the key of the first at place d, from a place of the order on, before another.
+pub fn take_run(
     mark: u8,
     text: &[u8],
     table: &[usize],
     n: usize,
-    at: &[usize],
-    i: usize,
+    from: usize,
+    to: usize,
     d: usize,
 ) -> Pick
-    requires { ⌜ Entries (now text) (now table) n × (n ≤ length (now at)) ⌝ }
-    ensures { λ r. ⌜ LeastOfAll mark (templatesIn (now (text .entry)) (now (table .entry)) n) (now (at .entry)) i d (r .key) (r .template) ⌝ }
+    requires { ⌜ Entries (now text) (now table) n × (from < to) × (to ≤ n) × InOrder mark (templatesIn (now text) (now table) n) (orderIn (now table)) ⌝ }
+    ensures { λ r. ⌜ (r .from ≡ from) × TakesRun (keys mark (templatesIn (now (text .entry)) (now (table .entry)) n)) (orderIn (now (table .entry))) from to d (r .key) (r .template) (r .end) ⌝ }
 {
-    let mut best: u16 = 258;
-    let mut who = 0;
-    let mut k = 0;
-    while k < n {
-        if at[k] == i {
-            let e = key_at(mark, text, start_of(table, k), len_of(table, k), d);
-            if e < best {
-                best = e;
-                who = k;
-            }
+    let key = key_in_order(mark, text, table, n, from, d);
+    let mut first = macro_at(table, from);
+    let mut end = from + 1;
+    while end < to {
+        if key_in_order(mark, text, table, n, end, d) != key {
+            return Pick {
+                key,
+                template: first,
+                from,
+                end,
+            };
         }
-        k += 1;
+        first = smaller(first, macro_at(table, end));
+        end += 1;
     }
     Pick {
-        key: best,
-        template: who,
+        key,
+        template: first,
+        from,
+        end,
     }
-}
-
-// Where a template that stands at node a goes, when those of node i with this key go on to node c.
-fn follow(
-    mark: u8,
-    text: &[u8],
-    start: usize,
-    len: usize,
-    a: usize,
-    i: usize,
-    d: usize,
-    key: u16,
-    c: usize,
-) -> usize
-    requires { ⌜ start + len ≤ length (now text) ⌝ }
-    ensures { λ r. ⌜ r ≡ moveTo a i (keyOf mark (part (now (text .entry)) start (start + len)) d) key c ⌝ }
-{
-    if a != i {
-        return a;
-    }
-    if key_at(mark, text, start, len, d) != key {
-        return a;
-    }
-    c
-}
-
-// The templates that stand at node i and have this key at place d go on to node c.
-pub fn move_templates(
-    mark: u8,
-    text: &[u8],
-    table: &[usize],
-    n: usize,
-    at: &mut [usize],
-    i: usize,
-    d: usize,
-    key: u16,
-    c: usize,
-)
-    requires { ⌜ Entries (now text) (now table) n × (n ≤ length (now at)) ⌝ }
-    ensures { λ r. ⌜ MovedOn mark (templatesIn (now (text .entry)) (now (table .entry)) n) (now (at .entry)) (now (at .exit)) i d key c ⌝ }
-{
-    let mut k = 0;
-    while k < n {
-        let start = start_of(table, k);
-        let len = len_of(table, k);
-        at[k] = follow(mark, text, start, len, at[k], i, d, key, c);
-        k += 1;
-    }
-}
-
-// A key as the number that a node has.
-pub fn code_of(k: u16) -> u16
-    requires { ⌜ k < 258 ⌝ }
-    ensures { λ r. ⌜ r ≡ codeOf k ⌝ }
-{
-    if k == 256 {
-        return 0;
-    }
-    if k == 257 {
-        return 1;
-    }
-    k + 2
 }
 
 // How many placeholders stand before and at a key.
 pub fn holes_past(o: u16, k: u16) -> u16
     requires { ⌜ o < 1000 ⌝ }
-    ensures { λ r. ⌜ r ≡ o + one (eqb k 257) ⌝ }
+    ensures { λ r. ⌜ r ≡ o + one (eqb k placeholderKey) ⌝ }
 {
-    if k == 257 {
+    if k == PLACEHOLDER_KEY {
         return o + 1;
     }
     o

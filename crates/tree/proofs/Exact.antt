@@ -1,5 +1,5 @@
 -- The tree has a node for each new beginning: the count is exact.
-use mathlib.Core.Path.{_≡_, refl, sym, _∙_, ap, subst}
+use mathlib.Core.Path.{_≡_, sym, _∙_, ap, subst}
 use mathlib.Core.List.{List}
 use mathlib.Core.Logic.{_⊎_, inl, inr, ⊎-elim}
 use Prim.Native.Nat.{ℕ, zero, suc, _+_, _-_, _≤_, _<_}
@@ -10,7 +10,7 @@ use Rattle.nodes.specs.Rows.{elem, templateOf, height}
 use Rattle.templates.specs.Count.{sum}
 use Rattle.templates.specs.Keys.{Share}
 use Rattle.tree.specs.Nodes.{columns, Half}
-use Rattle.templates.proofs.Keys.{code-end, code-inj, lt-or, share-more, share-sym, pigeon}
+use Rattle.templates.proofs.Keys.{lt-or, share-more, share-sym, pigeon}
 use Rattle.tree.proofs.Room.{Known}
 
 -- the template and the place of each new beginning
@@ -25,11 +25,11 @@ locate len old (suc n) r u =
 
 module _ (f : ℕ → ℕ → ℕ) (len : ℕ → ℕ) (n : ℕ) (rows : List Node) (half : Half f len n (columns rows) (length rows) (length rows) (length rows) 0) (ends : (k x : ℕ) → f k x ≡ 256 → len k ≤ x) where
   -- an end is the end of its template
-  pub at-end : (j : ℕ) → 0 < j → j < length rows → elem rows j ≡ 0 → f (templateOf rows j) (200 - height rows j) ≡ 256
-  at-end j z u e = code-inj _ 256 (sym (half .node j z u .element) ∙ e ∙ code-end 256 refl)
+  pub at-end : (j : ℕ) → 0 < j → j < length rows → elem rows j ≡ 256 → f (templateOf rows j) (200 - height rows j) ≡ 256
+  at-end j z u e = sym (half .node j z u .element) ∙ e
 
   -- a node whose beginning the template t has is no end, while t goes on
-  pub goes-on : (j t : ℕ) → j < length rows → Share f t (templateOf rows j) (201 - height rows j) → 201 - height rows j < suc (len t) → ¬ (elem rows j ≡ 0)
+  pub goes-on : (j t : ℕ) → j < length rows → Share f t (templateOf rows j) (201 - height rows j) → 201 - height rows j < suc (len t) → ¬ (elem rows j ≡ 256)
   goes-on zero t u s lt e = omega (arith, half .root .2)
   goes-on (suc j) t u s lt e =
       let x = half .node (suc j) (omega arith) u in

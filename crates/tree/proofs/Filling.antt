@@ -5,68 +5,77 @@ use mathlib.Core.List.{List, []}
 use Prim.Native.Nat.{ℕ, suc, _+_, _-_, _≤_, _<_}
 use native.Mathlib.Omega.{arith}
 use lib.Dec.{eqb}
-use lib.ListN.{length, getD, set, replicate, getD-replicate}
+use lib.ListN.{length, getD, set}
 use lib.Seq.{getD-set-same, getD-set-other}
 use borrow.Author.Tests.{eqb-true, eqb-false}
 use Rattle.nodes.specs.declared.Node.{Node}
-use Rattle.nodes.specs.Rows.{noNode, elem, templateOf, height}
+use Rattle.nodes.specs.Rows.{noNode, elem, firstOf, countOf, templateOf, height}
 use Rattle.model.specs.Text.{Bytes}
 use Rattle.templates.specs.Count.{known, beginnings}
-use Rattle.templates.specs.Keys.{Smalls, keys, Least, LeastOfAll, Moved, MovedOn}
-use Rattle.tree.specs.Nodes.{columns, Half, Ahead, Here, Made, Filled, withKids, below, rootNode}
+use Rattle.templates.specs.Keys.{Smalls, keys}
+use Rattle.templates.specs.Order.{InOrder, TakesRun}
+use Rattle.tree.specs.Nodes.{columns, Half, Waiting, Made, Filled, withKids, below, rootNode}
 use Rattle.tree.specs.Built.{ReadyToBuild}
 use Rattle.templates.proofs.Keys.{key-past, holes-most}
+use Rattle.templates.proofs.Order.{keys-ascend}
 use Rattle.tree.proofs.Known.{templates-known}
 use Rattle.tree.proofs.Nodes.{Next, stem, seal}
 use Rattle.tree.proofs.Room.{room}
-use Rattle.tree.proofs.Standing.{next, here, after, ahead-carry, here-carry, ahead-more, here-more}
-use Rattle.tree.proofs.Growth.{stored, relinked, grow, has-height, linked, planted}
+use Rattle.tree.proofs.Standing.{Ordered, Cut, cut-first, after, waiting-carry, no-next, next, cut-on, waiting-more}
+use Rattle.tree.proofs.Growth.{stored, relinked, unlinked, grow, has-height, linked, planted}
 
 -- ---- the children of a node
 
--- the children of node i, the node x, for its keys below low are made
-pub record Filling (p : ℕ) (ts : List Bytes) (rows : List Node) (at : List ℕ) (i made : ℕ) (x : Node) (c low : ℕ) : Type 0 where
+-- the children of node i, the node x, for the templates before a place of the order are made: those of its keys below `low`
+pub record Filling (p : ℕ) (ts : List Bytes) (order : ℕ → ℕ) (rows : List Node) (i made : ℕ) (x : Node) (c place : ℕ) : Type 0 where
+  pub low : ℕ
   pub bytes : Smalls ts
   pub half : Half (keys p ts) (λ k. length (getD ts k [])) (length ts) (columns rows) i c made low
-  pub ahead : Ahead (keys p ts) (λ k. length (getD ts k [])) (length ts) (columns rows) (λ k. getD at k 0) (i + 1) c
-  pub here : Here (keys p ts) (λ k. length (getD ts k [])) (length ts) (columns rows) (λ k. getD at k 0) i low
+  pub waiting : Waiting (keys p ts) (λ k. length (getD ts k [])) (length ts) (columns rows) order i c
+  pub cut : Cut (keys p ts) order (x .first) (x .first + x .count) (201 - x .height) place low
   pub node : x ≡ getD rows i noNode
-  pub open-node : ¬ (elem rows i ≡ 0)
+  pub open-node : ¬ (elem rows i ≡ 256)
   pub parent : i < made
   pub more : made ≤ c
   pub within : c ≤ suc (beginnings ts)
   pub most : low ≤ 258
 
 -- a node is an end, or none
-module _ (rows : List Node) (i : ℕ) {x : Node} {b : Bool} (e : x ≡ getD rows i noNode) (q : b ≡ eqb (x .element) 0) where
-  pub is-end : b ≡ true → elem rows i ≡ 0
-  is-end t = subst (λ (y : Node). y .element ≡ 0) e (eqb-true (x .element) 0 (sym q ∙ t))
+module _ (rows : List Node) (i : ℕ) {x : Node} {b : Bool} (e : x ≡ getD rows i noNode) (q : b ≡ eqb (x .element) 256) where
+  pub is-end : b ≡ true → elem rows i ≡ 256
+  is-end t = subst (λ (y : Node). y .element ≡ 256) e (eqb-true (x .element) 256 (sym q ∙ t))
 
-  pub not-end : b ≡ false → ¬ (elem rows i ≡ 0)
-  not-end t = subst (λ (y : Node). ¬ (y .element ≡ 0)) e (eqb-false (x .element) 0 (sym q ∙ t))
+  pub not-end : b ≡ false → ¬ (elem rows i ≡ 256)
+  not-end t = subst (λ (y : Node). ¬ (y .element ≡ 256)) e (eqb-false (x .element) 256 (sym q ∙ t))
 
-module _ (p : ℕ) (ts : List Bytes) where
+module _ (p : ℕ) (ts : List Bytes) (order : ℕ → ℕ) where
   abbrev f : ℕ → ℕ → ℕ
   f = keys p ts
 
   abbrev len : ℕ → ℕ
   len k = length (getD ts k [])
 
+  -- past a template's end are ends
   ended : (k x : ℕ) → length (getD ts k []) ≤ x → keys p ts k x ≡ 256
   ended k x le = key-past p (getD ts k []) x le
 
+  -- what their order gives
+  ordered : InOrder p ts order → Ordered f (length ts) order
+  ordered o = record { within = o .within; every = o .every; ascending = keys-ascend o }
+
   -- a node is at most as high as the root
-  pub not-high : {rows : List Node} {at : List ℕ} {i c : ℕ} {x : Node} → Made p ts rows at i c → i < c → x ≡ getD rows i noNode → x .height ≤ 201
-  not-high {rows} {at} {i} {c} m u e = rw e (stem f len (length ts) (columns rows) i c c 0 (m .half) i u .high)
+  pub not-high : {rows : List Node} {i c : ℕ} {x : Node} → Made p ts order rows i c → i < c → x ≡ getD rows i noNode → x .height ≤ 201
+  not-high {rows} {i} {c} m u e = rw e (stem f len (length ts) (columns rows) i c c 0 (m .half) i u .high)
 
   -- no child is made yet
-  pub started : {rows : List Node} {at : List ℕ} {i made : ℕ} {x : Node} → Made p ts rows at i made → i < made → made ≤ suc (beginnings ts) → ¬ (elem rows i ≡ 0)
-      → x ≡ getD rows i noNode → Filling p ts rows at i made x made 0
-  started {rows} {at} {i} {made} m u w ne e = record {
+  pub started : {rows : List Node} {i made place : ℕ} {x : Node} → Made p ts order rows i made → i < made → made ≤ suc (beginnings ts) → ¬ (elem rows i ≡ 256)
+      → x ≡ getD rows i noNode → place ≡ x .first → Filling p ts order rows i made x made place
+  started {rows} {i} {made} m u w ne e q = record {
+    low = 0;
     bytes = m .bytes;
     half = m .half;
-    ahead = after f len (length ts) (columns rows) (λ k. getD at k 0) i made (m .ahead);
-    here = here f len (length ts) (columns rows) (λ k. getD at k 0) i made (m .ahead) u;
+    waiting = m .waiting;
+    cut = rw q (cut-first f order _ _ _);
     node = e;
     open-node = ne;
     parent = u;
@@ -75,143 +84,154 @@ module _ (p : ℕ) (ts : List Bytes) where
     most = omega arith;
   }
 
-  module _ {rows : List Node} {at : List ℕ} {i made d c low key who : ℕ} {x : Node} (fl : Filling p ts rows at i made x c low) (depth : d ≡ 201 - x .height) (l : LeastOfAll p ts at i d key who) where
+  module _ {rows : List Node} {i made c place end : ℕ} {x : Node} (fl : Filling p ts order rows i made x c place) (last : end ≡ x .first + x .count) where
     uc : i < c
     uc = omega (arith, fl .more, fl .parent)
 
-    deep : d ≡ 201 - height rows i
-    deep = depth ∙ ap (λ (y : Node). 201 - y .height) (fl .node)
+    -- where the run is cut, of a node that is x
+    cut-at : (y : Node) → x ≡ y → Cut f order (y .first) (y .first + y .count) (201 - y .height) place (fl .low)
+    cut-at y e = subst (λ (y : Node). Cut f order (y .first) (y .first + y .count) (201 - y .height) place (fl .low)) e (fl .cut)
 
-    at-node : Least f (length ts) at i (201 - height rows i) key who
-    at-node = rw (← deep) l
+    last-at : end ≡ firstOf rows i + countOf rows i
+    last-at = last ∙ ap (λ (y : Node). y .first + y .count) (fl .node)
 
-    next-key : Next f (length ts) (templateOf rows i) (201 - height rows i) low key who
-    next-key = next f len (length ts) (columns rows) at i low key who (fl .here) at-node
+    -- the run ends among the templates
+    pub last-within : end ≤ length ts
+    last-within = omega (arith, last-at, fl .waiting .within i (omega arith) uc)
 
-    -- no key is left
-    pub no-more : key ≡ 258 → Filled p ts rows at i c made
-    no-more e =
-        let z : Next f (length ts) (templateOf rows i) (201 - height rows i) low 258 who = rw (← e) next-key in
-        record {
-          bytes = fl .bytes;
-          more = fl .more;
-          within = fl .within;
-          half = seal f len (length ts) (columns rows) i c made low (fl .half) uc who (fl .most) z;
-          ahead = fl .ahead;
-          open-node = fl .open-node;
-        }
+    module _ (o : InOrder p ts order) where
+      -- no template is left
+      pub all-filled : end ≤ place → Filled p ts order rows i c made
+      all-filled le = record {
+        bytes = fl .bytes;
+        more = fl .more;
+        within = fl .within;
+        half = seal f len (length ts) (columns rows) i c made (fl .low) (fl .half) uc 0 (fl .most)
+            (no-next f len (length ts) (columns rows) order (ordered o) i c place (fl .low) (fl .waiting) uc (cut-at _ (fl .node)) 0 (omega (arith, last-at)));
+        waiting = after f len (length ts) (columns rows) order i c (fl .waiting);
+        open-node = fl .open-node;
+      }
 
-    -- there is one
-    module _ (ne : ¬ (key ≡ 258)) where
-      kb : key < 258
-      kb = omega (arith, l .most)
+      -- those of the next key are taken
+      module _ {d key who stop : ℕ} (depth : d ≡ 201 - x .height) (run : TakesRun f order place end d key who stop) where
+        -- from the run of a node that is x
+        run-at : (y : Node) → x ≡ y → TakesRun f order place (y .first + y .count) (201 - y .height) key who stop
+        run-at y e = subst (λ (y : Node). TakesRun f order place (y .first + y .count) (201 - y .height) key who stop) e (rw (← last, ← depth) run)
 
-      -- it is none of those before
-      pub key-low : (low ≤ key) × (key < 258)
-      key-low = (next-key .there kb .3, kb)
+        next-key : Next f (length ts) (templateOf rows i) (201 - height rows i) (fl .low) key who
+        next-key = next f len (length ts) (columns rows) order (ordered o) i c place (fl .low) (fl .waiting) uc (cut-at _ (fl .node)) key who stop (run-at _ (fl .node))
 
-      module _ {first : List Node} (ready : ReadyToBuild p ts first) where
-        high-enough : 0 < height rows i
-        high-enough = has-height f len (length ts) ended (λ k u. ready .short k) rows i c made low key who (fl .half) uc (fl .open-node) next-key kb
+        kb : key < 258
+        kb = omega (arith, run .small)
 
-        few-holes : getD rows i noNode .holes < 1000
-        few-holes =
-            let s = stem f len (length ts) (columns rows) i c made low (fl .half) i uc in
-            let t = templateOf rows i in
-            omega (arith, s .placed, holes-most p (getD ts t []) (201 - height rows i) (fl .bytes t), ready .nine t)
+        module _ {first : List Node} (ready : ReadyToBuild p ts first) where
+          high-enough : 0 < height rows i
+          high-enough = has-height f len (length ts) ended (λ k u. ready .short k) rows i c made (fl .low) key who (fl .half) uc (fl .open-node) next-key kb
 
-        -- what its node is made of fits
-        pub child-fits : (key < 258) × (who < 128) × (0 < x .height) × (x .holes < 1000)
-        child-fits = (kb, omega (arith, l .there kb .0, ready .few), rw (fl .node) high-enough, rw (fl .node) few-holes)
+          few-holes : getD rows i noNode .holes < 1000
+          few-holes =
+              let s = stem f len (length ts) (columns rows) i c made (fl .low) (fl .half) i uc in
+              let t = templateOf rows i in
+              omega (arith, s .placed, holes-most p (getD ts t []) (201 - height rows i) (fl .bytes t), ready .nine t)
 
-        -- there is room for it, in the count of nodes and in the row
-        pub room-there : c < suc (beginnings ts)
-        room-there = room f len (known ts) (length ts) (templates-known p ts (fl .bytes)) (columns rows) i c made low (fl .half) uc ended key who (fl .open-node) next-key kb high-enough
+          -- what its node is made of fits
+          pub child-fits : {from : ℕ} → from ≡ place → (key ≤ 257) × (who < 128) × (from ≤ stop) × (stop ≤ 128) × (0 < x .height) × (x .holes < 1000)
+          child-fits e = (
+            run .small,
+            omega (arith, next-key .there kb .0, ready .few),
+            omega (arith, run .longer),
+            omega (arith, run .within, last-within, ready .few),
+            rw (fl .node) high-enough,
+            rw (fl .node) few-holes,
+          )
 
-        pub room-in-row : length rows ≡ length first → c < length rows
-        room-in-row e = omega (arith, room-there, ready .room)
+          -- there is room for it, in the count of nodes and in the row
+          pub room-there : c < suc (beginnings ts)
+          room-there = room f len (known ts) (length ts) (templates-known p ts (fl .bytes)) (columns rows) i c made (fl .low) (fl .half) uc ended key who (fl .open-node) next-key kb high-enough
 
-        module _ (longer : c < length rows) {at′ : List ℕ} (mv : MovedOn p ts at at′ i d key c) where
-          abbrev child : Node
-          child = below (getD rows i noNode) key who
+          pub room-in-row : length rows ≡ length first → c < length rows
+          room-in-row e = omega (arith, room-there, ready .room)
 
-          grown-at : Filling p ts (set rows c child) at′ i made x (c + 1) (key + 1)
-          grown-at =
-              let rows′ = set rows c child in
-              let g = stored f len (length ts) rows i c child (omega (arith, uc)) in
-              let same : getD rows′ c noNode ≡ child = getD-set-same rows c child noNode longer in
-              let kept : getD rows′ i noNode ≡ getD rows i noNode = getD-set-other rows c i child noNode (λ z. omega (arith, uc)) in
-              let high = stem f len (length ts) (columns rows) i c made low (fl .half) i uc .high in
-              let hd = ahead-carry f len (length ts) (columns rows) (columns rows′) (λ k. getD at k 0) i (i + 1) c g (fl .ahead) in
-              let hh = here-carry f len (length ts) (columns rows) (columns rows′) (λ k. getD at k 0) i i c low g uc (fl .here) in
-              let l′ : Least f (length ts) at i (201 - height rows′ i) key who = rw (g .height i uc) at-node in
-              let mv′ : Moved f (length ts) at at′ i (201 - height rows′ i) key c = rw (g .height i uc, ← deep) mv in
-              let et : templateOf rows′ c ≡ who = ap (λ (y : Node). y .template) same in
-              let eh : height rows′ c + 1 ≡ height rows′ i = omega (arith, ap (λ (y : Node). y .height) same, g .height i uc, high-enough) in
-              let le : height rows′ i ≤ 201 = omega (arith, g .height i uc, high) in
-              record {
-                bytes = fl .bytes;
-                half = grow f len (length ts) ended rows i c made low key who (fl .half) uc longer (fl .open-node) next-key kb high-enough;
-                ahead = ahead-more f len (length ts) (columns rows′) at at′ i c low key who hd hh uc l′ kb mv′ et eh le;
-                here = here-more f len (length ts) (columns rows′) at at′ i c low key who hd hh uc l′ kb mv′ et eh le;
-                node = fl .node ∙ sym kept;
-                open-node = λ z. fl .open-node (sym (g .element i uc) ∙ z);
-                parent = fl .parent;
-                more = omega (arith, fl .more);
-                within = omega (arith, room-there);
-                most = omega (arith, kb);
-              }
+          module _ (longer : c < length rows) where
+            abbrev child : Node
+            child = below (getD rows i noNode) key who place stop
 
-          -- its node is made, and the templates that have it go on to it
-          pub grown : {rows′ : List Node} {y : Node} → y ≡ below x key who → rows′ ≡ set rows c y → Filling p ts rows′ at′ i made x (c + 1) (key + 1)
-          grown {rows′} {y} a b =
-              let q : rows′ ≡ set rows c child = b ∙ ap (set rows c) (a ∙ ap (λ (z : Node). below z key who) (fl .node)) in
-              subst (λ (r : List Node). Filling p ts r at′ i made x (c + 1) (key + 1)) (sym q) grown-at
+            grown-at : Filling p ts order (set rows c child) i made x (c + 1) stop
+            grown-at =
+                let rows′ = set rows c child in
+                let n = length ts in
+                let g = stored f len n rows c c child (omega arith) in
+                let same : getD rows′ c noNode ≡ child = getD-set-same rows c child noNode longer in
+                let kept : getD rows′ i noNode ≡ getD rows i noNode = getD-set-other rows c i child noNode (λ z. omega (arith, uc)) in
+                let high = stem f len n (columns rows) i c made (fl .low) (fl .half) i uc .high in
+                let w = waiting-carry f len n (columns rows) (columns rows′) order c i c g (λ j v u. (g .first j u, g .number j u)) (fl .waiting) in
+                let cut = cut-at (getD rows′ i noNode) (fl .node ∙ sym kept) in
+                let run′ = run-at (getD rows′ i noNode) (fl .node ∙ sym kept) in
+                record {
+                  low = key + 1;
+                  bytes = fl .bytes;
+                  half = grow f len n ended rows i c made (fl .low) key who place stop (fl .half) uc longer (fl .open-node) next-key kb high-enough;
+                  waiting = waiting-more f len n (columns rows′) order (ordered o) i c place (fl .low) w uc cut key who stop run′
+                      (ap (λ (y : Node). y .template) same) (omega (arith, ap (λ (y : Node). y .height) same, g .height i uc, high-enough)) (omega (arith, g .height i uc, high))
+                      (ap (λ (y : Node). y .first) same) (ap (λ (y : Node). y .count) same);
+                  cut = subst (λ (y : Node). Cut f order (y .first) (y .first + y .count) (201 - y .height) stop (key + 1)) (sym (fl .node))
+                      (cut-on f len n (columns rows) order (ordered o) i c place (fl .low) (fl .waiting) uc (cut-at _ (fl .node)) key who stop (run-at _ (fl .node)));
+                  node = fl .node ∙ sym kept;
+                  open-node = λ z. fl .open-node (sym (g .element i uc) ∙ z);
+                  parent = fl .parent;
+                  more = omega (arith, fl .more);
+                  within = omega (arith, room-there);
+                  most = omega (arith, kb);
+                }
 
-  -- no key is left to look for
-  pub all-filled : {rows : List Node} {at : List ℕ} {i made c low : ℕ} {x : Node} → Filling p ts rows at i made x c low → 258 ≤ low → Filled p ts rows at i c made
-  all-filled {rows} {at} {i} {made} {c} {low} fl u =
-      let z : low ≡ 258 = omega (arith, fl .most) in
-      record { bytes = fl .bytes; more = fl .more; within = fl .within; half = subst (λ (m : ℕ). Half f len (length ts) (columns rows) i c made m) z (fl .half); ahead = fl .ahead; open-node = fl .open-node }
+            -- its node is made, and the templates that have it wait there
+            pub grown : {from : ℕ} {rows′ : List Node} {y : Node} → from ≡ place → y ≡ below x key who from stop → rows′ ≡ set rows c y → Filling p ts order rows′ i made x (c + 1) stop
+            grown {from} {rows′} {y} z a b =
+                let q : rows′ ≡ set rows c child = b ∙ ap (set rows c) (a ∙ rw (z, fl .node) refl) in
+                subst (λ (r : List Node). Filling p ts order r i made x (c + 1) stop) (sym q) grown-at
 
   -- ---- around the loop
 
   -- every node has its children
-  pub all-made : {rows : List Node} {at : List ℕ} {i c : ℕ} → Made p ts rows at i c → c ≤ i → Made p ts rows at c c
-  all-made {rows} {at} {i} {c} h u = subst (λ (j : ℕ). Made p ts rows at j c) (omega (arith, h .half .begun)) h
+  pub all-made : {rows : List Node} {i c : ℕ} → Made p ts order rows i c → c ≤ i → Made p ts order rows c c
+  all-made {rows} {i} {c} h u = subst (λ (j : ℕ). Made p ts order rows j c) (omega (arith, h .half .begun)) h
+
+  -- the nodes after one that was given its children wait as they did
+  wait-on : (rows : List Node) (i c F m : ℕ) → i < length rows → Waiting f len (length ts) (columns rows) order (i + 1) c
+      → Waiting f len (length ts) (columns (set rows i (withKids (getD rows i noNode) F m))) order (i + 1) c
+  wait-on rows i c F m u = waiting-carry f len (length ts) (columns rows) (columns (set rows i (withKids (getD rows i noNode) F m))) order i (i + 1) c
+      (relinked f len (length ts) rows i c F m u) (λ j v w. let e = unlinked rows i F m j (λ z. omega arith) in (ap (λ (x : Node). x .first) e, ap (λ (x : Node). x .count) e))
 
   -- an end has no children
-  pub link-end : {rows rows′ : List Node} {at : List ℕ} {i made : ℕ} → Made p ts rows at i made → i < made → i < length rows → elem rows i ≡ 0
-      → rows′ ≡ set rows i (withKids (getD rows i noNode) made (made - made)) → Made p ts rows′ at (i + 1) made
-  link-end {rows} {rows′} {at} {i} {made} h u w e q = rw q (record {
+  pub link-end : {rows rows′ : List Node} {i made : ℕ} → Made p ts order rows i made → i < made → i < length rows → elem rows i ≡ 256
+      → rows′ ≡ set rows i (withKids (getD rows i noNode) made (made - made)) → Made p ts order rows′ (i + 1) made
+  link-end {rows} {rows′} {i} {made} h u w e q = rw q (record {
     bytes = h .bytes;
     half = linked f len (length ts) ended rows i made made 0 (h .half) u u w (λ z. refl) (λ z. absurd (z e));
-    ahead = ahead-carry f len (length ts) (columns rows) (columns (set rows i (withKids (getD rows i noNode) made (made - made)))) (λ k. getD at k 0) i (i + 1) made
-        (relinked f len (length ts) rows i made made (made - made) w) (after f len (length ts) (columns rows) (λ k. getD at k 0) i made (h .ahead));
+    waiting = wait-on rows i made made (made - made) w (after f len (length ts) (columns rows) order i made (h .waiting));
   })
 
   -- any other node has those that were made for it
-  pub link-full : {rows rows′ : List Node} {at : List ℕ} {i made c : ℕ} → Filled p ts rows at i c made → i < made → i < length rows
-      → rows′ ≡ set rows i (withKids (getD rows i noNode) made (c - made)) → Made p ts rows′ at (i + 1) c
-  link-full {rows} {rows′} {at} {i} {made} {c} h u w q = rw q (record {
+  pub link-full : {rows rows′ : List Node} {i made c : ℕ} → Filled p ts order rows i c made → i < made → i < length rows
+      → rows′ ≡ set rows i (withKids (getD rows i noNode) made (c - made)) → Made p ts order rows′ (i + 1) c
+  link-full {rows} {rows′} {i} {made} {c} h u w q = rw q (record {
     bytes = h .bytes;
     half = linked f len (length ts) ended rows i c made 258 (h .half) u (omega (arith, h .more)) w (λ z. absurd (h .open-node z)) (λ z. refl);
-    ahead = ahead-carry f len (length ts) (columns rows) (columns (set rows i (withKids (getD rows i noNode) made (c - made)))) (λ k. getD at k 0) i (i + 1) c
-        (relinked f len (length ts) rows i c made (c - made) w) (h .ahead);
+    waiting = wait-on rows i c made (c - made) w (h .waiting);
   })
 
-  -- the root alone, with all templates at it
-  pub root-alone : Smalls ts → (rows : List Node) {rows′ : List Node} {x : Node} → ReadyToBuild p ts rows → x ≡ rootNode → rows′ ≡ set rows 0 x → Made p ts rows′ (replicate 128 0) 0 1
-  root-alone b rows {rows′} {x} ready a q =
-      let h = planted f len (length ts) ended rows (omega (arith, ready .room)) in
-      let at : List ℕ = replicate 128 0 in
-      let z : (k : ℕ) → k < length ts → getD at k 0 ≡ 0 = λ k v. getD-replicate 128 k 0 0 (omega (arith, ready .few)) in
+  -- the root alone, with all templates
+  pub root-alone : Smalls ts → (rows : List Node) (n : ℕ) {rows′ : List Node} {x : Node} → ReadyToBuild p ts rows → length ts ≡ n → x ≡ rootNode n → rows′ ≡ set rows 0 x
+      → Made p ts order rows′ 0 1
+  root-alone b rows n {rows′} {x} ready size a q =
+      let h = planted f len (length ts) ended rows n (omega (arith, ready .room)) in
+      let same : getD (set rows 0 (rootNode n)) 0 noNode ≡ rootNode n = getD-set-same rows 0 (rootNode n) noNode (omega (arith, ready .room)) in
       rw (q, a) (record {
         bytes = b;
         half = h;
-        ahead = record {
-          within = λ k v. omega (arith, z k v);
-          shared = λ k j v lo hi e y w. absurd (omega (arith, (let q : j ≡ 0 = omega arith in rw q at w), h .root .1));
-          stands = λ k j v lo hi s. omega (arith, z k v);
+        waiting = record {
+          within = λ j lo hi. let z : j ≡ 0 = omega arith in rw (z, same) (omega arith);
+          shared = λ j q lo hi u v y w. absurd (let z : j ≡ 0 = omega arith in omega (arith, rw (z, same) at w));
+          stands = λ j q lo hi u s. let z : j ≡ 0 = omega arith in rw (z, same) (omega arith, omega arith);
         };
       })

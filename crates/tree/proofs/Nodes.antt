@@ -5,9 +5,9 @@ use Prim.Native.Nat.{ℕ, zero, suc, _+_, _-_, _≤_, _<_}
 use native.Mathlib.Omega.{arith}
 use native.Mathlib.Nat.{eq-or-lt-of-le}
 use lib.Dec.{eqb}
-use Rattle.templates.specs.Keys.{codeOf, Share, one, cnt, holed}
-use Rattle.tree.specs.Nodes.{Columns, IsNode, Run, Done, Half}
-use Rattle.templates.proofs.Keys.{code-end, lt-or, share-trans, cnt-more, cnt-same}
+use Rattle.templates.specs.Keys.{Share, one, cnt, holed}
+use Rattle.tree.specs.Nodes.{Columns, Lesser, IsNode, Run, Done, Half}
+use Rattle.templates.proofs.Keys.{lt-or, share-trans, cnt-more, cnt-same}
 use Rattle.macros.proofs.Table.{one-more}
 
 -- the least key from low on that follows the first d elements of t in a template below n, and the first that has it; 258 where
@@ -24,17 +24,17 @@ module _ (f : ℕ → ℕ → ℕ) (len : ℕ → ℕ) (n : ℕ) where
     pub high : h ≤ 201
     pub first : (m : ℕ) → m < t → Share f m t (201 - h) → ⊥
     pub placed : o ≡ cnt (holed f t) (201 - h)
-    pub open-end : (e ≡ 0 → ⊥) → (x : ℕ) → x + 1 ≡ 201 - h → f t x ≡ 256 → ⊥
+    pub open-end : (e ≡ 256 → ⊥) → (x : ℕ) → x + 1 ≡ 201 - h → f t x ≡ 256 → ⊥
 
   node-stem : (t h e o : ℕ) → IsNode f len n t h e o → Stem t h e o
   node-stem t h e o x = record {
     high = omega (arith, x .deep);
     first = x .first;
     placed = x .placed;
-    open-end = λ ne y z q. ne (x .element ∙ sym (code-end _ (ap (f t) (omega (arith, x .deep)) ∙ q)));
+    open-end = λ ne y z q. ne (x .element ∙ ap (f t) (omega (arith, x .deep)) ∙ q);
   }
 
-  root-stem : Stem 0 201 2 0
+  root-stem : Stem 0 201 258 0
   unfolding cnt
   root-stem = record { high = omega arith; first = λ m u. absurd (omega arith); placed = refl; open-end = λ ne x z. absurd (omega arith) }
 
@@ -96,15 +96,15 @@ module _ (f : ℕ → ℕ → ℕ) (len : ℕ → ℕ) (n : ℕ) where
   carry-all N N′ c g h = carry-with N N′ c c g c 0 h (run-none N′ (N′ .template c) (N′ .height c) c)
 
   -- a node's template is long enough for the children that are found
-  pub reach : ((k x : ℕ) → len k ≤ x → f k x ≡ 256) → (t h e o low key who : ℕ) → Stem t h e o → (e ≡ 0 → ⊥) → Next f n t (201 - h) low key who → key < 258 → 201 - h ≤ len who
+  pub reach : ((k x : ℕ) → len k ≤ x → f k x ≡ 256) → (t h e o low key who : ℕ) → Stem t h e o → (e ≡ 256 → ⊥) → Next f n t (201 - h) low key who → key < 258 → 201 - h ≤ len who
   reach ended t h e o low key who s ne l kb =
       let d = 201 - h in
       let w = l .there kb in
       ⊎-elim (λ u. absurd (s .open-end ne (d - 1) (omega arith) (sym (w .1 (d - 1) (omega arith)) ∙ ended who (d - 1) (omega arith)))) (λ u. u) (lt-or (len who) d)
 
   -- the node of a key that was found
-  new-node : ((k x : ℕ) → len k ≤ x → f k x ≡ 256) → (t h e o h′ low key who : ℕ) → Stem t h e o → (e ≡ 0 → ⊥) → Next f n t (201 - h) low key who → key < 258 → h′ + 1 ≡ h
-      → IsNode f len n who h′ (codeOf key) (o + one (eqb key 257))
+  new-node : ((k x : ℕ) → len k ≤ x → f k x ≡ 256) → (t h e o h′ low key who : ℕ) → Stem t h e o → (e ≡ 256 → ⊥) → Next f n t (201 - h) low key who → key < 258 → h′ + 1 ≡ h
+      → IsNode f len n who h′ key (o + one (eqb key 257))
   new-node ended t h e o h′ low key who s ne l kb z =
       let d = 201 - h in
       let y : 200 - h′ ≡ d = omega arith in
@@ -113,7 +113,7 @@ module _ (f : ℕ → ℕ → ℕ) (len : ℕ → ℕ) (n : ℕ) where
       record {
         known = w .0;
         deep = omega (arith, s .high);
-        element = ap codeOf (sym (w .2) ∙ ap (f who) (sym y));
+        element = sym (w .2) ∙ ap (f who) (sym y);
         first = λ m u sh. l .first kb m u (share-trans f m who t d (λ x v. sh x (omega arith)) (w .1)) (sh d (omega arith) ∙ w .2);
         live = omega (arith, reach ended t h e o low key who s ne l kb);
         placed = ap (λ (m : ℕ). m + one (eqb key 257)) (s .placed ∙ sym (cnt-same (holed f who) (holed f t) d (λ x u. ap (λ (m : ℕ). eqb m 257) (w .1 x u))))
@@ -149,8 +149,8 @@ module _ (f : ℕ → ℕ → ℕ) (len : ℕ → ℕ) (n : ℕ) where
             one-node p q x (λ y z. sym (k .0 y (rw (← x) at z)) ∙ ap (λ (m : ℕ). f m y) e ∙ w .1 y z)
 
     -- one node more
-    pub append : (ended : (k x : ℕ) → len k ≤ x → f k x ≡ 256) (key who : ℕ) → (N .element i ≡ 0 → ⊥) → Next f n (N .template i) (201 - N .height i) low key who → key < 258
-        → N .template c ≡ who → N .height c + 1 ≡ N .height i → N .element c ≡ codeOf key → N .holes c ≡ N .holes i + one (eqb key 257) → Half f len n N i (c + 1) F (key + 1)
+    pub append : (ended : (k x : ℕ) → len k ≤ x → f k x ≡ 256) (key who : ℕ) → (N .element i ≡ 256 → ⊥) → Next f n (N .template i) (201 - N .height i) low key who → key < 258
+        → N .template c ≡ who → N .height c + 1 ≡ N .height i → N .element c ≡ key → N .holes c ≡ N .holes i + one (eqb key 257) → Half f len n N i (c + 1) F (key + 1)
     append ended key who ne l kb et eh ee eo =
         let d = 201 - N .height i in
         let w = l .there kb in
@@ -169,7 +169,7 @@ module _ (f : ℕ → ℕ → ℕ) (len : ℕ → ℕ) (n : ℕ) where
           run = record {
             kid = λ j lo v. one-more c (λ j. F ≤ j → Share f (N .template j) (N .template i) d × (N .height j + 1 ≡ N .height i) × (f (N .template j) d < key + 1))
                 (λ j v lo. let q = half .run .kid j lo v in (q .0, q .1, omega (arith, q .2, w .3))) (λ lo. (rw et (w .1), eh, omega arith)) j v lo;
-            asc = λ j m lo lt v. one-more c (λ m. j < m → f (N .template j) d < f (N .template m) d) (λ m v lt. half .run .asc j m lo lt v) (λ lt. omega (arith, half .run .kid j lo lt .2, w .3)) m v lt;
+            asc = λ j m lo lt v. one-more c (λ m. j < m → Lesser f N d j m) (λ m v lt. half .run .asc j m lo lt v) (λ lt. omega (arith, half .run .kid j lo lt .2, w .3)) m v lt;
             full = λ k kn s lt. ⊎-elim (λ a. let (j, b, e, g) = half .run .full k kn s a in (j, b, omega arith, g)) (λ a. (c, half .from, omega arith, omega (arith, x, l .least k kn s a))) (lt-or (f k d) low);
           };
         }
@@ -193,7 +193,7 @@ module _ (f : ℕ → ℕ → ℕ) (len : ℕ → ℕ) (n : ℕ) where
     }
 
     -- the node has its children
-    pub close : i < F → (N .element i ≡ 0 → F ≡ c) → ((N .element i ≡ 0 → ⊥) → low ≡ 258) → N .first i ≡ F → N .number i ≡ c - F → Half f len n N (i + 1) c c 0
+    pub close : i < F → (N .element i ≡ 256 → F ≡ c) → ((N .element i ≡ 256 → ⊥) → low ≡ 258) → N .first i ≡ F → N .number i ≡ c - F → Half f len n N (i + 1) c c 0
     close af sole all fi nu =
         let z : F + (c - F) ≡ c = omega (arith, half .from) in
         let y : N .first i + N .number i ≡ c = omega (arith, half .from) in

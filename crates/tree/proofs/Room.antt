@@ -7,7 +7,7 @@ use native.Mathlib.Nat.{eq-or-lt-of-le}
 use lib.Dec.{eqb}
 use borrow.Author.Tests.{eq-eqb, ne-eqb}
 use Rattle.templates.specs.Count.{sum}
-use Rattle.templates.specs.Keys.{pick, codeOf, Share, one}
+use Rattle.templates.specs.Keys.{pick, Share, one}
 use Rattle.tree.specs.Nodes.{Columns, IsNode, Half}
 use Rattle.templates.proofs.Keys.{lt-or, pigeon}
 use Rattle.tree.proofs.Nodes.{Next, Agree, carry, append}
@@ -72,14 +72,14 @@ module _ (f : ℕ → ℕ → ℕ) (len old : ℕ → ℕ) (n : ℕ) (known : Kn
   upd-same T c v = rw (eq-eqb c c refl) refl
 
   -- there is room for the node that is found: with it there are no more nodes than new beginnings, and the root
-  pub room : (N : Columns) (i c F low : ℕ) → Half f len n N i c F low → i < c → ((k x : ℕ) → len k ≤ x → f k x ≡ 256) → (key who : ℕ) → (N .element i ≡ 0 → ⊥)
+  pub room : (N : Columns) (i c F low : ℕ) → Half f len n N i c F low → i < c → ((k x : ℕ) → len k ≤ x → f k x ≡ 256) → (key who : ℕ) → (N .element i ≡ 256 → ⊥)
       → Next f n (N .template i) (201 - N .height i) low key who → key < 258 → 0 < N .height i
       → c < suc (sum (λ k. suc (len k) - old k) n)
   room N i c F low half u ended key who ne l kb hp =
       let N′ : Columns = record {
         template = upd (N .template) c who;
         height = upd (N .height) c (N .height i - 1);
-        element = upd (N .element) c (codeOf key);
+        element = upd (N .element) c key;
         holes = upd (N .holes) c (N .holes i + one (eqb key 257));
         first = N .first;
         number = N .number;
@@ -87,7 +87,7 @@ module _ (f : ℕ → ℕ → ℕ) (len old : ℕ → ℕ) (n : ℕ) (known : Kn
       let g : Agree f len n N N′ i c = record {
         template = upd-other (N .template) c who;
         height = upd-other (N .height) c (N .height i - 1);
-        element = upd-other (N .element) c (codeOf key);
+        element = upd-other (N .element) c key;
         holes = upd-other (N .holes) c (N .holes i + one (eqb key 257));
         first = λ p v. refl;
         number = λ p v. refl;
@@ -96,5 +96,5 @@ module _ (f : ℕ → ℕ → ℕ) (len old : ℕ → ℕ) (n : ℕ) (known : Kn
       let m = append f len n N′ i c F low (carry f len n N N′ i c g F low u half) u ended key who
       (λ z. ne (sym (g .element i u) ∙ z)) l′ kb (upd-same (N .template) c who)
       (ap (λ (x : ℕ). x + 1) (upd-same (N .height) c (N .height i - 1)) ∙ omega (arith, g .height i u))
-      (upd-same (N .element) c (codeOf key)) (upd-same (N .holes) c (N .holes i + one (eqb key 257)) ∙ ap (λ (x : ℕ). x + one (eqb key 257)) (sym (g .holes i u))) in
+      (upd-same (N .element) c key) (upd-same (N .holes) c (N .holes i + one (eqb key 257)) ∙ ap (λ (x : ℕ). x + one (eqb key 257)) (sym (g .holes i u))) in
       omega (arith, bound N′ i (c + 1) F (key + 1) m)

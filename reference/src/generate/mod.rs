@@ -10,6 +10,7 @@ mod outputs;
 mod places;
 mod random;
 mod style;
+mod trees;
 mod values;
 
 use body::Bodies;
@@ -90,6 +91,11 @@ impl Generator {
     /// A text that writes to both outputs and copies input lines to them.
     pub fn output_text(&mut self, size: Size) -> Vec<u8> {
         outputs::text(&mut self.random, size)
+    }
+
+    /// A text of templates alone, many of them in some, with all kinds of children.
+    pub fn tree_text(&mut self) -> Vec<u8> {
+        trees::text(&mut self.random)
     }
 
     /// An expression near the ends of the range in the session's marks, and names

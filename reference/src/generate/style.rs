@@ -119,6 +119,16 @@ impl Style {
         }
     }
 
+    /// Any byte that a line can have but marks 1 to 4.
+    pub fn any_byte(&self, random: &mut Random) -> u8 {
+        loop {
+            let byte = random.between(1, 255) as u8;
+            if byte != b'\n' && !self.flags[..4].contains(&byte) {
+                return byte;
+            }
+        }
+    }
+
     /// The bytes of a letter: a literal, or now and then a character of several bytes.
     pub fn letter(&self, random: &mut Random) -> Vec<u8> {
         if self.accents && random.chance(30) {

@@ -43,7 +43,6 @@ use denote.Memory.{pointee}
 use denote.Signature.{plain, shrSliceOf}
 use Prim.Native.Nat.{ℕ, _+_, _-_, _*_, _<_, _≤_, _^_}
 use lib.ListN.{length}
-use Rattle.nodes.specs.Rows.{code}
 use Rattle.fit.specs.Outcome.{Asks}
 use Rattle.walk_laws.proofs.Walk as Walk
 use Rattle.walk_laws.proofs.Again as Again
@@ -105,6 +104,10 @@ use Rattle.fit.proofs.end_template as g-end-template
 use Rattle.fit.proofs.end_template.Symbol as g-end-template-def
 use Rattle.fit.proofs.end_template.Symbol.{name as #g-end-template}
 use Rattle.fit.proofs.end_template.Met as g-end-template-thm
+use Rattle.nodes.proofs.placeholder_child as g-placeholder-child
+use Rattle.nodes.proofs.placeholder_child.Symbol as g-placeholder-child-def
+use Rattle.nodes.proofs.placeholder_child.Symbol.{name as #g-placeholder-child}
+use Rattle.nodes.proofs.placeholder_child.Met as g-placeholder-child-thm
 use Rattle.nodes.proofs.holes_of as g-holes-of
 use Rattle.nodes.proofs.holes_of.Symbol as g-holes-of-def
 use Rattle.nodes.proofs.holes_of.Symbol.{name as #g-holes-of}
@@ -800,12 +803,12 @@ module _ {M : Type 1} (𝓤 : URA M) (H : Heap 𝓤) (A : Atoms 𝓤) (W : Given
         ‵ (T-search-atom-notes .own notes (sliceVal (notes .ptr) (length (notes .now)) ∷ [])) ∷
         ‵ (T-search-atom-dead .own dead (sliceVal (dead .ptr) (length (dead .now)) ∷ [])) ∷ []) refl (
         -- [κ₀; nodes; the locals; their ends; κ₁; κ₂; κ₃; line; notes; dead]
-        -- call 2: has_element (r1, 1)
+        -- call 2: has_element (r1, 257)
         Walk.gives W (Walk.made (Node-T.the-row .own r1 ((Node-L.lowered r1) ∷ [])) (LL.makes Node-T.the-type Node-L.the-plain 𝓤 H A r1 _ is1) ∷
-        Walk.made ((UInt w16) .own 1 ((vint w16 1) ∷ [])) (uint-makes 𝓤 H A W w16 1 _ (refl, lit< tt)) ∷ []) _ ! (
+        Walk.made ((UInt w16) .own 257 ((vint w16 257) ∷ [])) (uint-makes 𝓤 H A W w16 257 _ (refl, lit< tt)) ∷ []) _ ! (
         Walk.tokens-in W ([]) _ ! (alive 𝓤 H A g-has-element.signature tt tt) (id⊢ 𝓤 _) (
         Walk.asks W ! fm g-has-element.ended (g-has-element.clauses 𝓤 H A mem run)
-        ((tt, tt, tt, (r1, (1, tt)), ((Node-L.lowered r1) ∷ [], ((vint w16 1) ∷ [], tt))), tt) _ (known-has-element ((tt, tt, tt, (r1, (1, tt)), ((Node-L.lowered r1) ∷ [], ((vint w16 1) ∷ [], tt))), tt)) (id⊢ 𝓤 (emp 𝓤)) (λ r ws. id⊢ 𝓤 _)
+        ((tt, tt, tt, (r1, (257, tt)), ((Node-L.lowered r1) ∷ [], ((vint w16 257) ∷ [], tt))), tt) _ (known-has-element ((tt, tt, tt, (r1, (257, tt)), ((Node-L.lowered r1) ∷ [], ((vint w16 257) ∷ [], tt))), tt)) (id⊢ 𝓤 (emp 𝓤)) (λ r ws. id⊢ 𝓤 _)
         (Run.and-then ! (Walk.local ! 17 refl) (Run.and-then ! (Run.lit ! tt) (Run.no-more !))) (λ u2 r2 is2′ e2.
         Walk.tokens-out W ([]) ! (id⊢ 𝓤 _) (
         Walk.lands-in ! (Walk.init-as ! 15 refl (bool-lawful 𝓤 H A W .typed r2 _ is2′ .0) (ap only (bool-tells r2 _ is2′))) (
@@ -1607,8 +1610,8 @@ module _ {M : Type 1} (𝓤 : URA M) (H : Heap 𝓤) (A : Atoms 𝓤) (W : Given
   abbrev Post-search-piece : Val → SProp 𝓤
   Post-search-piece = walkOf 𝓤 H A f-search-piece.ended stayed-search-piece (f-search-piece.clauses 𝓤 H A mem run) .post bound-search-piece
 
-  module _ (C : Calls 𝓤 H) (Λ : Loops 𝓤 H) (fm : FmC 𝓤 H (W .laws) C) (known-child : Triple 𝓤 (C #g-child)
-      (Walk.Of 𝓤 H A g-child.ended (g-child.clauses 𝓤 H A mem run))) (known-node-at : Triple 𝓤 (C #g-node-at)
+  module _ (C : Calls 𝓤 H) (Λ : Loops 𝓤 H) (fm : FmC 𝓤 H (W .laws) C) (known-placeholder-child : Triple 𝓤 (C #g-placeholder-child)
+      (Walk.Of 𝓤 H A g-placeholder-child.ended (g-placeholder-child.clauses 𝓤 H A mem run))) (known-node-at : Triple 𝓤 (C #g-node-at)
       (Walk.Of 𝓤 H A g-node-at.ended (g-node-at.clauses 𝓤 H A mem run))) (known-holes-of : Triple 𝓤 (C #g-holes-of)
       (Walk.Of 𝓤 H A g-holes-of.ended (g-holes-of.clauses 𝓤 H A mem run))) (known-store-piece : Triple 𝓤 (C #g-store-piece)
       (Walk.Of 𝓤 H A g-store-piece.ended (g-store-piece.clauses 𝓤 H A mem run)))
@@ -1686,17 +1689,15 @@ module _ {M : Type 1} (𝓤 : URA M) (H : Heap 𝓤) (A : Atoms 𝓤) (W : Given
         Walk.pass ! (Run.init ! 7 refl ((tt, record { fits = fits-end }))) (Walk.pass ! (Run.init ! 8 refl ((tt, record { fits = fits-node }))) (
         Walk.pass ! (Run.init ! 9 refl ((tt, record { fits = fits-at }))) (Walk.passed ! (
         -- [the locals; their ends; κ₀; κ₁; κ₂; κ₃; line; notes; dead; nodes]
-        -- call 1: child (nodes, node, 1)
+        -- call 1: placeholder_child (nodes, node)
         Walk.move ! (30 ∷ []) (
         Walk.gives W (Walk.copied (T-search-piece-nodes .own nodes (v-search-piece-nodes ∷ []))
         (shr-slice-copy 𝓤 H A W (named 0) κ₀ Node-T.the-row .twice nodes _) ∷ Walk.made ((UInt w64) .own node ((vint w64 node) ∷ []))
-        (uint-makes 𝓤 H A W w64 node _ (refl, fits-node)) ∷ Walk.made ((UInt w16) .own 1 ((vint w16 1) ∷ []))
-        (uint-makes 𝓤 H A W w16 1 _ (refl, lit< tt)) ∷ []) _ ! (
-        Walk.move ! (25 ∷ []) (Walk.tokens-in W ((κ₀, q₀) ∷ []) _ ! (alive 𝓤 H A g-child.signature (κ₀, tt) (q₀, tt)) (id⊢ 𝓤 _) (
-        Walk.asks W ! fm g-child.ended (g-child.clauses 𝓤 H A mem run)
-        (((κ₀, tt), (q₀, tt), tt, (nodes, (node, (1, tt))), (v-search-piece-nodes ∷ [], ((vint w64 node) ∷ [], ((vint w16 1) ∷ [], tt)))), tt) _ (known-child (((κ₀, tt), (q₀, tt), tt, (nodes, (node, (1, tt))), (v-search-piece-nodes ∷ [], ((vint w64 node) ∷ [], ((vint w16 1) ∷ [], tt)))), tt)) (factI 𝓤 _ (emp 𝓤) (asks-children pre)) (λ r ws. id⊢ 𝓤 _)
-        (Run.and-then ! (Walk.local ! 5 refl) (Run.and-then ! (Walk.local ! 10 refl) (Run.and-then ! (Run.lit ! tt) (Run.no-more !))))
-        (λ u1 r1 is1′ e1.
+        (uint-makes 𝓤 H A W w64 node _ (refl, fits-node)) ∷ []) _ ! (
+        Walk.move ! (25 ∷ []) (Walk.tokens-in W ((κ₀, q₀) ∷ []) _ ! (alive 𝓤 H A g-placeholder-child.signature (κ₀, tt) (q₀, tt)) (id⊢ 𝓤 _) (
+        Walk.asks W ! fm g-placeholder-child.ended (g-placeholder-child.clauses 𝓤 H A mem run)
+        (((κ₀, tt), (q₀, tt), tt, (nodes, (node, tt)), (v-search-piece-nodes ∷ [], ((vint w64 node) ∷ [], tt))), tt) _ (known-placeholder-child (((κ₀, tt), (q₀, tt), tt, (nodes, (node, tt)), (v-search-piece-nodes ∷ [], ((vint w64 node) ∷ [], tt))), tt)) (factI 𝓤 _ (emp 𝓤) (asks-children pre)) (λ r ws. id⊢ 𝓤 _)
+        (Run.and-then ! (Walk.local ! 5 refl) (Run.and-then ! (Walk.local ! 10 refl) (Run.no-more !))) (λ u1 r1 is1′ e1.
         Walk.tokens-out W ((κ₀, q₀) ∷ []) ! (id⊢ 𝓤 _) (
         Walk.lands-in ! (Walk.init-as ! 12 refl (uint-lawful 𝓤 H A W w64 .typed r1 _ is1′ .0) (ap only (uint-tells w64 r1 _ is1′))) (
         let is1 : Is (UInt w64) r1 ((vint w64 r1) ∷ []) = subst (λ (vs : List Val). Is (UInt w64) r1 vs) (uint-tells w64 r1 _ is1′) is1′ in
@@ -2527,22 +2528,8 @@ unfolding code.search-routine code.search-atom-routine code.search-byte-routine 
     (y .0 .0 .1 .1 .0) (y .0 .1 .1 .1 .0) (y .0 .0 .1 .1 .1 .0) (y .0 .1 .1 .1 .1 .0) (y .0 .3 .0) (y .0 .3 .1 .0) (y .0 .3 .1 .1 .0)
     (y .0 .3 .1 .1 .1 .0) (y .0 .3 .1 .1 .1 .1 .0) (y .0 .3 .1 .1 .1 .1 .1 .0) (y .0 .3 .1 .1 .1 .1 .1 .1 .0) (y .0 .3 .1 .1 .1 .1 .1 .1 .1 .0)
     (y .0 .3 .1 .1 .1 .1 .1 .1 .1 .1 .0) (𝓣 .C) (𝓣 .Λ) (fmOf 𝓤 H (W .laws) 𝓣)
-    (cited 𝓤 H (Walk.Of 𝓤 H (𝓖 .A) g-child.ended (g-child.clauses 𝓤 H (𝓖 .A) (𝓜 .mem)
-    (𝓡 .run))) 𝓜 𝓡 code.env #g-child g-child-def.routine code.calls-nodes·child (g-child-thm.met 𝓤 H 𝓜 𝓖 𝓡))
-    (cited 𝓤 H (Walk.Of 𝓤 H (𝓖 .A) g-node-at.ended (g-node-at.clauses 𝓤 H (𝓖 .A) (𝓜 .mem)
-    (𝓡 .run))) 𝓜 𝓡 code.env #g-node-at g-node-at-def.routine code.calls-nodes·node-at (g-node-at-thm.met 𝓤 H 𝓜 𝓖 𝓡))
-    (cited 𝓤 H (Walk.Of 𝓤 H (𝓖 .A) g-holes-of.ended (g-holes-of.clauses 𝓤 H (𝓖 .A) (𝓜 .mem)
-    (𝓡 .run))) 𝓜 𝓡 code.env #g-holes-of g-holes-of-def.routine code.calls-nodes·holes-of (g-holes-of-thm.met 𝓤 H 𝓜 𝓖 𝓡))
-    (cited 𝓤 H (Walk.Of 𝓤 H (𝓖 .A) g-store-piece.ended (g-store-piece.clauses 𝓤 H (𝓖 .A) (𝓜 .mem)
-    (𝓡 .run))) 𝓜 𝓡 code.env #g-store-piece g-store-piece-def.routine code.calls-fit·store-piece (g-store-piece-thm.met 𝓤 H 𝓜 𝓖 𝓡))
-    (λ z lt. smaller .0 (μ-search 𝓤 H (𝓖 .A) (𝓜 .mem) (𝓡 .run) z) (subst (λ (m : ℕ). μ-search 𝓤 H (𝓖 .A) (𝓜 .mem) (𝓡 .run) z < m) e lt) z refl)
-    (λ z lt. smaller .1 .0 (μ-search-atom 𝓤 H (𝓖 .A) (𝓜 .mem) (𝓡 .run) z) (subst (λ (m : ℕ). μ-search-atom 𝓤 H (𝓖 .A) (𝓜 .mem)
-    (𝓡 .run) z < m) e lt) z refl) (λ z lt. smaller .1 .1 .0 (μ-search-byte 𝓤 H (𝓖 .A) (𝓜 .mem) (𝓡 .run) z)
-    (subst (λ (m : ℕ). μ-search-byte 𝓤 H (𝓖 .A) (𝓜 .mem) (𝓡 .run) z < m) e lt) z refl) (λ z lt. smaller .1 .1 .1 .0 (μ-search-piece 𝓤 H (𝓖 .A)
-    (𝓜 .mem) (𝓡 .run) z) (subst (λ (m : ℕ). μ-search-piece 𝓤 H (𝓖 .A) (𝓜 .mem) (𝓡 .run) z < m) e lt) z refl)
-    (λ z lt. smaller .1 .1 .1 .1 (μ-take-up 𝓤 H (𝓖 .A) (𝓜 .mem) (𝓡 .run) z) (subst (λ (m : ℕ). μ-take-up 𝓤 H (𝓖 .A) (𝓜 .mem)
-    (𝓡 .run) z < m) e lt) z refl) (are .0 .1) (are .1 .0 .1) (are .1 .1 .0) (are .1 .1 .1 .0) (are .1 .1 .1 .1 .0) (are .1 .1 .1 .1 .1 .0)
-    (are .1 .1 .1 .1 .1 .1 .0 .1) (are .1 .1 .1 .1 .1 .1 .1 .0 .1) (are .1 .1 .1 .1 .1 .1 .1 .1 .0 .1)))))
+    (cited 𝓤 H (Walk.Of 𝓤 H (𝓖 .A) g-placeholder-child.ended (g-placeholder-child.clauses 𝓤 H (𝓖 .A) (𝓜 .mem)
+    (𝓡 .run))) 𝓜 𝓡 code.env #g-placeholder-child g-placeholder-child-def.routine code.calls-nodes·placeholder-child (g-placeholder-child-thm.met 𝓤 H 𝓜 𝓖 𝓡)) (cited 𝓤 H (Walk.Of 𝓤 H (𝓖 .A) g-node-at.ended (g-node-at.clauses 𝓤 H (𝓖 .A) (𝓜 .mem) (𝓡 .run))) 𝓜 𝓡 code.env #g-node-at g-node-at-def.routine code.calls-nodes·node-at (g-node-at-thm.met 𝓤 H 𝓜 𝓖 𝓡)) (cited 𝓤 H (Walk.Of 𝓤 H (𝓖 .A) g-holes-of.ended (g-holes-of.clauses 𝓤 H (𝓖 .A) (𝓜 .mem) (𝓡 .run))) 𝓜 𝓡 code.env #g-holes-of g-holes-of-def.routine code.calls-nodes·holes-of (g-holes-of-thm.met 𝓤 H 𝓜 𝓖 𝓡)) (cited 𝓤 H (Walk.Of 𝓤 H (𝓖 .A) g-store-piece.ended (g-store-piece.clauses 𝓤 H (𝓖 .A) (𝓜 .mem) (𝓡 .run))) 𝓜 𝓡 code.env #g-store-piece g-store-piece-def.routine code.calls-fit·store-piece (g-store-piece-thm.met 𝓤 H 𝓜 𝓖 𝓡)) (λ z lt. smaller .0 (μ-search 𝓤 H (𝓖 .A) (𝓜 .mem) (𝓡 .run) z) (subst (λ (m : ℕ). μ-search 𝓤 H (𝓖 .A) (𝓜 .mem) (𝓡 .run) z < m) e lt) z refl) (λ z lt. smaller .1 .0 (μ-search-atom 𝓤 H (𝓖 .A) (𝓜 .mem) (𝓡 .run) z) (subst (λ (m : ℕ). μ-search-atom 𝓤 H (𝓖 .A) (𝓜 .mem) (𝓡 .run) z < m) e lt) z refl) (λ z lt. smaller .1 .1 .0 (μ-search-byte 𝓤 H (𝓖 .A) (𝓜 .mem) (𝓡 .run) z) (subst (λ (m : ℕ). μ-search-byte 𝓤 H (𝓖 .A) (𝓜 .mem) (𝓡 .run) z < m) e lt) z refl) (λ z lt. smaller .1 .1 .1 .0 (μ-search-piece 𝓤 H (𝓖 .A) (𝓜 .mem) (𝓡 .run) z) (subst (λ (m : ℕ). μ-search-piece 𝓤 H (𝓖 .A) (𝓜 .mem) (𝓡 .run) z < m) e lt) z refl) (λ z lt. smaller .1 .1 .1 .1 (μ-take-up 𝓤 H (𝓖 .A) (𝓜 .mem) (𝓡 .run) z) (subst (λ (m : ℕ). μ-take-up 𝓤 H (𝓖 .A) (𝓜 .mem) (𝓡 .run) z < m) e lt) z refl) (are .0 .1) (are .1 .0 .1) (are .1 .1 .0) (are .1 .1 .1 .0) (are .1 .1 .1 .1 .0) (are .1 .1 .1 .1 .1 .0) (are .1 .1 .1 .1 .1 .1 .0 .1) (are .1 .1 .1 .1 .1 .1 .1 .0 .1) (are .1 .1 .1 .1 .1 .1 .1 .1 .0 .1)))))
     (λ t smaller. at-on 𝓤 H (𝓖 .A) f-take-up.signature (f-take-up.spec 𝓤 H (𝓖 .A) (𝓜 .mem) (𝓡 .run)) (WpFn 𝓤 H (𝓣 .C) (𝓣 .Λ) code.take-up-function)
     (𝓣 .C #take-up) (code.take-up-unfolded 𝓤 H 𝓜 𝓡) (μ-take-up 𝓤 H (𝓖 .A) (𝓜 .mem) (𝓡 .run)) t
     (λ y e. Walk.thick-at 𝓤 H (𝓖 .A) W f-take-up.ended (f-take-up.clauses 𝓤 H (𝓖 .A) (𝓜 .mem)

@@ -43,7 +43,6 @@ use denote.Memory.{pointee}
 use denote.Signature.{plain, shrSliceOf}
 use Prim.Native.Nat.{ℕ, _+_, _*_, _<_, _^_}
 use lib.ListN.{length, replicate, length-replicate}
-use Rattle.nodes.specs.Rows.{code}
 use Rattle.fit.specs.Chosen.{Fits}
 use Rattle.walk_laws.proofs.Walk as Walk
 use Rattle.walk_laws.proofs.Again as Again

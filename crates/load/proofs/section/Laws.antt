@@ -10,7 +10,8 @@ use Rattle.model.specs.Text.{Bytes, part, lines}
 use Rattle.model.specs.Load.{nodes, nodesFrom, Load, lowestAt, lineSeen, loadOn, loadFrom, noneRead}
 use Rattle.scan.specs.Lines.{Begins, LineAt}
 use Rattle.scan.proofs.Lines.{lines-none, lines-at}
-use Rattle.macros.specs.Table.{Table, tableSize, macrosIn, EntriesInside}
+use Rattle.macros.specs.Table.{Table, tableSize, templatesIn, macrosIn, EntriesInside}
+use Rattle.templates.specs.Order.{InOrder}
 use Rattle.load.specs.declared.LineFault.{LineFault}
 use Rattle.load.specs.declared.LineFault.the-variants.{Long, Crowded, Met, Wrong, Over}
 use Rattle.load.specs.declared.Loading.{Loading}
@@ -33,7 +34,7 @@ pub body-line : {m : Marks} {text : Bytes} {p : Progress} {at end next : ℕ} {b
 body-line h k l i g e = record { low = h; high = omega arith; inside = i; begins = sym (g .is) ∙ e }
 
 sound-same : (m : Marks) (text : Bytes) (t : Table) (p q : Progress) → q .count ≡ p .count → q .nodes ≡ p .nodes → TableSound m text t p → TableSound m text t q
-sound-same m text t p q e f s = record { size = s .size; inside = rw e (s .inside); counted = rw (e, f) (s .counted); tree = rw f (s .tree) }
+sound-same m text t p q e f s = record { size = s .size; inside = rw e (s .inside); counted = rw (e, f) (s .counted); tree = rw f (s .tree); in-order = rw e (s .in-order) }
 
 pub body-sees : {m : Marks} {text : Bytes} {t : Table} {p : Progress} {n at end next : ℕ} {r : Seen} → TableSound m text t p → BodySeen m text p at end r → SeesLine m text t p n at end next t r
 body-sees {m} {text} {t} {p} {n} {at} {end} {next} {r} s h = record { is = h .is t n (lines (drop next text)); left = by r (h .kept) }
@@ -108,6 +109,7 @@ module _ {m : Marks} {text : Bytes} {t u : Table} {p : Progress} {n at end next 
           is = next-line x i z h ∙ rw (e, q);
           inside = λ _. rw (sym q) (h .sound .inside);
           counted = λ _. rw (sym q) (h .sound .counted);
+          in-order = λ _. rw (sym q) (h .sound .in-order);
           input = l .within;
           read = λ _. omega (arith, h .read, l .ahead);
         };
@@ -122,12 +124,16 @@ none-inside text t h = record {
   body = λ k u. absurd (omega arith);
 }
 
+-- no templates are in any order
+none-in-order : {p : ℕ} {order : ℕ → ℕ} → InOrder p [] order
+none-in-order = record { within = λ i u. absurd (omega arith); every = λ k u. absurd (omega arith); ascending = λ i j u v. absurd (omega arith) }
+
 pub reading-begins : {m : Marks} {text : Bytes} {t : Table} {first : ℕ} → SectionAt text first → length t ≡ tableSize
     → LinesRead m text (loadFrom m noneRead 1 (lines (drop first text))) t (record { count = 0; nodes = 1; codes = 0; inside = false; opened = 0; due = false }) 1 first
-unfolding macrosIn noneRead nodes nodesFrom
+unfolding macrosIn templatesIn noneRead nodes nodesFrom
 reading-begins {m} {text} {t} {first} h r = record {
   same = refl;
-  sound = record { size = r; inside = none-inside text t r; counted = refl; tree = omega arith };
+  sound = record { size = r; inside = none-inside text t r; counted = refl; tree = omega arith; in-order = none-in-order };
   within = h .within;
   read = h .later;
 }

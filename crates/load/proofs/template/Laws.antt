@@ -11,14 +11,17 @@ use lib.ListN.{length, getD, drop}
 use Rattle.model.specs.declared.Marks.{Marks}
 use Rattle.model.specs.Text.{Bytes, part, upTo, lines}
 use Rattle.model.specs.Load as Load
-use Rattle.model.specs.Load.{Macro, bodyAt, bodyOf, lowest, count, met, fresh, nodes, templateFault, unless, templateLine, lineSeen}
+use Rattle.model.specs.Load.{Macro, bodyAt, bodyOf, lowest, count, met, templates, fresh, nodes, templateFault, unless, templateLine, lineSeen}
 use Rattle.model.proofs.Choices.{when-true, when-false}
 use Rattle.model.proofs.Text.{part-long, part-cons, part-empty}
-use Rattle.model.proofs.Loading.{templates-length, nodes-snoc}
+use Rattle.model.proofs.Loading.{templates-length, templates-snoc, nodes-snoc}
 use Rattle.scan.specs.Lines.{FindsByte}
-use Rattle.macros.specs.Table.{Table, Within, withMacro, templatesIn, macrosIn}
-use Rattle.macros.proofs.Table.{templates-in-length, macros-templates, stored-length, macros-stored, entries-stored}
+use Rattle.macros.specs.Table.{Table, orderIn, withMacro, PutsInOrder, templatesIn, macrosIn}
+use Rattle.macros.proofs.Table.{templates-in-length, macros-templates, macros-same, entries-same, stored-length, stored-order, macros-stored, entries-stored}
+use Rattle.macros.proofs.Order.{put-same}
 use Rattle.templates.specs.Count.{Counted}
+use Rattle.templates.specs.Order.{InOrder, Finds}
+use Rattle.templates.proofs.Order.{in-order-more}
 use Rattle.load.specs.declared.LineFault.{LineFault}
 use Rattle.load.specs.declared.LineFault.the-variants.{Long, Crowded, Met, Over}
 use Rattle.load.specs.declared.Progress.{Progress}
@@ -112,19 +115,19 @@ module _ {m : Marks} {text : Bytes} {t : Table} {p : Progress} {at len : ℕ} (h
       room = tt;
     }
 
-    module _ (k : holes ≤ 9) {new : ℕ} (d : Counted (templatesIn text t (p .count)) (part text at (at + len)) new) where
+    module _ (k : holes ≤ 9) {place new : ℕ} (d : Finds (m .placeholder) (templatesIn text t (p .count)) (orderIn t) (part text at (at + len)) place new) where
       pub weighs-met : new ≡ 0 → Weighs m text t p at len (Fault Met)
       unfolding lowest
       weighs-met z =
           let s = small m text at len holes h l c k in
-          record { is = λ ms q. template-tests m ms (part text at (at + len)) false false true _ (s .short) (s .nine) (d .before z ms (q .stand)) refl; room = tt }
+          record { is = λ ms q. template-tests m ms (part text at (at + len)) false false true _ (s .short) (s .nine) (d .counted .before z ms (q .stand)) refl; room = tt }
 
       pub weighs-full : ¬ (new ≡ 0) → 128 ≤ p .count → Weighs m text t p at len (Fault Over)
       unfolding lowest
       weighs-full v f =
           let s = small m text at len holes h l c k in
           record {
-            is = λ ms q. unmet m text t p at len s new d v ms q true (rw (le-leb 128 (length ms) (omega (arith, tabled-length text t p ms q))));
+            is = λ ms q. unmet m text t p at len s new (d .counted) v ms q true (rw (le-leb 128 (length ms) (omega (arith, tabled-length text t p ms q))));
             room = tt;
           }
 
@@ -133,21 +136,28 @@ module _ {m : Marks} {text : Bytes} {t : Table} {p : Progress} {at len : ℕ} (h
       weighs-many v f =
           let s = small m text at len holes h l c k in
           record {
-            is = λ ms q. unmet m text t p at len s new d v ms q true
+            is = λ ms q. unmet m text t p at len s new (d .counted) v ms q true
                 (either (leb 128 (length ms)) (ltb 2048 (nodes ms + fresh [] (part text at (at + len)) ms))
-                (lt-ltb 2048 (nodes ms + fresh [] (part text at (at + len)) ms) (omega (arith, sum m text t p at len s new d v ms q))));
+                (lt-ltb 2048 (nodes ms + fresh [] (part text at (at + len)) ms) (omega (arith, sum m text t p at len s new (d .counted) v ms q))));
             room = tt;
           }
 
-      pub weighs-new : ¬ (new ≡ 0) → p .count < 128 → p .nodes ≤ 2048 → new ≤ 2048 - p .nodes → Weighs m text t p at len (Fits (p .nodes + new))
+      pub weighs-new : ¬ (new ≡ 0) → p .count < 128 → p .nodes ≤ 2048 → new ≤ 2048 - p .nodes → Weighs m text t p at len (Fits (p .nodes + new) place)
       unfolding lowest
       weighs-new v f a b =
           let s = small m text at len holes h l c k in
           record {
-            is = λ ms q. unmet m text t p at len s new d v ms q false
+            is = λ ms q. unmet m text t p at len s new (d .counted) v ms q false
                 (rw (lt-leb 128 (length ms) (omega (arith, tabled-length text t p ms q)))
-                (le-ltb 2048 (nodes ms + fresh [] (part text at (at + len)) ms) (omega (arith, sum m text t p at len s new d v ms q))));
-            room = record { short = l; few = f; tree = omega arith; counted = λ ms q. sum m text t p at len s new d v ms q };
+                (le-ltb 2048 (nodes ms + fresh [] (part text at (at + len)) ms) (omega (arith, sum m text t p at len s new (d .counted) v ms q))));
+            room = record {
+              short = l;
+              few = f;
+              tree = omega arith;
+              counted = λ ms q. sum m text t p at len s new (d .counted) v ms q;
+              within = omega (arith, d .within, templates-in-length text t (p .count));
+              goes = d .goes (omega arith);
+            };
           }
 
 -- ---- add_macro
@@ -186,25 +196,57 @@ module _ {m : Marks} {text : Bytes} {t : Table} {p : Progress} {at end stop : �
   unfolding unless
   macro-fault {n} {next} e = record { is = template-line n next ∙ rw e; left = tt }
 
-  module _ {c : ℕ} (e : w ≡ Fits c) where
-    room : HasRoom text t p at (stop - at) c
+  module _ {c place : ℕ} (e : w ≡ Fits c place) where
+    room : HasRoom m text t p at (stop - at) c place
     room = rw e at (h .room)
 
-    -- the table has a place for the macro
-    pub macro-place : Within t (p .count)
-    macro-place = record { whole = s .inside .entries .whole; few = room .few }
+    -- there is a place for the macro, in the table and in the order
+    pub macro-few : p .count < 128
+    macro-few = room .few
 
-    pub macro-more : {n next : ℕ} {u : Table} → end ≤ next → next ≤ length text → u ≡ withMacro t (p .count) at (stop - at) n next
-        → SeesLine m text t p n at end next u (Seen.More (record { count = p .count + 1; nodes = c; codes = p .codes; inside = true; opened = 0; due = false }))
-    unfolding unless
-    macro-more {n} {next} b d q =
-        let x = macros-stored m text t (p .count) at (stop - at) n next (s .inside .entries .whole) (room .few) in
-        rw q (record {
-          is = template-line n next ∙ rw (e, x);
-          left = record {
-            size = stored-length t (p .count) at (stop - at) n next ∙ s .size;
-            inside = entries-stored text t (p .count) at (stop - at) n next (room .few) (omega (arith, f .low, f .high)) (room .short) d (s .inside);
-            counted = rw x (sym (nodes-snoc (macrosIn m text t (p .count)) (newMacro m text n at (stop - at) next) ∙ room .counted (macrosIn m text t (p .count)) tabled));
-            tree = room .tree;
-          };
-        })
+    pub order-place : place ≤ p .count
+    order-place = room .within
+
+    -- v is the table with the macro stored, and u that with the macro put in order
+    module _ (n next : ℕ) (v u : Table) (q : v ≡ withMacro t (p .count) at (stop - at) n next) (o : PutsInOrder v (p .count) place u) where
+      -- the macro comes after those before it
+      macros-more : macrosIn m text u (p .count + 1) ≡ macrosIn m text t (p .count) ++ (newMacro m text n at (stop - at) next ∷ [])
+      macros-more =
+          macros-same m text v u (p .count + 1) (put-same o (p .count + 1) (omega (arith, room .few))) (p .count + 1) (omega arith)
+          ∙ ap (λ (x : Table). macrosIn m text x (p .count + 1)) q ∙ macros-stored m text t (p .count) at (stop - at) n next (s .inside .entries .whole) (room .few)
+
+      -- and so does its template
+      templates-more : templatesIn text t (p .count) ++ (part text at (at + (stop - at)) ∷ []) ≡ templatesIn text u (p .count + 1)
+      templates-more =
+          ap (λ (x : List Bytes). x ++ (part text at (at + (stop - at)) ∷ [])) (sym (macros-templates m text t (p .count)))
+          ∙ sym (templates-snoc (macrosIn m text t (p .count)) (newMacro m text n at (stop - at) next)) ∙ ap templates (sym macros-more)
+          ∙ macros-templates m text u (p .count + 1)
+
+      -- storing it leaves the order as it was
+      stays : (i : ℕ) → orderIn v i ≡ orderIn t i
+      stays i = ap (λ (x : Table). orderIn x i) q ∙ stored-order t (p .count) at (stop - at) n next (s .inside .entries .whole) (room .few) i
+
+      -- with it the templates are in order
+      order-more : InOrder (m .placeholder) (templatesIn text u (p .count + 1)) (orderIn u)
+      order-more =
+          let z = templates-in-length text t (p .count) in
+          rw templates-more at (in-order-more (s .in-order) (room .goes) (omega (arith, room .within)) (λ i a. o .before i a ∙ stays i) (o .there ∙ sym z)
+          (λ i a b. o .further i a (omega arith) ∙ stays i))
+
+      -- the line begins the macro
+      pub macro-more : end ≤ next → next ≤ length text
+          → SeesLine m text t p n at end next u (Seen.More (record { count = p .count + 1; nodes = c; codes = p .codes; inside = true; opened = 0; due = false }))
+      unfolding unless
+      macro-more b d =
+          let kept : length v ≡ length t = ap length q ∙ stored-length t (p .count) at (stop - at) n next in
+          record {
+            is = template-line n next ∙ rw (e, macros-more);
+            left = record {
+              size = o .long ∙ kept ∙ s .size;
+              inside = entries-same text v u (p .count + 1) (put-same o (p .count + 1) (omega (arith, room .few))) (o .long)
+                  (rw q (entries-stored text t (p .count) at (stop - at) n next (room .few) (omega (arith, f .low, f .high)) (room .short) d (s .inside)));
+              counted = rw macros-more (sym (nodes-snoc (macrosIn m text t (p .count)) (newMacro m text n at (stop - at) next) ∙ room .counted (macrosIn m text t (p .count)) tabled));
+              tree = room .tree;
+              in-order = order-more;
+            };
+          }

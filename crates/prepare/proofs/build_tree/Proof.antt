@@ -48,7 +48,7 @@ use Rattle.walk_laws.proofs.Walk as Walk
 use Rattle.walk_laws.proofs.Again as Again
 use Rattle.walk_laws.proofs.Arrays as Arrays
 use borrow.Author.Tests.{not-true, not-false}
-use Rattle.prepare.proofs.Trees.{can-build, prepared, refused}
+use Rattle.prepare.proofs.Trees.{can-build, prepared, refused-text}
 use Rattle.load.proofs.Loading as Loading-T
 use Rattle.load.proofs.Loading.Laws as Loading-L
 use Rattle.model.proofs.Marks as Marks-T
@@ -115,8 +115,8 @@ module _ {M : Type 1} (𝓤 : URA M) (H : Heap 𝓤) (A : Atoms 𝓤) (W : Given
         let E : Env 𝓤 H = Walk.at-addresses (code.function .locals) (l₀ ∷ l₁ ∷ l₂ ∷ l₃ ∷ l₄ ∷ l₅ ∷ l₆ ∷ l₇ ∷ l₈ ∷ l₉ ∷ l₁₀ ∷ l₁₁ ∷ []) in
         Walk.move ! (22 ∷ 22 ∷ 20 ∷ 20 ∷ 18 ∷ 18 ∷ 16 ∷ 16 ∷ 14 ∷ 14 ∷ 12 ∷ 12 ∷ 10 ∷ 10 ∷ 8 ∷ 8 ∷ 6 ∷ 6 ∷ 4 ∷ 4 ∷ 2 ∷ 2 ∷ 0 ∷ 0 ∷ []) (
         Walk.gathers ! (Walk.bare tyUnit l₀ ∷ Walk.bare Y-text l₁ ∷ Walk.bare Y-nodes l₂ ∷ Walk.bare Tables-L.mir l₃ ∷ Walk.bare Loading-L.mir l₄ ∷
-        Walk.bare (tyArray (tyInt w64) 512) l₅ ∷ Walk.bare tyBool l₆ ∷ Walk.bare (tyInt w64) l₇ ∷
-        Walk.bare (tyRef erased imm (pointee (Array (UInt w64) 512 .written))) l₈ ∷
+        Walk.bare (tyArray (tyInt w64) 640) l₅ ∷ Walk.bare tyBool l₆ ∷ Walk.bare (tyInt w64) l₇ ∷
+        Walk.bare (tyRef erased imm (pointee (Array (UInt w64) 640 .written))) l₈ ∷
         Walk.bare (sliceTy (tyRef erased imm (pointee ((UInt w64) .written)))) l₉ ∷
         Walk.bare (tyRef erased mut (pointee (Node-T.the-row .written))) l₁₀ ∷
         Walk.bare (sliceTy (tyRef erased mut (pointee (Node-T.the-row .written)))) l₁₁ ∷ []) (‵ (flft κ₀ q₀) ∷ ‵ (flft κ₁ q₁) ∷
@@ -136,8 +136,8 @@ module _ {M : Type 1} (𝓤 : URA M) (H : Heap 𝓤) (A : Atoms 𝓤) (W : Given
         Walk.frees-gathered ! (Walk.full tyUnit l₀ vunit ∷ Walk.full Y-text l₁ (sliceVal (text .ptr) (length (text .now))) ∷
         Walk.full Y-nodes l₂ (sliceVal (nodes .ptr) (length (nodes .now))) ∷
         Walk.full Tables-L.mir l₃ (LL.val Tables-T.the-type Tables-L.the-laws t) ∷ Walk.full Loading-L.mir l₄ (Loading-L.lowered (t .loading)) ∷
-        Walk.bare (tyArray (tyInt w64) 512) l₅ ∷ Walk.full tyBool l₆ (vbool (not (eqb ((t .loading) .number) 0))) ∷ Walk.bare (tyInt w64) l₇ ∷
-        Walk.bare (tyRef erased imm (pointee (Array (UInt w64) 512 .written))) l₈ ∷
+        Walk.bare (tyArray (tyInt w64) 640) l₅ ∷ Walk.full tyBool l₆ (vbool (not (eqb ((t .loading) .number) 0))) ∷ Walk.bare (tyInt w64) l₇ ∷
+        Walk.bare (tyRef erased imm (pointee (Array (UInt w64) 640 .written))) l₈ ∷
         Walk.bare (sliceTy (tyRef erased imm (pointee ((UInt w64) .written)))) l₉ ∷
         Walk.bare (tyRef erased mut (pointee (Node-T.the-row .written))) l₁₀ ∷
         Walk.bare (sliceTy (tyRef erased mut (pointee (Node-T.the-row .written)))) l₁₁ ∷ []) Fd ed (‵ (flft κ₀ q₀) ∷ ‵ (flft κ₁ q₁) ∷
@@ -150,16 +150,16 @@ module _ {M : Type 1} (𝓤 : URA M) (H : Heap 𝓤) (A : Atoms 𝓤) (W : Given
         Walk.move ! (1 ∷ 1 ∷ []) (
         Walk.tokens-in W ((κ₀, q₀) ∷ (κ₁, q₁) ∷ []) _ ! (alive 𝓤 H A f-build-tree.signature (κ₀, (κ₁, tt)) (q₀, (q₁, tt))) (id⊢ 𝓤 _) (
         Walk.use0 W ! (‵ (Nothing .own tt (vunit ∷ []))) (nothing-makes 𝓤 H A W tt _ refl) (Walk.keep ! (1 ∷ 1 ∷ 0 ∷ []) (
-        Kit.by ! (Walk.leave-by 𝓤 H A W f-build-tree.ended (f-build-tree.clauses 𝓤 H A mem run) stayed-build-tree bound vunit tt (tt, ((nodes .now), (tt, tt))) (tt, (refl, (tt, tt))) (factI 𝓤 _ (emp 𝓤) (refused (pre .1) (eqb-false (t .loading .number) 0 (not-true _ t1)))))))))))))))
+        Kit.by ! (Walk.leave-by 𝓤 H A W f-build-tree.ended (f-build-tree.clauses 𝓤 H A mem run) stayed-build-tree bound vunit tt (tt, ((nodes .now), (tt, tt))) (tt, (refl, (tt, tt))) (factI 𝓤 _ (emp 𝓤) (refused-text (pre .1) (eqb-false (t .loading .number) 0 (not-true _ t1)))))))))))))))
         (λ h1. let t1 : (not (eqb ((t .loading) .number) 0)) ≡ false = Walk.is-false _ h1 in
         Walk.skips-then ! (
-        let isa5 : Is (Array (UInt w64) 512) (t .table) ((arrayVal (map (λ (x : ℕ). (vint w64 x)) (map (λ (x : ℕ). x) (t .table)))) ∷
-        []) = subst (λ (xs : List ℕ). Is (Array (UInt w64) 512) xs ((arrayVal (map (λ (x : ℕ). (vint w64 x)) (map (λ (x : ℕ). x) (t .table)))) ∷
+        let isa5 : Is (Array (UInt w64) 640) (t .table) ((arrayVal (map (λ (x : ℕ). (vint w64 x)) (map (λ (x : ℕ). x) (t .table)))) ∷
+        []) = subst (λ (xs : List ℕ). Is (Array (UInt w64) 640) xs ((arrayVal (map (λ (x : ℕ). (vint w64 x)) (map (λ (x : ℕ). x) (t .table)))) ∷
         [])) (map-id (t .table)) (LL.owed Tables-T.the-type Tables-L.the-laws t _ is-t .1 .0) in
-        Walk.use0 W ! (‵ (Array (UInt w64) 512 .own (t .table) ((arrayVal (map (λ (x : ℕ). (vint w64 x)) (map (λ (x : ℕ). x) (t .table)))) ∷ [])))
-        (array-makes 𝓤 H A W (UInt w64) (uint-makes 𝓤 H A W w64) 512 (t .table) _ isa5) (
+        Walk.use0 W ! (‵ (Array (UInt w64) 640 .own (t .table) ((arrayVal (map (λ (x : ℕ). (vint w64 x)) (map (λ (x : ℕ). x) (t .table)))) ∷ [])))
+        (array-makes 𝓤 H A W (UInt w64) (uint-makes 𝓤 H A W w64) 640 (t .table) _ isa5) (
         Walk.sets ! (Run.of-opd ! (Walk.part ! 4 refl refl refl)) (Run.init ! 6 refl (array-lawful 𝓤 H A W (UInt w64)
-        (uint-lawful 𝓤 H A W w64) 512 .typed (t .table) _ isa5 .0)) (
+        (uint-lawful 𝓤 H A W w64) 640 .typed (t .table) _ isa5 .0)) (
         Walk.sets ! (Run.addr ! (Run.from ! (Run.stop !))) (Run.init ! 9 refl ((tt, tt))) (
         Walk.sets ! (Part.agg ! (Run.and-then ! (Walk.local ! 9 refl) (Run.and-then ! (Run.lit ! tt) (Run.no-more !))))
         (Walk.init-as ! 10 refl ((tt, (tt, (record { fits = lit< tt }, tt)))) (ap (λ (m : ℕ). sliceVal (l₅, 0) m) (sym (isa5 .1 .0 .1)))) (
@@ -170,7 +170,7 @@ module _ {M : Type 1} (𝓤 : URA M) (H : Heap 𝓤) (A : Atoms 𝓤) (W : Given
         -- [the array 5; the locals; their ends; κ₀; κ₁; nodes; text]
         -- call 1: build ((t .loading) .marks, text, the array 5, (t .loading) .count, nodes)
         Walk.move ! (6 ∷ 0 ∷ []) (
-        Arrays.shares W (UInt w64) tt 512 l₅ (named 1) (t .table) ! tt (subst (Slice.Room (UInt w64)) (sym (isa5 .1 .0 .1)) (lit< tt, lit< tt))
+        Arrays.shares W (UInt w64) tt 640 l₅ (named 1) (t .table) ! tt (subst (Slice.Room (UInt w64)) (sym (isa5 .1 .0 .1)) (lit< tt, lit< tt))
         (λ ν1 δ1.
         Walk.move ! (17 ∷ 16 ∷ []) (Again.lends W Node-T.the-row κ₁ q₁ nodes (named 1) (named 2) (nodes .now) ! tt (λ ν2 δ2.
         Walk.move ! (19 ∷ 3 ∷ 0 ∷ []) (
@@ -185,20 +185,20 @@ module _ {M : Type 1} (𝓤 : URA M) (H : Heap 𝓤) (A : Atoms 𝓤) (W : Given
         (Run.and-then ! (Walk.part ! 8 refl refl refl) (Run.and-then ! (Walk.local ! 14 refl) (Run.no-more !)))))) (λ u1 r1 ws1 is1′ e1.
         Walk.returned W ((κ₀, q₀) ∷ ((ν1 ∷ []), fullShare) ∷ ((ν2 ∷ []), fullShare) ∷ []) (Walk.gone _ ∷ Walk.gone _ ∷ Walk.gone _ ∷ Walk.gone _ ∷
         Walk.final (finally Node-T.the-row δ2 (ws1 .1 .1 .1 .1 .0)) (length (ws1 .1 .1 .1 .1 .0)) (length (nodes .now)) ∷ []) ! (id⊢ 𝓤 _) (λ len2.
-        Walk.move ! (2 ∷ 5 ∷ []) (Arrays.unshares W (UInt w64) tt 512 l₅ (named 1) (t .table) ! tt (isa5 .1 .0 .1) (λ cell1.
+        Walk.move ! (2 ∷ 5 ∷ []) (Arrays.unshares W (UInt w64) tt 640 l₅ (named 1) (t .table) ! tt (isa5 .1 .0 .1) (λ cell1.
         Walk.move ! (4 ∷ 5 ∷ 2 ∷ 6 ∷ []) (
         Again.backs W Node-T.the-row κ₁ q₁ nodes (named 1) (named 2) (nodes .now) ! tt (ws1 .1 .1 .1 .1 .0) (is-nodes .0 .1) len2 (
         Walk.lands-in ! (Walk.init-as ! 12 refl (uint-lawful 𝓤 H A W w64 .typed r1 _ is1′ .0) (ap only (uint-tells w64 r1 _ is1′))) (
         let is1 : Is (UInt w64) r1 ((vint w64 r1) ∷ []) = subst (λ (vs : List Val). Is (UInt w64) r1 vs) (uint-tells w64 r1 _ is1′) is1′ in
         Walk.written-out ! (‵ (T-nodes .own (at-last nodes (ws1 .1 .1 .1 .1 .0)) (sliceVal (nodes .ptr) (length (ws1 .1 .1 .1 .1 .0)) ∷ [])) ∷
         ‵ (flft κ₁ q₁) ∷ ‵ (fat fullShare Y-nodes l₂ 0 (sliceVal (nodes .ptr) (length (ws1 .1 .1 .1 .1 .0)))) ∷
-        ‵ (fat fullShare (tyArray (tyInt w64) 512) l₅ 0 cell1) ∷ ‵ (Array (UInt w64) 512 .own (t .table) (cell1 ∷ [])) ∷ ‵ (flft κ₀ q₀) ∷
+        ‵ (fat fullShare (tyArray (tyInt w64) 640) l₅ 0 cell1) ∷ ‵ (Array (UInt w64) 640 .own (t .table) (cell1 ∷ [])) ∷ ‵ (flft κ₀ q₀) ∷
         ‵ (T-text .own text (sliceVal (text .ptr) (length (text .now)) ∷ [])) ∷ ‵ (froom tyUnit l₀ 0) ∷
         ‵ (fat fullShare Y-text l₁ 0 (sliceVal (text .ptr) (length (text .now)))) ∷
         ‵ (fat fullShare Tables-L.mir l₃ 0 (LL.val Tables-T.the-type Tables-L.the-laws t)) ∷
         ‵ (fat fullShare Loading-L.mir l₄ 0 (Loading-L.lowered (t .loading))) ∷
         ‵ (fat fullShare tyBool l₆ 0 (vbool (not (eqb ((t .loading) .number) 0)))) ∷ ‵ (fat fullShare (tyInt w64) l₇ 0 (vint w64 r1)) ∷
-        ‵ (fat fullShare (tyRef erased imm (pointee (Array (UInt w64) 512 .written))) l₈ 0 (vptr l₅ 0)) ∷
+        ‵ (fat fullShare (tyRef erased imm (pointee (Array (UInt w64) 640 .written))) l₈ 0 (vptr l₅ 0)) ∷
         ‵ (fat fullShare (sliceTy (tyRef erased imm (pointee ((UInt w64) .written)))) l₉ 0 (sliceVal (l₅, 0) (length (t .table)))) ∷
         ‵ (fat fullShare (tyRef erased mut (pointee (Node-T.the-row .written))) l₁₀ 0 (vptr (nodes .ptr .0) (nodes .ptr .1))) ∷
         ‵ (fat fullShare (sliceTy (tyRef erased mut (pointee (Node-T.the-row .written)))) l₁₁ 0 (sliceVal (nodes .ptr) (length (nodes .now)))) ∷
@@ -208,13 +208,13 @@ module _ {M : Type 1} (𝓤 : URA M) (H : Heap 𝓤) (A : Atoms 𝓤) (W : Given
         Walk.frees-gathered ! (Walk.full tyUnit l₀ vunit ∷ Walk.full Y-text l₁ (sliceVal (text .ptr) (length (text .now))) ∷
         Walk.full Y-nodes l₂ (sliceVal (nodes .ptr) (length (ws1 .1 .1 .1 .1 .0))) ∷
         Walk.full Tables-L.mir l₃ (LL.val Tables-T.the-type Tables-L.the-laws t) ∷ Walk.full Loading-L.mir l₄ (Loading-L.lowered (t .loading)) ∷
-        Walk.full (tyArray (tyInt w64) 512) l₅ cell1 ∷ Walk.full tyBool l₆ (vbool (not (eqb ((t .loading) .number) 0))) ∷
-        Walk.full (tyInt w64) l₇ (vint w64 r1) ∷ Walk.full (tyRef erased imm (pointee (Array (UInt w64) 512 .written))) l₈ (vptr l₅ 0) ∷
+        Walk.full (tyArray (tyInt w64) 640) l₅ cell1 ∷ Walk.full tyBool l₆ (vbool (not (eqb ((t .loading) .number) 0))) ∷
+        Walk.full (tyInt w64) l₇ (vint w64 r1) ∷ Walk.full (tyRef erased imm (pointee (Array (UInt w64) 640 .written))) l₈ (vptr l₅ 0) ∷
         Walk.full (sliceTy (tyRef erased imm (pointee ((UInt w64) .written)))) l₉ (sliceVal (l₅, 0) (length (t .table))) ∷
         Walk.full (tyRef erased mut (pointee (Node-T.the-row .written))) l₁₀ (vptr (nodes .ptr .0) (nodes .ptr .1)) ∷
         Walk.full (sliceTy (tyRef erased mut (pointee (Node-T.the-row .written)))) l₁₁ (sliceVal (nodes .ptr) (length (nodes .now))) ∷
         []) Fd ed (‵ (T-nodes .own (at-last nodes (ws1 .1 .1 .1 .1 .0)) (sliceVal (nodes .ptr) (length (ws1 .1 .1 .1 .1 .0)) ∷ [])) ∷
-        ‵ (flft κ₁ q₁) ∷ ‵ (Array (UInt w64) 512 .own (t .table) (cell1 ∷ [])) ∷ ‵ (flft κ₀ q₀) ∷ ‵ (T-text .own text (sliceVal (text .ptr)
+        ‵ (flft κ₁ q₁) ∷ ‵ (Array (UInt w64) 640 .own (t .table) (cell1 ∷ [])) ∷ ‵ (flft κ₀ q₀) ∷ ‵ (T-text .own text (sliceVal (text .ptr)
         (length (text .now)) ∷ [])) ∷ []) (
         Walk.gives W (Walk.nothing ∷ Walk.turned (T-nodes .own (at-last nodes (ws1 .1 .1 .1 .1 .0)) (sliceVal (nodes .ptr)
         (length (ws1 .1 .1 .1 .1 .0)) ∷ [])) (finally Node-T.the-row (nodes .name) (ws1 .1 .1 .1 .1 .0))

@@ -42,7 +42,7 @@ use Prim.Native.Nat.{ℕ}
 use lib.ListN.{length}
 use Rattle.walk_laws.proofs.Walk as Walk
 use Rattle.walk_laws.proofs.Again as Again
-use Rattle.stage2.proofs.Results.{fit-short, fit-legal, first-rule}
+use Rattle.stage2.proofs.Results.{fit-short, fit-legal, no-rule, first-rule}
 use Rattle.model.proofs.Fitted as Fitted-T
 use Rattle.model.proofs.Fitted.Laws as Fitted-L
 use Rattle.nodes.specs.declared.Node.{Node}
@@ -238,7 +238,7 @@ module _ {M : Type 1} (𝓤 : URA M) (H : Heap 𝓤) (A : Atoms 𝓤) (W : Given
         Walk.use0 W ! (‵ (Fitted-T.the-row .own r2 ((LL.val Fitted-T.the-type Fitted-L.the-laws r2) ∷ [])))
         (LL.makes Fitted-T.the-type Fitted-L.the-plain 𝓤 H A r2 _ is2) (
         Walk.keep ! (1 ∷ 1 ∷ 0 ∷ []) (
-        Kit.by ! (Walk.leave-by 𝓤 H A W f-fit.ended (f-fit.clauses 𝓤 H A mem run) stayed-fit bound (LL.val Fitted-T.the-type Fitted-L.the-laws r2) r2 (tt, ((nodes .now), ((dead .now), (tt, tt)))) (tt, (refl, (refl, (tt, tt)))) (Walk.says-both 𝓤 _ _ (fit-short _ _ _ _ e1 t1 e2) (first-rule _ _ _ _ (fit-short _ _ _ _ e1 t1 e2)))))))))))))))))))
+        Kit.by ! (Walk.leave-by 𝓤 H A W f-fit.ended (f-fit.clauses 𝓤 H A mem run) stayed-fit bound (LL.val Fitted-T.the-type Fitted-L.the-laws r2) r2 (tt, ((nodes .now), ((dead .now), (tt, tt)))) (tt, (refl, (refl, (tt, tt)))) (Walk.says-both 𝓤 _ _ (fit-short _ _ _ _ e1 t1 e2) (no-rule _ _ (fit-short _ _ _ _ e1 t1 e2) e1 t1))))))))))))))))))
         (λ h1. let t1 : r1 ≡ false = Walk.is-false _ h1 in
         Walk.skips-then ! (
         Walk.sets ! (Run.addr ! (Run.from ! (Run.fld ! refl (Run.hop ! (Part.look-in ! 2 (Part.sub ! 0 refl (Part.whole !))) (Run.stop !)))))
@@ -363,7 +363,7 @@ module _ {M : Type 1} (𝓤 : URA M) (H : Heap 𝓤) (A : Atoms 𝓤) (W : Given
         Walk.use0 W ! (‵ (Fitted-T.the-row .own r4 ((LL.val Fitted-T.the-type Fitted-L.the-laws r4) ∷ [])))
         (LL.makes Fitted-T.the-type Fitted-L.the-plain 𝓤 H A r4 _ is4) (
         Walk.keep ! (1 ∷ 1 ∷ 0 ∷ []) (
-        Kit.by ! (Walk.leave-by 𝓤 H A W f-fit.ended (f-fit.clauses 𝓤 H A mem run) stayed-fit bound (LL.val Fitted-T.the-type Fitted-L.the-laws r4) r4 (tt, ((ws3 .1 .0), ((ws4 .1 .1 .0), (tt, tt)))) (tt, ((len1 ∙ refl), ((len3 ∙ refl), (tt, tt)))) (Walk.says-both 𝓤 _ _ (fit-legal _ _ _ _ e1 t1 e4) (first-rule _ _ _ _ (fit-legal _ _ _ _ e1 t1 e4))))))))))))))))))))))))))))))))))))))))))))))))))))))))))))))))))))))))))))))))))))))
+        Kit.by ! (Walk.leave-by 𝓤 H A W f-fit.ended (f-fit.clauses 𝓤 H A mem run) stayed-fit bound (LL.val Fitted-T.the-type Fitted-L.the-laws r4) r4 (tt, ((ws3 .1 .0), ((ws4 .1 .1 .0), (tt, tt)))) (tt, ((len1 ∙ refl), ((len3 ∙ refl), (tt, tt)))) (Walk.says-both 𝓤 _ _ (fit-legal _ _ _ _ e1 t1 e4) (first-rule _ _ (fit-legal _ _ _ _ e1 t1 e4) e3)))))))))))))))))))))))))))))))))))))))))))))))))))))))))))))))))))))))))))))))))))))
 
 pub fit-spec : {M : Type 1} → stated.statement M
 unfolding code.routine tablesOf

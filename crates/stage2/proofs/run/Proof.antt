@@ -42,7 +42,7 @@ use Prim.Native.Nat.{ℕ, _<_, _^_}
 use lib.ListN.{length}
 use Rattle.walk_laws.proofs.Walk as Walk
 use Rattle.walk_laws.proofs.Again as Again
-use Rattle.stage2.proofs.Demanded.{legal-fuel, illegal-runs, legal-runs, follows-expansion}
+use Rattle.stage2.proofs.Demanded.{legal-fuel, illegal-runs, legal-runs, no-demand, follows-expansion}
 use Rattle.model.proofs.Ran as Ran-T
 use Rattle.model.proofs.Ran.Laws as Ran-L
 use Rattle.nodes.specs.declared.Node.{Node}
@@ -320,7 +320,7 @@ module _ {M : Type 1} (𝓤 : URA M) (H : Heap 𝓤) (A : Atoms 𝓤) (W : Given
         []) _ ! (alive 𝓤 H A f-run.signature (κ₀, (κ₁, (κ₂, (κ₃, (κ₄, (κ₅, tt)))))) (q₀, (q₁, (q₂, (q₃, (q₄, (q₅, tt))))))) (id⊢ 𝓤 _) (
         Walk.use0 W ! (‵ (Ran-T.the-row .own r2 ((Ran-L.lowered r2) ∷ []))) (LL.makes Ran-T.the-type Ran-L.the-plain 𝓤 H A r2 _ is2) (
         Walk.keep ! (1 ∷ 1 ∷ 0 ∷ []) (
-        Kit.by ! (Walk.leave-by 𝓤 H A W f-run.ended (f-run.clauses 𝓤 H A mem run) stayed-run bound (Ran-L.lowered r2) r2 (tt, (tt, ((nodes .now), ((dead .now), ((output .now), ((second .now), ((store .now), tt))))))) (tt, (tt, (refl, (refl, (refl, (refl, (refl, tt))))))) (Walk.says-both 𝓤 _ _ (illegal-runs _ _ _ _ _ _ _ e1 t1 e2) (follows-expansion _ _ _ _ _ _ _ (illegal-runs _ _ _ _ _ _ _ e1 t1 e2)))))))))))))))))))
+        Kit.by ! (Walk.leave-by 𝓤 H A W f-run.ended (f-run.clauses 𝓤 H A mem run) stayed-run bound (Ran-L.lowered r2) r2 (tt, (tt, ((nodes .now), ((dead .now), ((output .now), ((second .now), ((store .now), tt))))))) (tt, (tt, (refl, (refl, (refl, (refl, (refl, tt))))))) (Walk.says-both 𝓤 _ _ (illegal-runs _ _ _ _ _ _ _ e1 t1 e2) (no-demand _ _ _ _ _ _ _ (illegal-runs _ _ _ _ _ _ _ e1 t1 e2) e1 t1))))))))))))))))))
         (λ h1. let t1 : r1 ≡ false = Walk.is-false _ h1 in
         Walk.skips-then ! (
         Walk.sets ! (Run.addr ! (Run.from ! (Run.fld ! refl (Run.hop ! (Part.look-in ! 3 (Part.sub ! 0 refl (Part.whole !))) (Run.stop !)))))
@@ -554,7 +554,7 @@ module _ {M : Type 1} (𝓤 : URA M) (H : Heap 𝓤) (A : Atoms 𝓤) (W : Given
         []) _ ! (alive 𝓤 H A f-run.signature (κ₀, (κ₁, (κ₂, (κ₃, (κ₄, (κ₅, tt)))))) (q₀, (q₁, (q₂, (q₃, (q₄, (q₅, tt))))))) (id⊢ 𝓤 _) (
         Walk.use0 W ! (‵ (Ran-T.the-row .own r5 ((Ran-L.lowered r5) ∷ []))) (LL.makes Ran-T.the-type Ran-L.the-plain 𝓤 H A r5 _ is5) (
         Walk.keep ! (1 ∷ 1 ∷ 0 ∷ []) (
-        Kit.by ! (Walk.leave-by 𝓤 H A W f-run.ended (f-run.clauses 𝓤 H A mem run) stayed-run bound (Ran-L.lowered r5) r5 (tt, (tt, ((ws3 .1 .0), ((ws5 .1 .1 .0), ((ws5 .1 .1 .1 .1 .1 .0), ((ws5 .1 .1 .1 .1 .1 .1 .0), ((ws5 .1 .1 .1 .1 .1 .1 .1 .0), tt))))))) (tt, (tt, ((len1 ∙ refl), ((len3 ∙ refl), ((len4 ∙ refl), ((len5 ∙ refl), ((len6 ∙ refl), tt))))))) (Walk.says-both 𝓤 _ _ (legal-runs _ _ _ _ _ _ _ e1 t1 e4 e5) (follows-expansion _ _ _ _ _ _ _ (legal-runs _ _ _ _ _ _ _ e1 t1 e4 e5))))))))))))))))))))))))))))))))))))))))))))))))))))))))))))))))))))))))))))))))))))))))))))))))))))))))))))))))))))))))))))
+        Kit.by ! (Walk.leave-by 𝓤 H A W f-run.ended (f-run.clauses 𝓤 H A mem run) stayed-run bound (Ran-L.lowered r5) r5 (tt, (tt, ((ws3 .1 .0), ((ws5 .1 .1 .0), ((ws5 .1 .1 .1 .1 .1 .0), ((ws5 .1 .1 .1 .1 .1 .1 .0), ((ws5 .1 .1 .1 .1 .1 .1 .1 .0), tt))))))) (tt, (tt, ((len1 ∙ refl), ((len3 ∙ refl), ((len4 ∙ refl), ((len5 ∙ refl), ((len6 ∙ refl), tt))))))) (Walk.says-both 𝓤 _ _ (legal-runs _ _ _ _ _ _ _ e1 t1 e4 e5) (follows-expansion _ _ _ _ _ _ _ (legal-runs _ _ _ _ _ _ _ e1 t1 e4 e5) e3)))))))))))))))))))))))))))))))))))))))))))))))))))))))))))))))))))))))))))))))))))))))))))))))))))))))))))))))))))))))))))
 
 pub run-spec : {M : Type 1} → stated.statement M
 unfolding code.routine tablesOf

@@ -13,7 +13,9 @@ shared-slice-read-b : tie.Need-shared-slice-read-b
 shared-slice-read-b c = search needs
 
 returns : tie.Need-returns
-returns c = search (key-hole, needs)
+returns c =
+    let a = c .before .before .before .args in
+    key-hole _ _ _ _ _ (c .before .before .before .pre) (search needs) (search needs) (omega (arith, c .before .shared-slice-known .given (a .start + a .x)))
 
 cast-result : tie.Need-cast-result
 cast-result c =

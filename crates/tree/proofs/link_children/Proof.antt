@@ -40,7 +40,6 @@ use lib.ListN.{length, set}
 use Rattle.tree.specs.Nodes.{withKids}
 use Rattle.walk_laws.proofs.Walk as Walk
 use Rattle.walk_laws.proofs.Again as Again
-use Rattle.tree.proofs.Filling.{no-more}
 use Rattle.nodes.specs.declared.Node.{Node}
 use Rattle.nodes.proofs.Node as Node-T
 use Rattle.nodes.proofs.Node.Laws as Node-L

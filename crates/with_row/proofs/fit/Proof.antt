@@ -212,7 +212,7 @@ module _ {M : Type 1} (𝓤 : URA M) (H : Heap 𝓤) (A : Atoms 𝓤) (W : Given
         Walk.use0 W ! (‵ (Fitted-T.the-row .own r2 ((LL.val Fitted-T.the-type Fitted-L.the-laws r2) ∷ [])))
         (LL.makes Fitted-T.the-type Fitted-L.the-plain 𝓤 H A r2 _ is2) (
         Walk.keep ! (1 ∷ 0 ∷ []) (
-        Kit.by ! (Walk.leave 𝓤 H A W f-fit.ended (f-fit.clauses 𝓤 H A mem run) bound (LL.val Fitted-T.the-type Fitted-L.the-laws r2) r2 (tt, (tt, tt)) (Walk.says-both 𝓤 _ _ (e2 .0) (λ t loads short. e2 .1 t loads (omega (arith, length-replicate 2048 r1)) (omega (arith, length-replicate {A = ℕ} 51456 0)) short))))))))))))))))))))))))))))))))))))))))))))))))))))))))))))))))))
+        Kit.by ! (Walk.leave 𝓤 H A W f-fit.ended (f-fit.clauses 𝓤 H A mem run) bound (LL.val Fitted-T.the-type Fitted-L.the-laws r2) r2 (tt, (tt, tt)) (Walk.says-both 𝓤 _ _ (e2 .0) (λ t loads. e2 .1 t loads (omega (arith, length-replicate 2048 r1)) (omega (arith, length-replicate {A = ℕ} 51456 0)) .1))))))))))))))))))))))))))))))))))))))))))))))))))))))))))))))))))
 
 pub fit-spec : {M : Type 1} → stated.statement M
 unfolding code.routine tablesOf

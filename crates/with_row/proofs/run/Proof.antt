@@ -326,7 +326,7 @@ module _ {M : Type 1} (𝓤 : URA M) (H : Heap 𝓤) (A : Atoms 𝓤) (W : Given
         (q₀, (q₁, (q₂, (q₃, tt))))) (id⊢ 𝓤 _) (
         Walk.use0 W ! (‵ (Ran-T.the-row .own r2 ((Ran-L.lowered r2) ∷ []))) (LL.makes Ran-T.the-type Ran-L.the-plain 𝓤 H A r2 _ is2) (
         Walk.keep ! (1 ∷ 1 ∷ 0 ∷ []) (
-        Kit.by ! (Walk.leave-by 𝓤 H A W f-run.ended (f-run.clauses 𝓤 H A mem run) stayed-run bound (Ran-L.lowered r2) r2 (tt, (tt, ((ws2 .1 .1 .1 .1 .0), ((ws2 .1 .1 .1 .1 .1 .0), ((ws2 .1 .1 .1 .1 .1 .1 .0), tt))))) (tt, (tt, ((len3 ∙ refl), ((len4 ∙ refl), ((len5 ∙ refl), tt))))) (Walk.says-both 𝓤 _ _ (e2 .0) (e2 .1))))))))))))))))))))))))))))))))))))))))))))))))))))))))))))))))))))))))))))))))))))))))))))))))))
+        Kit.by ! (Walk.leave-by 𝓤 H A W f-run.ended (f-run.clauses 𝓤 H A mem run) stayed-run bound (Ran-L.lowered r2) r2 (tt, (tt, ((ws2 .1 .1 .1 .1 .0), ((ws2 .1 .1 .1 .1 .1 .0), ((ws2 .1 .1 .1 .1 .1 .1 .0), tt))))) (tt, (tt, ((len3 ∙ refl), ((len4 ∙ refl), ((len5 ∙ refl), tt))))) (Walk.says-both 𝓤 _ _ (e2 .0) (λ t loads legal. e2 .1 t loads legal .1))))))))))))))))))))))))))))))))))))))))))))))))))))))))))))))))))))))))))))))))))))))))))))))))))
 
 pub run-spec : {M : Type 1} → stated.statement M
 unfolding code.routine tablesOf

@@ -1,6 +1,6 @@
--- add_macro stores the macro that a line begins, unless its template has a fault.
+-- add_macro stores the macro that a line begins and puts it in order, unless its template has a fault.
 use borrow.Author.Needs.{needs}
-use Rattle.load.proofs.template.Laws.{macro-fault, macro-place, macro-more}
+use Rattle.load.proofs.template.Laws.{macro-fault, macro-few, order-place, macro-more}
 use Rattle.load.proofs.template.add_macro.Statement.{statement}
 use Rattle.load.proofs.template.add_macro.Tie as tie
 
@@ -20,10 +20,13 @@ enum-known-nodes : tie.Need-enum-known-nodes
 enum-known-nodes c = search needs
 
 put-macro-requires : tie.Need-put-macro-requires
-put-macro-requires c κs = search (macro-place, needs)
+put-macro-requires c κs = search (macro-few, needs)
 
-add-t20 : tie.Need-add-t20
-add-t20 c = search needs
+put-in-order-requires : tie.Need-put-in-order-requires
+put-in-order-requires c κs = (record { whole = search needs; few = search (macro-few, needs) }, search (order-place, needs))
+
+add-t24 : tie.Need-add-t24
+add-t24 c = search needs
 
 same-length : tie.Need-same-length
 same-length c = search needs
@@ -47,7 +50,8 @@ add-macro-spec =
     enum-known-f
     enum-known-nodes
     put-macro-requires
-    add-t20
+    put-in-order-requires
+    add-t24
     same-length
     returns
     same-length-2

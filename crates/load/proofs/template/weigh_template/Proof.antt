@@ -1,4 +1,4 @@
--- weigh_template finds the lowest fault of a template, or counts the nodes with it.
+-- weigh_template finds the lowest fault of a template, or counts the nodes with it and finds its place.
 use borrow.Author.Needs.{needs}
 use Rattle.load.proofs.template.Laws.{weighs-long, weighs-ten, weighs-met, weighs-full, weighs-many, weighs-new}
 use Rattle.load.proofs.template.weigh_template.Statement.{statement}
@@ -16,8 +16,8 @@ count-byte-requires c κs = search needs
 returns-2 : tie.Need-returns-2
 returns-2 c = search (weighs-ten, needs)
 
-count-new-requires : tie.Need-count-new-requires
-count-new-requires c κs = search needs
+find-place-requires : tie.Need-find-place-requires
+find-place-requires c κs = search needs
 
 returns-3 : tie.Need-returns-3
 returns-3 c = search (weighs-met, needs)
@@ -31,8 +31,8 @@ sub-if5 c = search needs
 returns-5 : tie.Need-returns-5
 returns-5 c = search (weighs-many, needs)
 
-add-t11 : tie.Need-add-t11
-add-t11 c = search needs
+add-t12 : tie.Need-add-t12
+add-t12 c = search needs
 
 returns-6 : tie.Need-returns-6
 returns-6 c = search (weighs-new, needs)
@@ -45,10 +45,10 @@ weigh-template-spec =
     add-count-byte
     count-byte-requires
     returns-2
-    count-new-requires
+    find-place-requires
     returns-3
     returns-4
     sub-if5
     returns-5
-    add-t11
+    add-t12
     returns-6)
