@@ -2,11 +2,11 @@
  *
  * Link with target/staticlib/libapi.a (x86-64 Linux), which `rt staticlib api` writes. The calls keep nothing between one and
  * the next, allocate nothing, and may run in several threads at once. A check and a fit need 128 KB of stack, a run 256 KB;
- * the deepest search that was found takes 57 KB, and a run with it 160 KB.
+ * the deepest search that was found takes 57 KB, and a run with it 166 KB.
  *
  * An array is passed as a pointer and a count of elements. No pointer may be NULL, not even with a count of 0. The arrays
- * that a call writes to, the node row, the row of dead places, both outputs and the store, overlap neither each other nor the
- * text or line. Nothing else is asked: every content and every count has its answer.
+ * that a call writes to, the node row, the row of dead places, both outputs, the store and the report, overlap neither each
+ * other nor the text or line. Nothing else is asked: every content and every count has its answer.
  */
 #ifndef STAGE2_H
 #define STAGE2_H
@@ -34,6 +34,9 @@ extern "C" {
 
 /* The least count of a store. No run lists more than this. */
 #define STAGE2_STORE 8704
+
+/* The least count of a report. No run reports more than this. */
+#define STAGE2_REPORT 2048
 
 /* The key of a node's element: a literal's is its byte, then come a template's end, a placeholder, and the root, which has no
  * element. */
@@ -80,6 +83,7 @@ typedef struct {
     uint64_t output; /* how many bytes of the output are written, which is channel 3 */
     uint64_t second; /* how many bytes of the second output are written, which is channel 4 */
     uint64_t store;  /* how many bytes of the store are written */
+    uint64_t report; /* how many bytes of the report are written */
 } stage2_ran;
 
 /* Checks whether a text loads. With fewer than STAGE2_NODES nodes the number is 1. Writes to the node row alone. */
@@ -96,18 +100,24 @@ stage2_fitted stage2_fit(const uint8_t *text, size_t text_count,
 
 /* Expands the input lines of a text, with at most so many events. The first bytes of the output are what is written to channel
  * 3, lines without a reading among them, and those of the second output what is written to channel 4; those of the store are a
- * line of the stored names, byte 0 between them, then a line for each text. All other bytes of the three stay as they were, and
- * for numbers 1 to 9 all bytes do. With a fuel that is not 1 to STAGE2_FUEL, fewer than STAGE2_NODES nodes, a row of dead
- * places below STAGE2_DEAD or a store below STAGE2_STORE the number is 1. Each output may have any count: 13 says that one of
- * them lacks room for a line, and a text that writes nothing to channel 4 needs no second output but a pointer and 0. A text
- * need not be UTF-8: only where code counts, values or takes apart characters do malformed bytes end the run, with 21. */
+ * line of the stored names, byte 0 between them, then a line for each text. Those of the report are a line `template,calls`,
+ * then for each template, in the text's order, a line with its line number, a comma and the number of lines that it was chosen
+ * for, and last such a line with 0 for its number, which counts the lines without a reading; byte 10 ends each. A line counts
+ * when its reading is decided, even where 13 or 14 ends the run at it, so that the counts add up to the lines that were offered.
+ * The store and the report are written after every run that began, whichever number ended it. All other bytes of the four stay
+ * as they were, and for numbers 1 to 9 all bytes do. With a fuel that is not 1 to STAGE2_FUEL, fewer than STAGE2_NODES nodes, a
+ * row of dead places below STAGE2_DEAD, a store below STAGE2_STORE or a report below STAGE2_REPORT the number is 1. Each output
+ * may have any count: 13 says that one of them lacks room for a line, and a text that writes nothing to channel 4 needs no
+ * second output but a pointer and 0. A text need not be UTF-8: only where code counts, values or takes apart characters do
+ * malformed bytes end the run, with 21. */
 stage2_ran stage2_run(const uint8_t *text, size_t text_count,
                       uint64_t fuel,
                       stage2_node *nodes, size_t nodes_count,
                       uint8_t *dead, size_t dead_count,
                       uint8_t *output, size_t output_count,
                       uint8_t *second, size_t second_count,
-                      uint8_t *store, size_t store_count);
+                      uint8_t *store, size_t store_count,
+                      uint8_t *report, size_t report_count);
 
 #ifdef __cplusplus
 }

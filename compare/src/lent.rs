@@ -1,6 +1,6 @@
 //! What runs are lent.
 
-use stage2_reference::{self as reference, Ran, DEAD_ROW, FUEL_LIMIT, NODE_ROW, STORE_ROOM};
+use stage2_reference::{self as reference, Ran, Rooms, DEAD_ROW, FUEL_LIMIT, NODE_ROW};
 
 use crate::{run, Node};
 
@@ -9,9 +9,7 @@ use crate::{run, Node};
 pub struct Lent {
     nodes: Vec<Node>,
     dead: Vec<u8>,
-    pub output: Vec<u8>,
-    second: Vec<u8>,
-    store: Vec<u8>,
+    pub rooms: Rooms,
 }
 
 impl Default for Lent {
@@ -19,9 +17,7 @@ impl Default for Lent {
         Lent {
             nodes: vec![Node::default(); NODE_ROW],
             dead: vec![0; DEAD_ROW],
-            output: vec![0; 65_536],
-            second: vec![0; 65_536],
-            store: vec![0; STORE_ROOM],
+            rooms: Rooms::with_outputs(65_536, 65_536),
         }
     }
 }
@@ -29,13 +25,12 @@ impl Default for Lent {
 impl Lent {
     /// The proved run of a text.
     pub fn run_proved(&mut self, text: &[u8]) -> Ran {
-        let Lent { nodes, dead, output, second, store } = self;
-        run(text, FUEL_LIMIT, nodes, dead, output, second, store)
+        let Lent { nodes, dead, rooms } = self;
+        run(text, FUEL_LIMIT, nodes, dead, rooms)
     }
 
     /// The reference's.
     pub fn run_reference(&mut self, text: &[u8]) -> Ran {
-        let Lent { output, second, store, .. } = self;
-        reference::run(text, FUEL_LIMIT, NODE_ROW, DEAD_ROW, output, second, store)
+        reference::run(text, FUEL_LIMIT, NODE_ROW, DEAD_ROW, &mut self.rooms)
     }
 }

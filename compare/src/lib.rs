@@ -5,7 +5,7 @@ pub mod cases;
 pub mod lent;
 pub mod sets;
 
-use stage2_reference::{Checked, Fitted, Ran};
+use stage2_reference::{Checked, Fitted, Ran, Rooms};
 
 /// A node's `element` where it is no literal byte.
 pub const END_KEY: u16 = 256;
@@ -48,6 +48,7 @@ struct RawRan {
     output: u64,
     second: u64,
     store: u64,
+    report: u64,
 }
 
 // As include/stage2.h declares them.
@@ -77,6 +78,8 @@ extern "C" {
         second_count: usize,
         store: *mut u8,
         store_count: usize,
+        report: *mut u8,
+        report_count: usize,
     ) -> RawRan;
 }
 
@@ -110,16 +113,9 @@ pub fn fit(text: &[u8], nodes: &mut [Node], dead: &mut [u8], line: &[u8]) -> Fit
     }
 }
 
-/// Runs a text. `output` is channel 3, `second` channel 4.
-pub fn run(
-    text: &[u8],
-    fuel: u64,
-    nodes: &mut [Node],
-    dead: &mut [u8],
-    output: &mut [u8],
-    second: &mut [u8],
-    store: &mut [u8],
-) -> Ran {
+/// Runs a text.
+pub fn run(text: &[u8], fuel: u64, nodes: &mut [Node], dead: &mut [u8], rooms: &mut Rooms) -> Ran {
+    let Rooms { output, second, store, report } = rooms;
     let raw = unsafe {
         stage2_run(
             text.as_ptr(),
@@ -135,6 +131,8 @@ pub fn run(
             second.len(),
             store.as_mut_ptr(),
             store.len(),
+            report.as_mut_ptr(),
+            report.len(),
         )
     };
     Ran {
@@ -144,5 +142,6 @@ pub fn run(
         output: raw.output,
         second: raw.second,
         store: raw.store,
+        report: raw.report,
     }
 }

@@ -1,7 +1,7 @@
 //! The proved programs and the command `./expand` as they are called: on files
 //! that are missing, folders, pipes and files without an end, with too many
-//! arguments, with a file for channel 4, and where standard output or that file
-//! takes nothing.
+//! arguments, with files for channel 4 and the usage report, and where standard
+//! output or one of those files takes nothing.
 
 mod files;
 
@@ -114,7 +114,7 @@ fn expand_says_what_is_wrong() {
         assert_eq!(called(&command(), &[bad]).status.code(), Some(102));
     }
     let usage = "expand: give the file of a text, or nothing to expand standard input; \
-        then -4 and a file for channel 4, or nothing\n";
+        then -4 and a file for channel 4, or nothing; then --report and a file for the usage report, or nothing\n";
     assert_eq!(said(&program("expand"), &[&text, &text]), usage);
     assert_eq!(said(&program("expand"), &["--help"]), usage);
     assert_eq!(called(&command(), &[&text, &text]).status.code(), Some(100));
@@ -156,6 +156,68 @@ fn expand_writes_channel_4_to_its_file() {
     assert_eq!(programs::expand(BOTH_FAULT, OUTPUT_ROOM).second, b"style\n");
 }
 
+/// Calls with a text and files for channel 4 and the report, which hold something before,
+/// and compares all that is written with the reference.
+struct Reported<'a> {
+    bytes: &'a [u8],
+    text: &'a str,
+    second: &'a str,
+    uses: &'a str,
+}
+
+impl Reported<'_> {
+    /// Without the file of the text it is the text on standard input. Gives the status.
+    fn compare(&self, path: &Path, arguments: &[&str]) -> Option<i32> {
+        let input = if arguments.contains(&self.text) { b"" } else { self.bytes };
+        let channel = arguments.contains(&"-4");
+        let expected = programs::expand(self.bytes, if channel { OUTPUT_ROOM } else { 0 });
+        for file in [self.second, self.uses] {
+            fs::write(file, [b'x'; 3_000]).unwrap();
+        }
+        let output = called_with(path, arguments, input);
+        assert_eq!(output.stdout, expected.printed, "{arguments:?}");
+        assert!(output.stderr.is_empty(), "{arguments:?}");
+        assert_eq!(fs::read(self.uses).unwrap(), expected.report, "{arguments:?}");
+        assert!(!channel || fs::read(self.second).unwrap() == expected.second, "{arguments:?}");
+        output.status.code()
+    }
+}
+
+/// The report alone, and beside channel 4. The program takes its arguments in one order,
+/// the command in all.
+#[test]
+fn expand_writes_the_report_to_its_file() {
+    let (second, uses) = (scratch("uses.second"), scratch("uses.report"));
+    for (bytes, alone, both) in
+        [(BOTH, 13, 0), (BOTH_FAULT, 13, 15), (TEXT, 0, 0), (FAULT, 15, 15), (b"", 3, 3)]
+    {
+        let text = &file("uses.text", bytes);
+        let reported = Reported { bytes, text, second: &second, uses: &uses };
+        let (channel, report) = (["-4", &second], ["--report", &uses]);
+        let ordered: [&[&[&str]]; 4] =
+            [&[&report], &[&[text], &report], &[&channel, &report], &[&[text], &channel, &report]];
+        let others: [&[&[&str]]; 7] = [
+            &[&report, &[text]],
+            &[&report, &channel],
+            &[&[text], &report, &channel],
+            &[&channel, &[text], &report],
+            &[&channel, &report, &[text]],
+            &[&report, &[text], &channel],
+            &[&report, &channel, &[text]],
+        ];
+        for parts in ordered {
+            reported.compare(&program("expand"), &parts.concat());
+        }
+        for parts in ordered.iter().chain(&others) {
+            let arguments = parts.concat();
+            let status = if arguments.contains(&"-4") { both } else { alone };
+            assert_eq!(reported.compare(&command(), &arguments), Some(status), "{arguments:?}");
+        }
+    }
+    assert_eq!(programs::expand(BOTH, OUTPUT_ROOM).report, b"template,calls\n2,1\n0,1\n");
+    assert!(programs::expand(b"", 0).report.is_empty());
+}
+
 #[test]
 fn channel_4_has_no_room_without_its_file() {
     let text = file("no-room.text", BOTH);
@@ -166,47 +228,89 @@ fn channel_4_has_no_room_without_its_file() {
     assert_eq!(called(&command(), &[&text]).status.code(), Some(13));
 }
 
-/// Nothing is printed, for nothing is run before the file can be written.
+/// Nothing is printed, for nothing is run before the files can be written. The last one
+/// can be opened, and takes no byte.
 #[test]
-fn a_file_for_channel_4_that_cannot_be_written_is_told() {
-    let text = file("unwritten.text", BOTH);
-    for bad in ["/", "/no such folder/styles", ""] {
+fn a_file_that_cannot_be_written_is_told() {
+    let (text, good) = (file("unwritten.text", BOTH), scratch("written"));
+    for bad in ["/", "/no such folder/styles", "", "/dev/full"] {
         let message = format!("expand: {bad} cannot be written\n");
-        for path in [program("expand"), command()] {
-            assert_eq!(said(&path, &[&text, "-4", bad]), message);
+        let calls: [&[&str]; 4] = [
+            &[&text, "-4", bad],
+            &[&text, "--report", bad],
+            &[&text, "-4", bad, "--report", &good],
+            &[&text, "-4", &good, "--report", bad],
+        ];
+        for arguments in calls {
+            for path in [program("expand"), command()] {
+                assert_eq!(said(&path, arguments), message, "{arguments:?}");
+            }
+            assert_eq!(called(&command(), arguments).status.code(), Some(106), "{arguments:?}");
         }
-        assert_eq!(called(&command(), &[&text, "-4", bad]).status.code(), Some(106));
     }
-    // It can be opened, and takes no byte.
-    for path in [program("expand"), command()] {
-        let output = called(&path, &[&text, "-4", "/dev/full"]);
-        assert_eq!(output.stderr, b"expand: /dev/full cannot be written\n");
-    }
-    assert_eq!(called(&command(), &[&text, "-4", "/dev/full"]).status.code(), Some(106));
 }
 
-/// A call that is wrong leaves the file for channel 4 as it is.
+/// The file for channel 4 is opened before that for the report, and both before anything
+/// is run.
+#[test]
+fn files_are_opened_in_order() {
+    let text = file("opened.text", BOTH);
+    let good = scratch("opened");
+    for path in [program("expand"), command()] {
+        assert_eq!(
+            said(&path, &[&text, "-4", "/", "--report", "/no such folder/uses"]),
+            "expand: / cannot be written\n"
+        );
+        for (arguments, left) in
+            [([&text[..], "-4", "/", "--report", &good], "kept"), ([&text, "-4", &good, "--report", "/"], "")]
+        {
+            fs::write(&good, "kept").unwrap();
+            assert_eq!(said(&path, &arguments), "expand: / cannot be written\n");
+            assert_eq!(fs::read_to_string(&good).unwrap(), left, "{arguments:?}");
+        }
+    }
+}
+
+/// A call that is wrong leaves the files for channel 4 and the report as they are.
 #[test]
 fn a_wrong_call_writes_no_file() {
     let (text, second) = (file("wrong-second.text", BOTH), file("wrong.second", b"kept"));
-    let unread = ["no such file", "-4", &second];
+    let uses = file("wrong.report", b"kept");
+    let unread = ["no such file", "-4", &second, "--report", &uses];
     for path in [program("expand"), command()] {
         assert_eq!(said(&path, &unread), "expand: no such file cannot be read\n");
-        let wrong: [&[&str]; 5] = [
-            &["-4"],
-            &[&text, "-4"],
-            &[&text, &text, "-4", &second],
-            &[&text, "-4", &second, &text],
-            &[&text, "-4", &second, "-4", &second],
-        ];
-        for arguments in wrong {
-            assert!(said(&path, arguments).starts_with("expand: "), "{arguments:?}");
-            let status = called(&command(), arguments).status.code();
-            assert_eq!(status, Some(100), "{arguments:?}");
-        }
     }
     assert_eq!(called(&command(), &unread).status.code(), Some(102));
-    assert_eq!(fs::read(&second).unwrap(), b"kept");
+    let wrong: [&[&str]; 10] = [
+        &["-4"],
+        &["--report"],
+        &[&text, "-4"],
+        &[&text, "--report"],
+        &[&text, &text, "-4", &second],
+        &[&text, &text, "--report", &uses],
+        &[&text, "-4", &second, &text],
+        &[&text, "-4", &second, "-4", &second],
+        &[&text, "--report", &uses, "--report", &uses],
+        &[&text, "-4", &second, "--report", &uses, &text],
+    ];
+    for arguments in wrong {
+        for path in [program("expand"), command()] {
+            assert!(said(&path, arguments).starts_with("expand: "), "{arguments:?}");
+        }
+        assert_eq!(called(&command(), arguments).status.code(), Some(100), "{arguments:?}");
+    }
+    // The command takes another order, and no name that begins as an option does.
+    for arguments in [&["--report", &uses, &text][..], &[&text, "--report", &uses, "-4", &second]] {
+        assert!(said(&program("expand"), arguments).starts_with("expand: "), "{arguments:?}");
+    }
+    // Nor does it take one file for both.
+    let refused: [&[&str]; 3] =
+        [&["-4", "--report"], &["--report", "-4"], &[&text, "-4", &second, "--report", &second]];
+    for arguments in refused {
+        assert!(said(&command(), arguments).starts_with("expand: "), "{arguments:?}");
+        assert_eq!(called(&command(), arguments).status.code(), Some(100), "{arguments:?}");
+    }
+    assert_eq!([second, uses].map(|file| fs::read(file).unwrap()), [b"kept", b"kept"]);
 }
 
 #[test]

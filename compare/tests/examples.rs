@@ -6,7 +6,7 @@ mod files;
 use std::collections::BTreeSet;
 use std::path::PathBuf;
 
-use files::{assert_expanded, expanded, files, read, root};
+use files::{assert_expanded, expanded, files, read, root, OPTIONS};
 
 /// The texts of a folder below examples/, in order of their names.
 fn texts(folder: &str) -> Vec<PathBuf> {
@@ -44,14 +44,15 @@ fn every_number_has_an_example() {
 }
 
 /// Every indented line of the guide stands in an example, or in what it writes to
-/// one of its outputs.
+/// one of its outputs or as its report.
 #[test]
 fn the_guide_shows_examples() {
     let guide = String::from_utf8(read(&root().join("docs/TEMPLATES.md"))).unwrap();
     let mut known = BTreeSet::new();
     for text in texts("guide") {
-        let second = Some(text.with_extension("second")).filter(|file| file.is_file());
-        for file in [text.clone(), text.with_extension("out")].into_iter().chain(second) {
+        let beside = OPTIONS.map(|(_, ending)| text.with_extension(ending)).into_iter();
+        let written = beside.filter(|file| file.is_file());
+        for file in [text.clone(), text.with_extension("out")].into_iter().chain(written) {
             known.extend(String::from_utf8(read(&file)).unwrap().lines().map(str::to_string));
         }
     }

@@ -220,7 +220,7 @@ fn a_run_of_the_worst_lines_is_fast() {
         let mut lent = Lent::default();
         let ran = lent.run_proved(&text);
         assert_eq!((ran.number, ran.events), (0, 100));
-        assert!(lent.output[..ran.output as usize] == lines);
+        assert!(lent.rooms.output[..ran.output as usize] == lines);
         least_times(5, [&text])
     });
     println!("100 lines: {time:.1?}");

@@ -6,8 +6,8 @@ mod files;
 use std::ffi::OsStr;
 use std::path::{Path, PathBuf};
 
-use files::{answer, assert_expanded, expanded, expanded_with_second, files, read, root, Scratch};
-use stage2_reference::programs::{self, OUTPUT_ROOM};
+use files::{answer, assert_expanded, expanded, expanded_with, files, read, root, Scratch, OPTIONS};
+use stage2_reference::programs::{self, Expanded, OUTPUT_ROOM};
 
 fn vectors() -> PathBuf {
     root().join("vectors")
@@ -79,12 +79,24 @@ fn many_lines() {
 
 #[test]
 fn run_vectors() {
-    for (folder, least) in [("run", 300), ("published", 30)] {
+    for (folder, least, least_reports) in [("run", 300, 30), ("published", 30, 0)] {
         let folder = vectors().join(folder);
         let texts = files(&folder, "text");
         assert!(texts.len() >= least && files(&folder, "second").len() >= 10);
+        assert!(files(&folder, "report").len() >= least_reports);
         texts.iter().for_each(|text| assert_expanded(text));
     }
+}
+
+/// Compares all that `expand` writes for a text, with files for channel 4 and the report,
+/// with the reference; gives what that writes.
+fn compare(bytes: &[u8], case: &str) -> Expanded {
+    let text = Scratch::new("compared.text", bytes);
+    let (output, written) = expanded_with(EXPAND, text.path(), &OPTIONS.map(|(option, _)| option));
+    let expected = programs::expand(bytes, OUTPUT_ROOM);
+    assert!(output.stdout == expected.printed, "{case}");
+    assert!(written[0] == expected.second && written[1] == expected.report, "{case}");
+    expected
 }
 
 #[test]
@@ -97,9 +109,7 @@ fn long_texts_expanded() {
             expanded(EXPAND, text.path()).stdout == programs::expand(&long, 0).printed,
             "length {length}"
         );
-        let (output, second) = expanded_with_second(EXPAND, text.path());
-        let expected = programs::expand(&long, OUTPUT_ROOM);
-        assert!(output.stdout == expected.printed && second == expected.second, "length {length}");
+        compare(&long, &format!("length {length}"));
     }
 }
 
@@ -109,11 +119,8 @@ fn both_outputs_up_to_the_last_byte() {
     for (first, second) in [(4_096, 4_096), (4_097, 4_096), (4_096, 4_097), (0, 4_096), (0, 4_097)] {
         let body = format!("{first}!F7\nchannel 3: line!F1\n!F8\n{second}!F7\nchannel 4: line!F14\n!F8\n");
         let bytes = format!("$!$!0 (+-*/)\nGO$\n{body}$$\nGO\n").into_bytes();
-        let text = Scratch::new("both.text", &bytes);
-        let (output, written) = expanded_with_second(EXPAND, text.path());
-        let expected = programs::expand(&bytes, OUTPUT_ROOM);
+        let expected = compare(&bytes, &format!("{first} {second}"));
         assert_eq!(expected.second.len(), if first > 4_096 { 0 } else { 65_536 }, "{first} {second}");
-        assert!(output.stdout == expected.printed && written == expected.second, "{first} {second}");
     }
 }
 

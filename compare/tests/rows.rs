@@ -8,7 +8,7 @@ use common::{for_places_texts, for_texts, for_tree_texts, shown};
 use files::{files_below, read, root};
 use stage2_compare::{fit, run, Node, END_KEY, PLACEHOLDER_KEY, ROOT_KEY};
 use stage2_reference::generate::{Generator, Size};
-use stage2_reference::{self as reference, most_places, Element, RowNode, DEAD_ROW, NODE_ROW, STORE_ROOM};
+use stage2_reference::{self as reference, most_places, Element, Rooms, RowNode, DEAD_ROW, NODE_ROW};
 
 /// What every node of a row holds before a call: nothing that a tree has.
 const UNTOUCHED: Node =
@@ -88,17 +88,14 @@ fn difference(row: &[Node], expected: &[RowNode]) -> Option<String> {
 }
 
 /// What calls are lent, apart from the row.
-struct Rooms {
+struct Others {
     dead: Vec<u8>,
-    output: Vec<u8>,
-    second: Vec<u8>,
-    store: Vec<u8>,
+    rooms: Rooms,
 }
 
-impl Rooms {
-    fn new() -> Rooms {
-        let room = || vec![0; 65_536];
-        Rooms { dead: vec![0; DEAD_ROW], output: room(), second: room(), store: vec![0; STORE_ROOM] }
+impl Others {
+    fn new() -> Others {
+        Others { dead: vec![0; DEAD_ROW], rooms: Rooms::with_outputs(65_536, 65_536) }
     }
 
     /// The row that fitting a line leaves.
@@ -111,9 +108,8 @@ impl Rooms {
 
     /// The row that a run leaves.
     fn ran(&mut self, text: &[u8]) -> Vec<Node> {
-        let Rooms { dead, output, second, store } = self;
         let mut row = vec![UNTOUCHED; NODE_ROW];
-        let ran = run(text, FUEL, &mut row, dead, output, second, store);
+        let ran = run(text, FUEL, &mut row, &mut self.dead, &mut self.rooms);
         assert!(ran.number == 0 || ran.number > 10, "run, {}: {}", ran.number, shown(text));
         row
     }
@@ -135,9 +131,12 @@ impl Rooms {
 /// What the trees of many texts had in them.
 #[derive(Debug, Default)]
 struct Met {
+    /// Texts that load.
     texts: usize,
-    most_nodes: usize,
-    most_children: usize,
+    /// Trees of more than 1,000 nodes.
+    large: usize,
+    /// Nodes with more than 60 children.
+    wide: usize,
     /// Nodes with literals, an end and a placeholder child.
     all_kinds: usize,
     /// Nodes with literals over 127 and others.
@@ -148,7 +147,7 @@ struct Met {
 impl Met {
     fn add(&mut self, row: &[RowNode]) {
         self.texts += 1;
-        self.most_nodes = self.most_nodes.max(row.len());
+        self.large += usize::from(row.len() > 1_000);
         for node in row {
             let children = &row[node.first..node.first + node.count];
             let has =
@@ -156,7 +155,7 @@ impl Met {
             let low = has(|element| matches!(element, Element::Literal(..=127)));
             let high = has(|element| matches!(element, Element::Literal(128..)));
             let (end, placeholder) = (has(|is| is == Element::End), has(|is| is == Element::Placeholder));
-            self.most_children = self.most_children.max(node.count);
+            self.wide += usize::from(node.count > 60);
             self.all_kinds += usize::from((low || high) && end && placeholder);
             self.high_bytes += usize::from(low && high);
             self.empty_templates += usize::from(node.element.is_none() && end);
@@ -166,11 +165,11 @@ impl Met {
 
 #[test]
 fn vectors_and_examples() {
-    let mut rooms = Rooms::new();
+    let mut others = Others::new();
     for (folder, least) in [("vectors", 250), ("examples", 25)] {
         let mut met = Met::default();
         for file in files_below(&root().join(folder), "text") {
-            if let Some(row) = rooms.compare(&read(&file), b"AB") {
+            if let Some(row) = others.compare(&read(&file), b"AB") {
                 met.add(&row);
             }
         }
@@ -179,44 +178,49 @@ fn vectors_and_examples() {
     }
 }
 
-/// Compares the rows of random texts, each with a line that resembles a template.
-fn compare_random(for_texts: impl FnOnce(&mut dyn FnMut(&mut Generator, &[u8]))) -> Met {
-    let mut rooms = Rooms::new();
-    let mut met = Met::default();
+/// Compares the rows of random texts, each with a line that resembles a template. Of a
+/// hundred texts so many must load.
+fn compare_random(least: usize, for_texts: impl FnOnce(&mut dyn FnMut(&mut Generator, &[u8]))) -> Met {
+    let mut others = Others::new();
+    let (mut tried, mut met) = (0, Met::default());
     for_texts(&mut |generator, text| {
+        tried += 1;
         let mut line = generator.line(text, Size::Large);
         line.truncate(200);
-        if let Some(row) = rooms.compare(text, &line) {
+        if let Some(row) = others.compare(text, &line) {
             met.add(&row);
         }
     });
-    println!("{met:?}");
+    println!("of {tried} texts: {met:?}");
+    assert!(met.texts * 100 >= tried * least, "of {tried} texts: {met:?}");
     met
 }
 
 #[test]
 fn small_texts() {
-    compare_random(|test| for_texts(Size::Small, test));
+    compare_random(75, |test| for_texts(Size::Small, test));
 }
 
 #[test]
 fn large_texts() {
-    compare_random(|test| for_texts(Size::Large, test));
+    compare_random(75, |test| for_texts(Size::Large, test));
 }
 
 #[test]
 fn texts_about_places() {
-    compare_random(|test| for_places_texts(Size::Large, test));
+    compare_random(90, |test| for_places_texts(Size::Large, test));
 }
 
-/// Texts of many templates; all kinds of nodes must be among theirs, unless the texts
-/// are few.
+/// Texts of many templates; all kinds of trees and nodes must be among theirs: one in so
+/// many texts, at least.
 #[test]
 fn texts_of_templates_alone() {
-    let met = compare_random(|test| for_tree_texts(test));
-    let each = [met.all_kinds, met.high_bytes, met.empty_templates];
-    let wide = met.most_nodes > 1_000 && met.most_children > 60;
-    assert!(met.texts < 1_000 || wide && each.iter().all(|&count| count > 100), "{met:?}");
+    let met = compare_random(95, |test| for_tree_texts(test));
+    for (count, texts) in
+        [(met.large, 60), (met.wide, 250), (met.all_kinds, 2), (met.high_bytes, 1), (met.empty_templates, 4)]
+    {
+        assert!(count >= met.texts / texts, "{count} in {texts} texts each: {met:?}");
+    }
 }
 
 /// The row as the library would leave it.

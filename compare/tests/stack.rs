@@ -9,7 +9,7 @@ use std::ptr;
 use common::Rows;
 use stage2_compare::cases::nested as nested_brackets;
 use stage2_compare::{check, fit, run};
-use stage2_reference::{self as reference, DEAD_ROW, FUEL_LIMIT, NODE_ROW, STORE_ROOM};
+use stage2_reference::{self as reference, Rooms, DEAD_ROW, FUEL_LIMIT, NODE_ROW};
 
 /// What the header asks for.
 const RUN_STACK: usize = 256 * 1024;
@@ -104,17 +104,16 @@ fn a_run_takes_no_more_than_the_header_says() {
     let mut most = 0;
     for parameter in parameters {
         let text = nested(&[&parameter]) + "copied\n";
-        let (mut rows, mut output, mut store) = (Rows::least(), vec![0; 65_536], vec![0; STORE_ROOM]);
-        let mut second = output.clone();
+        let (mut rows, mut rooms) = (Rows::least(), Rooms::with_outputs(65_536, 65_536));
         let (nodes, dead) = rows.lend(NODE_ROW, DEAD_ROW);
         let mut ran = None;
         let taken = stack_of(&mut || {
-            ran = Some(run(text.as_bytes(), FUEL_LIMIT, nodes, dead, &mut output, &mut second, &mut store));
+            ran = Some(run(text.as_bytes(), FUEL_LIMIT, nodes, dead, &mut rooms));
         });
         println!("{taken} bytes of stack: {ran:?}");
         assert!(ran.unwrap().events > 20, "the calls are not nested: {ran:?}");
         let written = format!("{}\ncopied\n", &parameter[..1]);
-        assert!(second.starts_with(written.as_bytes()), "nothing is written to channel 4: {ran:?}");
+        assert!(rooms.second.starts_with(written.as_bytes()), "nothing is written to channel 4: {ran:?}");
         most = most.max(taken);
     }
     assert!(most <= RUN_STACK, "{most} bytes of stack");

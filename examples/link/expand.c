@@ -1,4 +1,4 @@
-/* Expands one text with the library, and prints both outputs, the answer and the stored names.
+/* Expands one text with the library, and prints both outputs, the answer, the stored names and the usage report.
  *
  *     rt staticlib api
  *     cc -Iinclude examples/link/expand.c target/staticlib/libapi.a -o expand_c
@@ -13,6 +13,7 @@ static uint8_t dead[STAGE2_DEAD];
 static uint8_t output[65536];
 static uint8_t second[65536];
 static uint8_t store[STAGE2_STORE];
+static uint8_t report[STAGE2_REPORT];
 
 int main(void) {
     const char *text =
@@ -29,12 +30,13 @@ int main(void) {
         "$$\n"
         "NAME Kern &amp; Co$\n";
     stage2_ran ran = stage2_run((const uint8_t *)text, strlen(text), 1000000, nodes, STAGE2_NODES, dead, sizeof dead,
-                                output, sizeof output, second, sizeof second, store, sizeof store);
+                                output, sizeof output, second, sizeof second, store, sizeof store, report, sizeof report);
     puts("channel 3:");
     fwrite(output, 1, ran.output, stdout);
     puts("channel 4:");
     fwrite(second, 1, ran.second, stdout);
     printf("number %d, line %d, events %d\n", (int)ran.number, (int)ran.line, (int)ran.events);
     fwrite(store, 1, ran.store, stdout);
+    fwrite(report, 1, ran.report, stdout);
     return 0;
 }

@@ -1,4 +1,4 @@
-//! Expands one text with the library, and prints both outputs, the answer and the stored names.
+//! Expands one text with the library, and prints both outputs, the answer, the stored names and the usage report.
 //!
 //!     rt staticlib api
 //!     rustc -O -L target/staticlib -l static=api examples/link/expand.rs -o expand_rust
@@ -13,6 +13,7 @@ struct Ran {
     output: u64,
     second: u64,
     store: u64,
+    report: u64,
 }
 
 #[repr(C)]
@@ -42,21 +43,25 @@ extern "C" {
         second_count: usize,
         store: *mut u8,
         store_count: usize,
+        report: *mut u8,
+        report_count: usize,
     ) -> Ran;
 }
 
-/// What a run leaves: its answer, both outputs and the store's listing.
+/// What a run leaves: its answer, both outputs, the store's listing and the usage report.
 struct Left {
     ran: Ran,
     output: Vec<u8>,
     second: Vec<u8>,
     store: Vec<u8>,
+    report: Vec<u8>,
 }
 
 fn run(text: &[u8], fuel: u64) -> Left {
     let mut nodes = vec![Node::default(); 2048];
     let mut dead = vec![0; 51456];
-    let (mut output, mut second, mut store) = (vec![0; 65536], vec![0; 65536], vec![0; 8704]);
+    let (mut output, mut second) = (vec![0; 65536], vec![0; 65536]);
+    let (mut store, mut report) = (vec![0; 8704], vec![0; 2048]);
     // Every slice is passed with its own length, and the mutable ones don't overlap.
     let ran = unsafe {
         stage2_run(
@@ -73,12 +78,15 @@ fn run(text: &[u8], fuel: u64) -> Left {
             second.len(),
             store.as_mut_ptr(),
             store.len(),
+            report.as_mut_ptr(),
+            report.len(),
         )
     };
     output.truncate(ran.output as usize);
     second.truncate(ran.second as usize);
     store.truncate(ran.store as usize);
-    Left { ran, output, second, store }
+    report.truncate(ran.report as usize);
+    Left { ran, output, second, store, report }
 }
 
 fn main() {
@@ -86,11 +94,12 @@ fn main() {
         NAME !&amp;!$\nNAME !10&!20$\n$\n\
         NAME !$\n!10!26$\nfamily!16$\n!F3$\n!20!F13$\nh1 { font-family: !20; }!F14$\n$$\n\
         NAME Kern &amp; Co$\n";
-    let Left { ran, output, second, store } = run(text, 1_000_000);
+    let Left { ran, output, second, store, report } = run(text, 1_000_000);
     println!("channel 3:");
     stdout().write_all(&output).unwrap();
     println!("channel 4:");
     stdout().write_all(&second).unwrap();
     println!("number {}, line {}, events {}", ran.number, ran.line, ran.events);
     stdout().write_all(&store).unwrap();
+    stdout().write_all(&report).unwrap();
 }

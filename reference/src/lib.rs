@@ -1,8 +1,8 @@
 //! An independent implementation of document 01, STAGE2 for name tables and
 //! export, with requests 1 (UTF-8), 2 (values of 64 bits), 3 (places), 4 (two
-//! outputs, and input lines copied to them), 5 (bytes read) and 6 (children side by
-//! side) of document 02. It is written from the documents alone so that others can
-//! be compared with it.
+//! outputs, and input lines copied to them), 5 (bytes read), 6 (children side by
+//! side) and 7 (usage report) of document 02. It is written from the documents alone
+//! so that others can be compared with it.
 //!
 //! The public calls are [`check`], [`fit`] and [`run`]. Each takes the text
 //! itself.
@@ -15,6 +15,7 @@ mod machine;
 mod number;
 mod output;
 pub mod programs;
+mod report;
 mod row;
 mod search;
 mod store;
@@ -40,6 +41,9 @@ pub const DEAD_ROW: usize = 51_456;
 /// The least legal length of the store's room.
 pub const STORE_ROOM: usize = store::LISTING_ROOM;
 
+/// The least legal length of the report's room.
+pub const REPORT_ROOM: usize = report::ROOM;
+
 /// What checking a text gives.
 #[derive(Clone, Copy, Debug, Default, PartialEq, Eq)]
 pub struct Checked {
@@ -60,8 +64,40 @@ pub struct Fitted {
     pub bytes: u64,
 }
 
-/// What a run gives; `output` (channel 3), `second` (channel 4) and `store` are
-/// lengths.
+/// The rooms that a run writes to: channel 3, channel 4, the store's listing and the
+/// usage report.
+#[derive(Clone, Debug, PartialEq, Eq)]
+pub struct Rooms {
+    pub output: Vec<u8>,
+    pub second: Vec<u8>,
+    pub store: Vec<u8>,
+    pub report: Vec<u8>,
+}
+
+impl Rooms {
+    /// Rooms with so many bytes for the outputs, and the least that are legal for the
+    /// others.
+    pub fn with_outputs(output: usize, second: usize) -> Rooms {
+        Rooms {
+            output: vec![0; output],
+            second: vec![0; second],
+            store: vec![0; STORE_ROOM],
+            report: vec![0; REPORT_ROOM],
+        }
+    }
+
+    /// What a run with this answer wrote to them, without the bytes beyond.
+    pub fn written(mut self, ran: &Ran) -> Rooms {
+        self.output.truncate(ran.output as usize);
+        self.second.truncate(ran.second as usize);
+        self.store.truncate(ran.store as usize);
+        self.report.truncate(ran.report as usize);
+        self
+    }
+}
+
+/// What a run gives; `output` (channel 3), `second` (channel 4), `store` and `report`
+/// are lengths.
 #[derive(Clone, Copy, Debug, Default, PartialEq, Eq)]
 pub struct Ran {
     pub number: u64,
@@ -70,6 +106,7 @@ pub struct Ran {
     pub output: u64,
     pub second: u64,
     pub store: u64,
+    pub report: u64,
 }
 
 /// Checks whether a text loads. `nodes` is the length of the lent node row.
@@ -140,24 +177,30 @@ pub fn counts(text: &[u8]) -> Option<Counts> {
     Some(Counts { macros: program.macros.len(), code_lines: program.code_lines, nodes: program.tree.size() })
 }
 
-/// Expands a text's input lines with at most `fuel` events. Bytes of `output`,
-/// `second` and `store` beyond the lengths in the result stay as they were.
-pub fn run(
+/// Expands a text's input lines with at most `fuel` events. Bytes of the rooms beyond
+/// the lengths in the result stay as they were.
+pub fn run(text: &[u8], fuel: u64, nodes: usize, dead: usize, rooms: &mut Rooms) -> Ran {
+    run_telling(text, fuel, nodes, dead, rooms, &mut |_| {})
+}
+
+/// The same, with each line that is offered told to `offered` once its event is counted.
+pub fn run_telling(
     text: &[u8],
     fuel: u64,
     nodes: usize,
     dead: usize,
-    output: &mut [u8],
-    second: &mut [u8],
-    store: &mut [u8],
+    rooms: &mut Rooms,
+    offered: &mut dyn FnMut(&[u8]),
 ) -> Ran {
-    if !(1..=FUEL_LIMIT).contains(&fuel) || dead < DEAD_ROW || store.len() < STORE_ROOM {
+    let Rooms { output, second, store, report } = rooms;
+    let short = dead < DEAD_ROW || store.len() < STORE_ROOM || report.len() < REPORT_ROOM;
+    if !(1..=FUEL_LIMIT).contains(&fuel) || short {
         return Ran { number: Number::Rooms.into(), ..Ran::default() };
     }
     match load::load(text, nodes) {
         Err(refusal) => Ran { number: refusal.number.into(), line: refusal.line, ..Ran::default() },
         Ok(program) => {
-            let outcome = machine::expand(&program, fuel, output, second);
+            let outcome = machine::expand(&program, fuel, output, second, offered);
             Ran {
                 number: outcome.number.into(),
                 line: outcome.line,
@@ -165,6 +208,7 @@ pub fn run(
                 output: outcome.output as u64,
                 second: outcome.second as u64,
                 store: outcome.store.list(store) as u64,
+                report: outcome.uses.report(&program.macros, report) as u64,
             }
         }
     }

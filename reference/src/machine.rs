@@ -5,6 +5,7 @@ use crate::code::{Channel, CodeLine, Comparison, Conversion, Ending, Part};
 use crate::load::{Macro, Program};
 use crate::number::Number;
 use crate::output::Output;
+use crate::report::Uses;
 use crate::search::{self, Reading};
 use crate::store::Store;
 use crate::text::{self, LINE_LIMIT};
@@ -26,11 +27,19 @@ pub struct Outcome {
     /// Bytes written to the second output.
     pub second: usize,
     pub store: Store,
+    pub uses: Uses,
 }
 
 /// Expands all input lines, writing channel 3 to `output` and channel 4 to `second`.
-pub fn expand(program: &Program, fuel: u64, output: &mut [u8], second: &mut [u8]) -> Outcome {
-    let mut machine = Machine::new(program, fuel, output, second);
+/// Each line that is offered is told to `offered` once its event is counted.
+pub fn expand(
+    program: &Program,
+    fuel: u64,
+    output: &mut [u8],
+    second: &mut [u8],
+    offered: &mut dyn FnMut(&[u8]),
+) -> Outcome {
+    let mut machine = Machine::new(program, fuel, output, second, offered);
     let number = machine.run();
     Outcome {
         number,
@@ -39,6 +48,7 @@ pub fn expand(program: &Program, fuel: u64, output: &mut [u8], second: &mut [u8]
         output: machine.output.length(),
         second: machine.second.length(),
         store: machine.store,
+        uses: machine.uses,
     }
 }
 
@@ -59,6 +69,9 @@ struct Machine<'p, 'o> {
     store: Store,
     output: Output<'o>,
     second: Output<'o>,
+    uses: Uses,
+    /// Who is told of the lines offered.
+    offered: &'o mut dyn FnMut(&[u8]),
 }
 
 /// An open call.
@@ -165,6 +178,7 @@ impl<'p, 'o> Machine<'p, 'o> {
         fuel: u64,
         output: &'o mut [u8],
         second: &'o mut [u8],
+        offered: &'o mut dyn FnMut(&[u8]),
     ) -> Machine<'p, 'o> {
         Machine {
             program,
@@ -178,6 +192,8 @@ impl<'p, 'o> Machine<'p, 'o> {
             store: Store::default(),
             output: Output::to(output),
             second: Output::to(second),
+            uses: Uses::none(program.macros.len()),
+            offered,
         }
     }
 
@@ -225,10 +241,14 @@ impl<'p, 'o> Machine<'p, 'o> {
         Some(text::content(line, self.program.marks.source_end))
     }
 
-    /// Opens a call for the line's first reading, or writes the line.
+    /// Opens a call for the line's first reading, or writes the line. It is counted as
+    /// soon as that is decided, whether or not there is room for the call or the line.
     fn offer(&mut self, line: &[u8]) -> Step {
         self.spend()?;
-        match search::fit(&self.program.tree, line, &self.program.marks).reading {
+        (self.offered)(line);
+        let reading = search::fit(&self.program.tree, line, &self.program.marks).reading;
+        self.uses.count(reading.as_ref().map(|reading| reading.template));
+        match reading {
             Some(reading) => self.open_call(line, &reading),
             None => self.output.write(line),
         }

@@ -1,7 +1,7 @@
 //! What the programs write, apart from reading files and arguments.
 
 use crate::text::lines;
-use crate::{check, fit, run, Fitted, DEAD_ROW, FUEL_LIMIT, NODE_ROW, STORE_ROOM};
+use crate::{check, fit, run, Fitted, Rooms, DEAD_ROW, FUEL_LIMIT, NODE_ROW};
 
 /// Bytes of output that `expand` has room for; of the second one too, where it is
 /// asked for.
@@ -13,19 +13,18 @@ pub struct Expanded {
     pub printed: Vec<u8>,
     /// To the file for channel 4.
     pub second: Vec<u8>,
+    /// To the file for the usage report: nothing where no run began.
+    pub report: Vec<u8>,
 }
 
 /// Expands a text. Channel 4 has no room unless `second_room` gives it one.
 pub fn expand(text: &[u8], second_room: usize) -> Expanded {
-    let mut printed = vec![0; OUTPUT_ROOM];
-    let mut second = vec![0; second_room];
-    let mut store = vec![0; STORE_ROOM];
-    let ran = run(text, FUEL_LIMIT, NODE_ROW, DEAD_ROW, &mut printed, &mut second, &mut store);
-    printed.truncate(ran.output as usize);
-    second.truncate(ran.second as usize);
+    let mut rooms = Rooms::with_outputs(OUTPUT_ROOM, second_room);
+    let ran = run(text, FUEL_LIMIT, NODE_ROW, DEAD_ROW, &mut rooms);
+    let Rooms { output: mut printed, second, report, .. } = rooms.written(&ran);
     let end = format!("END {} {} {}\n", ran.number, ran.line, ran.events);
     printed.extend_from_slice(end.as_bytes());
-    Expanded { printed, second }
+    Expanded { printed, second, report }
 }
 
 /// The line of `check_text` for one file.

@@ -47,9 +47,11 @@ fn run_row(body: &str, row: &[u8]) -> Left {
 fn assert_left(body: &str, row: &[u8], number: u64, events: u64, output: &str) {
     let left = run_row(body, row);
     let line = 4 + body.lines().count() as u64;
-    let expected = Ran { number, line, events, output: output.len() as u64, second: 0, store: 1 };
+    let output_length = output.len() as u64;
+    let expected = Ran { number, line, events, output: output_length, second: 0, store: 1, report: 23 };
     assert_eq!(left.ran, expected, "{body:?} {row:02X?}");
     assert_eq!(left.output, output.as_bytes(), "{body:?} {row:02X?}");
+    assert_eq!(left.report, b"template,calls\n2,1\n0,0\n", "{body:?} {row:02X?}");
 }
 
 #[test]

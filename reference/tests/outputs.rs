@@ -3,17 +3,12 @@
 
 mod common;
 
-use common::{run_text, Left, Rooms};
+use common::{run_text, text, Left, Sizes};
 use stage2_reference::{check, Checked, NODE_ROW};
 
 /// A line of so many bytes.
 fn row(length: usize) -> String {
     "x".repeat(length)
-}
-
-/// A text in the session's marks; `rest` is what follows the flag line.
-fn text(rest: &str) -> String {
-    format!("$!$!0 (+-*/)\n{rest}")
 }
 
 /// Compares a run with number, line and events, and with both outputs.
@@ -30,10 +25,10 @@ fn assert_left(rest: &str, end: [u64; 3], output: &str, second: &str) {
 }
 
 /// The same with rooms of their own.
-fn assert_rooms(rest: &str, rooms: [usize; 2], end: [u64; 3], output: &str, second: &str) {
-    let rooms = Rooms { output: rooms[0], second: rooms[1] };
-    let left = run_text(text(rest).as_bytes(), 1_000, rooms);
-    assert_run(&left, end, output, second, &format!("{rooms:?}: {rest}"));
+fn assert_rooms(rest: &str, sizes: [usize; 2], end: [u64; 3], output: &str, second: &str) {
+    let sizes = Sizes { output: sizes[0], second: sizes[1] };
+    let left = run_text(text(rest).as_bytes(), 1_000, sizes);
+    assert_run(&left, end, output, second, &format!("{sizes:?}: {rest}"));
 }
 
 /// What checking a text with one code line gives; the line's number is 3.

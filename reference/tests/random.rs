@@ -4,7 +4,7 @@ mod common;
 
 use std::collections::{BTreeMap, BTreeSet};
 
-use common::{run_text, Left, Rooms};
+use common::{run_text, shown, Left, Sizes};
 use stage2_reference::generate::{Generator, Size, SMALL_TEXT};
 use stage2_reference::{check, fit, looks, most_places, Fitted, Ran, DEAD_ROW, NODE_ROW};
 
@@ -34,13 +34,8 @@ fn for_made(
     }
 }
 
-fn any_rooms(generator: &mut Generator) -> Rooms {
-    Rooms { output: generator.room(), second: generator.room() }
-}
-
-/// The text for a message.
-fn shown(text: &[u8]) -> String {
-    text.escape_ascii().to_string()
+fn any_sizes(generator: &mut Generator) -> Sizes {
+    Sizes { output: generator.room(), second: generator.room() }
 }
 
 /// Both outputs of a run must go on where those of another end.
@@ -53,10 +48,10 @@ fn assert_continued(first: &Left, then: &Left, text: &[u8]) {
 fn more_fuel_only_continues() {
     let (mut ended, mut spent) = (0, 0);
     for_texts(11, 4_000, |generator, text| {
-        let rooms = any_rooms(generator);
+        let sizes = any_sizes(generator);
         let less = generator.fuel().clamp(1, 5_000);
         let more = less + generator.fuel().clamp(1, 5_000);
-        let (first, then) = (run_text(text, less, rooms), run_text(text, more, rooms));
+        let (first, then) = (run_text(text, less, sizes), run_text(text, more, sizes));
         if first.ran.number == 20 {
             spent += 1;
             assert_eq!(first.ran.events, less, "{}", shown(text));
@@ -74,7 +69,7 @@ fn more_fuel_only_continues() {
 fn more_room_only_continues() {
     let (mut full, mut second_full) = (0, 0);
     let mut test = |generator: &mut Generator, text: &[u8]| {
-        let less = Rooms { output: generator.room().min(60), second: generator.room().min(60) };
+        let less = Sizes { output: generator.room().min(60), second: generator.room().min(60) };
         let fuel = generator.fuel().clamp(1, 2_000);
         let (first, then) = (run_text(text, fuel, less), run_text(text, fuel, 65_536));
         if first.ran.number == 13 {
@@ -101,20 +96,20 @@ fn rooms_of_the_written_lengths_are_enough() {
     let mut test = |generator: &mut Generator, text: &[u8]| {
         let fuel = generator.fuel().clamp(1, 500);
         let whole = run_text(text, fuel, 65_536);
-        let rooms = Rooms { output: whole.output.len(), second: whole.second.len() };
-        assert_eq!(run_text(text, fuel, rooms), whole, "{}", shown(text));
-        let assert_full = |rooms: Rooms| {
-            let left = run_text(text, fuel, rooms);
-            assert_eq!(left.ran.number, 13, "{rooms:?}: {}", shown(text));
+        let sizes = Sizes { output: whole.output.len(), second: whole.second.len() };
+        assert_eq!(run_text(text, fuel, sizes), whole, "{}", shown(text));
+        let assert_full = |sizes: Sizes| {
+            let left = run_text(text, fuel, sizes);
+            assert_eq!(left.ran.number, 13, "{sizes:?}: {}", shown(text));
             assert_continued(&left, &whole, text);
         };
-        if rooms.output > 0 {
+        if sizes.output > 0 {
             outputs += 1;
-            assert_full(Rooms { output: rooms.output - 1, ..rooms });
+            assert_full(Sizes { output: sizes.output - 1, ..sizes });
         }
-        if rooms.second > 0 {
+        if sizes.second > 0 {
             seconds += 1;
-            assert_full(Rooms { second: rooms.second - 1, ..rooms });
+            assert_full(Sizes { second: sizes.second - 1, ..sizes });
         }
     };
     for_texts(18, 1_500, &mut test);
@@ -151,9 +146,9 @@ fn channel_4_is_another_place_for_the_same_lines() {
 #[test]
 fn a_result_keeps_to_its_row_of_the_table() {
     for_texts(13, 4_000, |generator, text| {
-        let (fuel, rooms) = (generator.fuel(), any_rooms(generator));
+        let (fuel, sizes) = (generator.fuel(), any_sizes(generator));
         // The lengths and what lies beyond them are compared in there.
-        let Left { ran, store, .. } = run_text(text, fuel, rooms);
+        let Left { ran, store, .. } = run_text(text, fuel, sizes);
         let checked = check(text, NODE_ROW);
         if !(1..=1_000_000).contains(&fuel) {
             assert_eq!((ran.number, ran.line), (1, 0));
@@ -210,8 +205,8 @@ fn a_run_begins_with_the_fitted_line() {
 fn the_generator_reaches_every_number() {
     let mut numbers = BTreeSet::new();
     for_texts(15, 8_000, |generator, text| {
-        let (fuel, rooms) = (generator.fuel().min(20_000), any_rooms(generator));
-        numbers.insert(run_text(text, fuel, rooms).ran.number);
+        let (fuel, sizes) = (generator.fuel().min(20_000), any_sizes(generator));
+        numbers.insert(run_text(text, fuel, sizes).ran.number);
     });
     let all: BTreeSet<u64> = (0..=21).filter(|&number| number != 10).collect();
     assert_eq!(numbers, all);
@@ -337,7 +332,7 @@ fn occurrences(text: &[u8]) -> [(&'static str, bool); 15] {
     [
         ("a line on channel 4", matters(text, "F14", "F10")),
         ("a layout on channel 4", matters(text, "\n!F14\n", "\n!F10\n")),
-        ("channel 4 is full", run_text(text, 500, Rooms { output: 8_192, second: 9 }).ran.number == 13),
+        ("channel 4 is full", run_text(text, 500, Sizes { output: 8_192, second: 9 }).ran.number == 13),
         ("a copy without digit", matters(text, "F2\n", "F20\n")),
         ("a copy to channel 3", matters(text, "F23", "F20")),
         ("a copy to channel 4", matters(text, "F24", "F20")),
@@ -391,11 +386,13 @@ fn small_texts_are_small_and_a_seed_decides() {
         assert!(first.places_text(Size::Small).len() <= SMALL_TEXT);
         assert!(first.brackets_text(Size::Small).len() <= SMALL_TEXT);
         assert!(first.output_text(Size::Small).len() <= SMALL_TEXT);
+        assert!(first.uses_text(Size::Small).len() <= SMALL_TEXT);
         second.character_text();
         second.value_text();
         second.places_text(Size::Small);
         second.brackets_text(Size::Small);
         second.output_text(Size::Small);
+        second.uses_text(Size::Small);
     }
     assert_ne!(Generator::new(4).text(Size::Small), Generator::new(5).text(Size::Small));
 }

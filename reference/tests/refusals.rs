@@ -1,31 +1,43 @@
 //! Numbers 1 to 9: which comes first, and that nothing is written.
 
-mod common;
-
-use common::pattern;
-use stage2_reference::{check, fit, run, Checked, Fitted, Ran, DEAD_ROW, FUEL_LIMIT, NODE_ROW, STORE_ROOM};
+use stage2_reference::generate::pattern;
+use stage2_reference::{
+    check, fit, run, Checked, Fitted, Ran, Rooms, DEAD_ROW, FUEL_LIMIT, NODE_ROW, REPORT_ROOM, STORE_ROOM,
+};
 
 const LOADS: &[u8] = b"$!$!0 (+-*/)\nA$\na!F1\n$$\nA\n";
 const FLAG_FAULT: &[u8] = b"$!$!0 (+-*/\nA$\n$$\n";
 
-/// The lengths of the rows and the store that a run is lent.
+/// The lengths of the rows, the store and the report that a run is lent.
 #[derive(Clone, Copy)]
-struct Rooms {
+struct Sizes {
     nodes: usize,
     dead: usize,
     store: usize,
+    report: usize,
 }
 
 /// The least that are legal.
-const LEAST: Rooms = Rooms { nodes: NODE_ROW, dead: DEAD_ROW, store: STORE_ROOM };
+const LEAST: Sizes = Sizes { nodes: NODE_ROW, dead: DEAD_ROW, store: STORE_ROOM, report: REPORT_ROOM };
 
-fn run_with(text: &[u8], fuel: u64, rooms: Rooms) -> Ran {
-    let (mut output, mut second) = (pattern(100), pattern(100));
-    let mut store = pattern(rooms.store);
-    let untouched = (output.clone(), second.clone(), store.clone());
-    let ran = run(text, fuel, rooms.nodes, rooms.dead, &mut output, &mut second, &mut store);
+/// For each of them this length, the others being legal.
+fn each_of(length: usize) -> [Sizes; 4] {
+    [
+        Sizes { nodes: length, ..LEAST },
+        Sizes { dead: length, ..LEAST },
+        Sizes { store: length, ..LEAST },
+        Sizes { report: length, ..LEAST },
+    ]
+}
+
+fn run_with(text: &[u8], fuel: u64, sizes: Sizes) -> Ran {
+    let Sizes { nodes, dead, store, report } = sizes;
+    let mut rooms =
+        Rooms { output: pattern(100), second: pattern(100), store: pattern(store), report: pattern(report) };
+    let untouched = rooms.clone();
+    let ran = run(text, fuel, nodes, dead, &mut rooms);
     if (1..=9).contains(&ran.number) {
-        assert_eq!((output, second, store), untouched);
+        assert_eq!(rooms, untouched);
         assert_eq!(ran, Ran { number: ran.number, line: ran.line, ..Ran::default() });
     }
     ran
@@ -37,18 +49,21 @@ fn causes_of_number_1() {
     for fuel in [0, FUEL_LIMIT + 1, u64::MAX] {
         assert_eq!(run_with(LOADS, fuel, LEAST), one);
     }
-    for nodes in [0, 2_047] {
-        assert_eq!(run_with(LOADS, 1, Rooms { nodes, ..LEAST }), one);
+    for sizes in each_of(0) {
+        assert_eq!(run_with(LOADS, 1, sizes), one);
     }
-    for dead in [0, 51_455] {
-        assert_eq!(run_with(LOADS, 1, Rooms { dead, ..LEAST }), one);
+    let short = [
+        Sizes { nodes: 2_047, ..LEAST },
+        Sizes { dead: 51_455, ..LEAST },
+        Sizes { store: 8_703, ..LEAST },
+        Sizes { report: 2_047, ..LEAST },
+    ];
+    for sizes in short {
+        assert_eq!(run_with(LOADS, 1, sizes), one);
     }
-    for store in [0, 8_703] {
-        assert_eq!(run_with(LOADS, 1, Rooms { store, ..LEAST }), one);
-    }
-    let least = Rooms { nodes: 2_048, dead: 51_456, store: 8_704 };
+    let least = Sizes { nodes: 2_048, dead: 51_456, store: 8_704, report: 2_048 };
     assert_eq!(run_with(LOADS, 2, least).number, 0);
-    let longer = Rooms { nodes: 2_049, dead: 51_457, store: 8_705 };
+    let longer = Sizes { nodes: 2_049, dead: 51_457, store: 8_705, report: 2_049 };
     assert_eq!(run_with(LOADS, FUEL_LIMIT, longer).number, 0);
 }
 
@@ -81,9 +96,9 @@ fn fitting_takes_the_row_of_dead_places() {
 fn one_before_two_before_three() {
     let with_zero = [FLAG_FAULT, &[0]].concat();
     assert_eq!(run_with(&with_zero, 0, LEAST).number, 1);
-    assert_eq!(run_with(&with_zero, 1, Rooms { nodes: 0, ..LEAST }).number, 1);
-    assert_eq!(run_with(&with_zero, 1, Rooms { dead: 0, ..LEAST }).number, 1);
-    assert_eq!(run_with(&with_zero, 1, Rooms { store: 0, ..LEAST }).number, 1);
+    for sizes in each_of(0) {
+        assert_eq!(run_with(&with_zero, 1, sizes).number, 1);
+    }
     assert_eq!(run_with(&with_zero, 1, LEAST), Ran { number: 2, ..Ran::default() });
     let refused = Ran { number: 3, line: 1, ..Ran::default() };
     assert_eq!(run_with(FLAG_FAULT, 1, LEAST), refused);

@@ -25,7 +25,8 @@ fn listing(names: &str, texts: &[&str]) -> Vec<u8> {
 fn an_empty_store_is_one_byte() {
     let left = stored("");
     assert_eq!(left.store, b"\n");
-    assert_eq!(left.ran, Ran { number: 0, line: 10, events: 0, output: 0, second: 0, store: 1 });
+    let ran = Ran { number: 0, line: 10, events: 0, output: 0, second: 0, store: 1, report: 31 };
+    assert_eq!(left.ran, ran);
 }
 
 #[test]
@@ -111,6 +112,6 @@ fn output_rooms_around_a_line() {
 #[test]
 fn channel_0_needs_no_room() {
     let text = b"$!$!0 (+-*/)\nA$\nab!F10\n!F10\n111\n$$\nA\n";
-    let ran = Ran { number: 0, line: 7, events: 3, output: 0, second: 0, store: 1 };
+    let ran = Ran { number: 0, line: 7, events: 3, output: 0, second: 0, store: 1, report: 23 };
     assert_eq!(run_text(text, 100, 0).ran, ran);
 }

@@ -29,24 +29,30 @@ fn shown(bytes: &[u8]) -> String {
     String::from_utf8_lossy(bytes).into_owned()
 }
 
-/// Compares every text of a folder with the output beside it; gives the number.
-/// Where there is a second output too, channel 4 has its room.
-fn compare_runs(folder: &Path) -> usize {
+/// Compares every text of a folder with the output beside it. Where there is a second
+/// output too, channel 4 has its room; where there is a report, that is compared. There
+/// must be so many of each.
+fn compare_runs(folder: &Path, least: [usize; 3]) {
     let texts = files(folder, "text");
-    let seconds = files(folder, "second");
+    let (seconds, reports) = (files(folder, "second"), files(folder, "report"));
     for path in &texts {
-        let second = path.with_extension("second");
+        let (second, report) = (path.with_extension("second"), path.with_extension("report"));
         let has_second = seconds.contains(&second);
         let got = programs::expand(&read(path), if has_second { OUTPUT_ROOM } else { 0 });
         assert_bytes(&got.printed, &path.with_extension("out"));
         if has_second {
             assert_bytes(&got.second, &second);
         }
+        if reports.contains(&report) {
+            assert_bytes(&got.report, &report);
+        }
     }
     assert_eq!(texts.len(), files(folder, "out").len(), "an output without its text");
-    assert!(seconds.iter().all(|path| texts.contains(&path.with_extension("text"))), "{seconds:?}");
-    assert!(seconds.len() >= 10, "few second outputs");
-    texts.len()
+    for path in seconds.iter().chain(&reports) {
+        assert!(texts.contains(&path.with_extension("text")), "{} without its text", path.display());
+    }
+    let met = [texts.len(), seconds.len(), reports.len()];
+    assert!(met.iter().zip(&least).all(|(met, least)| met >= least), "only {met:?}");
 }
 
 /// Compares bytes with those of a file.
@@ -58,12 +64,12 @@ fn assert_bytes(got: &[u8], path: &Path) {
 
 #[test]
 fn run_vectors() {
-    assert!(compare_runs(&vectors().join("run")) >= 300);
+    compare_runs(&vectors().join("run"), [300, 10, 30]);
 }
 
 #[test]
 fn published_vectors() {
-    assert!(compare_runs(&vectors().join("published")) >= 32);
+    compare_runs(&vectors().join("published"), [32, 10, 0]);
 }
 
 /// Every number that `expand` can give has a vector that says so in its name.
@@ -131,6 +137,9 @@ fn output_of(program: &str, arguments: &[&str], input: &[u8]) -> Vec<u8> {
 
 const EXPAND: &str = env!("CARGO_BIN_EXE_expand");
 
+/// What its message about wrong arguments begins with.
+const USAGE: &str = "expand: give the file of a text, or nothing";
+
 /// Writes a line to each output.
 const BOTH: &[u8] = b"$!$!0 (+-*/)\nA$\nstyle!F14\n$$\nA\nplain\n";
 
@@ -169,7 +178,46 @@ fn program_expand_with_a_second_file() {
     assert_eq!(expand_says(&[text, "-4", unwritten]), format!("expand: {unwritten} cannot be written\n"));
     assert_eq!(expand_says(&["absent", "-4", name]), "expand: absent cannot be read\n");
     for arguments in [&["-4"][..], &[text, "-4"], &[text, text], &[text, text, "-4", name]] {
-        assert!(expand_says(arguments).starts_with("expand: give one file, or none"), "{arguments:?}");
+        assert!(expand_says(arguments).starts_with(USAGE), "{arguments:?}");
+    }
+}
+
+#[test]
+fn program_expand_with_a_report() {
+    let folder = Path::new(env!("CARGO_TARGET_TMPDIR"));
+    let [text, second, uses] = ["used.text", "used.second", "used.report"].map(|name| folder.join(name));
+    fs::write(&text, BOTH).unwrap();
+    let [text, second, uses] = [&text, &second, &uses].map(|path| path.to_str().unwrap());
+    // With room for channel 4 and without.
+    let (both, alone) = ("plain\nEND 0 6 3\n", "END 13 5 2\n");
+    for (arguments, printed, counts) in [
+        (&["--report", uses][..], alone, "2,1\n0,0\n"),
+        (&[text, "--report", uses], alone, "2,1\n0,0\n"),
+        (&["-4", second, "--report", uses], both, "2,1\n0,1\n"),
+        (&[text, "-4", second, "--report", uses], both, "2,1\n0,1\n"),
+    ] {
+        fs::write(uses, [b'x'; 100]).unwrap();
+        assert_eq!(shown(&output_of(EXPAND, arguments, BOTH)), printed, "{arguments:?}");
+        let report = format!("template,calls\n{counts}");
+        assert_eq!(shown(&read(Path::new(uses))), report, "{arguments:?}");
+    }
+    // No run begins: the file is left empty.
+    assert_eq!(shown(&output_of(EXPAND, &["--report", uses], b"")), "END 3 1 0\n");
+    assert!(read(Path::new(uses)).is_empty());
+    let unwritten = folder.join("absent/uses");
+    let unwritten = unwritten.to_str().unwrap();
+    let message = format!("expand: {unwritten} cannot be written\n");
+    assert_eq!(expand_says(&[text, "--report", unwritten]), message);
+    assert_eq!(expand_says(&[text, "-4", unwritten, "--report", uses]), message);
+    assert_eq!(expand_says(&[text, "-4", second, "--report", unwritten]), message);
+    for arguments in [
+        &["--report"][..],
+        &[text, "--report"],
+        &[text, "--report", uses, "--report", uses],
+        &["--report", uses, text],
+        &["--report", uses, "-4", second],
+    ] {
+        assert!(expand_says(arguments).starts_with(USAGE), "{arguments:?}");
     }
 }
 

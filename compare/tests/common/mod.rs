@@ -57,6 +57,11 @@ pub fn for_output_texts(size: Size, test: impl FnMut(&mut Generator, &[u8])) {
     for_made(&format!("{size:?}, outputs"), |generator| generator.output_text(size), test);
 }
 
+/// Calls `test` with random texts about uses, of a size.
+pub fn for_uses_texts(size: Size, test: impl FnMut(&mut Generator, &[u8])) {
+    for_made(&format!("{size:?}, uses"), |generator| generator.uses_text(size), test);
+}
+
 /// Calls `test` with random texts of templates alone.
 pub fn for_tree_texts(test: impl FnMut(&mut Generator, &[u8])) {
     for_made("trees", Generator::tree_text, test);

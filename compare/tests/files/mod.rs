@@ -75,24 +75,43 @@ pub fn expanded(program: &str, text: &Path) -> Output {
     answer(program, |command| command.stdin(Stdio::from(file)))
 }
 
-/// What `expand` answers for a file and a file for channel 4, and what it writes
-/// to that.
-pub fn expanded_with_second(program: &str, text: &Path) -> (Output, Vec<u8>) {
-    let second = Scratch::new("second", b"what was there before");
-    let output = answer(program, |command| command.arg(text).arg("-4").arg(second.path()));
-    (output, read(second.path()))
+/// The options of `expand` that name a file, in the order in which they are given, and
+/// the endings of the files beside a text that say what is written there.
+pub const OPTIONS: [(&str, &str); 2] = [("-4", "second"), ("--report", "report")];
+
+/// What `expand` answers for a file and these options with a file each, and what it
+/// writes to those.
+pub fn expanded_with(program: &str, text: &Path, options: &[&str]) -> (Output, Vec<Vec<u8>>) {
+    let files: Vec<Scratch> =
+        options.iter().map(|option| Scratch::new(option, b"what was there before")).collect();
+    let output = answer(program, |command| {
+        let named = options.iter().zip(&files).flat_map(|(option, file)| [option, file.name()]);
+        command.arg(text).args(named)
+    });
+    (output, files.iter().map(|file| read(file.path())).collect())
 }
 
-/// Compares what `expand` prints for a text with the file beside it. Where there
-/// is one for the second output too, channel 4 has its room.
+/// The files beside a text that say what is written to the file of an option, each with
+/// its option.
+fn beside(text: &Path) -> Vec<(&'static str, PathBuf)> {
+    let files = OPTIONS.map(|(option, ending)| (option, text.with_extension(ending)));
+    files.into_iter().filter(|(_, file)| file.is_file()).collect()
+}
+
+/// Compares what `expand` prints for a text with the file beside it. Where there is one
+/// for the second output too, channel 4 has its room; where there is one for the report,
+/// that is asked for.
 pub fn assert_expanded(text: &Path) {
-    let (program, second) = ("target/bin/expand", text.with_extension("second"));
-    let output = if second.is_file() {
-        let (output, written) = expanded_with_second(program, text);
-        assert_bytes(&written, &second);
-        output
-    } else {
+    let (program, beside) = ("target/bin/expand", beside(text));
+    let output = if beside.is_empty() {
         expanded(program, text)
+    } else {
+        let options: Vec<&str> = beside.iter().map(|(option, _)| *option).collect();
+        let (output, written) = expanded_with(program, text, &options);
+        for (bytes, (_, file)) in written.iter().zip(&beside) {
+            assert_bytes(bytes, file);
+        }
+        output
     };
     assert!(output.status.success(), "{}: expand did not end well", text.display());
     assert!(output.stderr.is_empty(), "{}: expand wrote to standard error", text.display());

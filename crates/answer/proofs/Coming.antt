@@ -37,7 +37,7 @@ none-placed q = record { number = omega arith; next = omega arith; depth = omega
 pub comes-as : {m : Marks} {text : Bytes} {p p′ : Step} {s : State} {o : Outputs} {b : Bytes} {r : Answer} {nums : List ℕ} {bytes : Bytes} {o′ : Outputs} {memory′ : Bytes} → p′ ≡ p → Comes m text p s o b r nums bytes o′ memory′
     → Comes m text p′ s o b r nums bytes o′ memory′
 comes-as {m} {text} {s = s} {o′ = o′} {memory′ = memory′} e h = record {
-  same = λ fs. ap (λ (q : Step). settle (stepped m fs q (stateOf text none fs s o′ memory′))) e ∙ h .same fs;
+  same = λ fs y. ap (λ (q : Step). settle (stepped m fs q (stateOf text none fs y s o′ memory′))) e ∙ h .same fs y;
   sound = h .sound;
   placed = h .placed;
   short = h .short;
@@ -50,7 +50,7 @@ module _ {m : Marks} {text : Bytes} {c : Head} {nums : List ℕ} {bytes : Bytes}
   pub came-on : r ≡ goesOn c s → p ≡ continues (frameOf m text (laid c nums bytes)) (sharedOf s o memory) → Comes m text p s o b r nums bytes o memory
   unfolding settle nextAt nextOf stepped stateWith
   came-on e f = subst (λ (x : Answer). Comes m text p s o b x nums bytes o memory) (sym e) (comes-as f (record {
-    same = λ fs. refl;
+    same = λ fs y. refl;
     sound = h;
     placed = q;
     short = omega arith;
@@ -62,7 +62,7 @@ module _ {m : Marks} {text : Bytes} {c : Head} {nums : List ℕ} {bytes : Bytes}
   pub came-end : {k : ℕ} → r ≡ endsWith k s → p ≡ halts k (sharedOf s o memory) → Comes m text p s o b r nums bytes o memory
   unfolding settle nextAt nextOf stepped stateWith
   came-end e f = subst (λ (x : Answer). Comes m text p s o b x nums bytes o memory) (sym e) (comes-as f (record {
-    same = λ fs. refl;
+    same = λ fs y. refl;
     sound = h;
     placed = none-placed q;
     short = omega arith;

@@ -9,6 +9,7 @@ use lib.ListN.{length, take, drop}
 use Rattle.model.specs.declared.Marks.{Marks}
 use Rattle.model.specs.Text.{Bytes, lines}
 use Rattle.model.specs.Load.{Loaded}
+use Rattle.model.specs.Report.{Tally}
 use Rattle.model.specs.Machine as Machine
 use Rattle.model.specs.Machine.{Frame, Shared, Step, continues, offers, skips, leaves, copies, halts, resumeAt, Next, running, ended, stateWith, Passed, landed, beyond, badLanding, passOver, skipFrom, skipIn, stepped, outcome, Outputs, Rooms}
 use Rattle.model.specs.Sizes.{Nested, FramesOk}
@@ -46,32 +47,33 @@ module _ (m : Marks) where
 
   module _ (text : Bytes) (s s′ : State) (at : s′ .at ≡ s .at) (line : s′ .line ≡ s .line) (calls : s′ .calls ≡ s .calls) (events : s′ .events ≡ s .events) where
     -- what a code line comes to, seen from the state after it
-    pub stepped-at : (fs gs : List Frame) (p : Step) (o : Outputs) (w : Bytes) (o′ : Outputs) (w′ : Bytes) → stepped m fs p (stateOf text none gs s o w) ≡ stepped m fs p (stateOf text none fs s′ o′ w′)
+    pub stepped-at : (fs gs : List Frame) (y : Tally) (p : Step) (o : Outputs) (w : Bytes) (o′ : Outputs) (w′ : Bytes) → stepped m fs p (stateOf text none gs y s o w) ≡ stepped m fs p (stateOf text none fs y s′ o′ w′)
     unfolding stateWith
-    stepped-at fs gs p o w o′ w′ =
-        stepped-same fs fs p (sharedOf s′ o′ w′) (stateOf text none gs s o w)
-        ∙ (λ i. stepped m fs p (record { input = lines (drop (sym at i) text); line = sym line i; pending = none; frames = fs; calls = sym calls i; shared = sharedOf s′ o′ w′; events = sym events i }))
+    stepped-at fs gs y p o w o′ w′ =
+        stepped-same fs fs p (sharedOf s′ o′ w′) (stateOf text none gs y s o w)
+        ∙ (λ i. stepped m fs p (record { input = lines (drop (sym at i) text); line = sym line i; pending = none; frames = fs; calls = sym calls i; shared = sharedOf s′ o′ w′; events = sym events i; tally = y }))
 
   -- nothing is skipped
-  pub skip-none : (text : Bytes) (fs : List Frame) (s : State) (o : Outputs) (w : Bytes) → settle (skipIn m 0 fs (sharedOf s o w) (stateOf text none fs s o w)) ≡ running (stateOf text none fs s o w)
+  pub skip-none : (text : Bytes) (fs : List Frame) (y : Tally) (s : State) (o : Outputs) (w : Bytes) → settle (skipIn m 0 fs (sharedOf s o w) (stateOf text none fs y s o w)) ≡ running (stateOf text none fs y s o w)
   unfolding settle skipIn skipFrom passOver stateWith resumeAt
-  skip-none text [] s o w =
+  skip-none text [] y s o w =
       let z : s .line + min 0 (length (lines (drop (s .at) text))) ≡ s .line = omega arith in
-      ap (λ (n : ℕ). running (record { input = lines (drop (s .at) text); line = n; pending = none; frames = []; calls = s .calls; shared = sharedOf s o w; events = s .events })) z
-  skip-none text (f ∷ fs) s o w = refl
+      ap (λ (n : ℕ). running (record { input = lines (drop (s .at) text); line = n; pending = none; frames = []; calls = s .calls; shared = sharedOf s o w; events = s .events; tally = y })) z
+  skip-none text (f ∷ fs) y s o w = refl
 
 -- ---- runs that have ended
 
 -- the run ends with a number
-pub halts-with : (fuel : ℕ) (room : Rooms) (t : Loaded) (text : Bytes) (k : ℕ) (fs : List Frame) (s : State) (o : Outputs) (w : Bytes) → comesTo fuel room t (ended k (stateOf text none fs s o w)) ≡ resultAfter (endsWith k s) o w
+pub halts-with : (fuel : ℕ) (room : Rooms) (t : Loaded) (text : Bytes) (k : ℕ) (fs : List Frame) (y : Tally) (s : State) (o : Outputs) (w : Bytes)
+    → comesTo fuel room t (ended k (stateOf text none fs y s o w)) ≡ resultAfter t y (endsWith k s) o w
 unfolding outcome Machine.resultOf
-halts-with fuel room t text k fs s o w = ap outcome (after-ended fuel room t k (stateOf text none fs s o w))
+halts-with fuel room t text k fs y s o w = ap (outcome t) (after-ended fuel room t k (stateOf text none fs y s o w))
 
 -- what is settled comes to the same
 pub settle-same : (fuel : ℕ) (room : Rooms) (t : Loaded) (x : Next) → comesTo fuel room t x ≡ comesTo fuel room t (settle x)
 unfolding settle outcome Machine.resultOf stateWith
 settle-same fuel room t (running s) = refl
-settle-same fuel room t (ended k s) = ap outcome (after-ended fuel room t k s) ∙ sym (ap outcome (after-ended fuel room t k (stateWith s none [] (s .shared))))
+settle-same fuel room t (ended k s) = ap (outcome t) (after-ended fuel room t k s) ∙ sym (ap (outcome t) (after-ended fuel room t k (stateWith s none [] (s .shared))))
 
 pub settle-nested : (m : Marks) (x : Next) → NextOk m x → NextOk m (settle x)
 unfolding settle stateWith
@@ -80,22 +82,22 @@ settle-nested m (ended k s) h = tt
 
 -- ---- an answer by its turn
 
-module _ (m : Marks) (text : Bytes) (r : Answer) (fs : List Frame) (nums : List ℕ) (bytes line : Bytes) (o : Outputs) (w : Bytes) where
+module _ (m : Marks) (text : Bytes) (r : Answer) (fs : List Frame) (y : Tally) (nums : List ℕ) (bytes line : Bytes) (o : Outputs) (w : Bytes) where
   -- what the answer comes to, with another turn
   abbrev turned : Turn → Next
-  turned z = nextAt m text fs z (r .call) (r .state) nums bytes line o w
+  turned z = nextAt m text fs y z (r .call) (r .state) nums bytes line o w
 
-  pub next-as : {z : Turn} → turn r ≡ z → nextOf m text fs r nums bytes line o w ≡ nextAt m text fs z (r .call) (r .state) nums bytes line o w
+  pub next-as : {z : Turn} → turn r ≡ z → nextOf m text fs y r nums bytes line o w ≡ nextAt m text fs y z (r .call) (r .state) nums bytes line o w
   unfolding nextOf
   next-as e = ap turned e
 
   -- the call goes on, with nothing offered
   pub next-on : isLeft (turn r) ≡ false → isOffer (turn r) ≡ false
-      → nextOf m text fs r nums bytes line o w ≡ running (stateOf text none (frameOf m text (laid (r .call) nums bytes) ∷ fs) (r .state) o w)
+      → nextOf m text fs y r nums bytes line o w ≡ running (stateOf text none (frameOf m text (laid (r .call) nums bytes) ∷ fs) y (r .state) o w)
   unfolding nextOf nextAt
   next-on e f = by (turn r) e f
     where
-      by : (z : Turn) → isLeft z ≡ false → isOffer z ≡ false → turned z ≡ running (stateOf text none (frameOf m text (laid (r .call) nums bytes) ∷ fs) (r .state) o w)
+      by : (z : Turn) → isLeft z ≡ false → isOffer z ≡ false → turned z ≡ running (stateOf text none (frameOf m text (laid (r .call) nums bytes) ∷ fs) y (r .state) o w)
       by Continues e f = refl
       by (Offers n) e f = false-not-true (sym f)
       by (Back n) e f = false-not-true (sym e)
@@ -103,11 +105,11 @@ module _ (m : Marks) (text : Bytes) (r : Answer) (fs : List Frame) (nums : List 
 
   -- its line is offered
   pub next-offers : isOffer (turn r) ≡ true
-      → nextOf m text fs r nums bytes line o w ≡ running (stateOf text (some (take (offeredLength (turn r)) line)) (frameOf m text (laid (r .call) nums bytes) ∷ fs) (r .state) o w)
+      → nextOf m text fs y r nums bytes line o w ≡ running (stateOf text (some (take (offeredLength (turn r)) line)) (frameOf m text (laid (r .call) nums bytes) ∷ fs) y (r .state) o w)
   unfolding nextOf nextAt
   next-offers e = by (turn r) e
     where
-      by : (z : Turn) → isOffer z ≡ true → turned z ≡ running (stateOf text (some (take (offeredLength z) line)) (frameOf m text (laid (r .call) nums bytes) ∷ fs) (r .state) o w)
+      by : (z : Turn) → isOffer z ≡ true → turned z ≡ running (stateOf text (some (take (offeredLength z) line)) (frameOf m text (laid (r .call) nums bytes) ∷ fs) y (r .state) o w)
       by Continues e = false-not-true e
       by (Offers n) e = refl
       by (Back n) e = false-not-true e
@@ -115,62 +117,62 @@ module _ (m : Marks) (text : Bytes) (r : Answer) (fs : List Frame) (nums : List 
 
   -- so many lines are skipped among the callers
   pub next-back : isLeft (turn r) ≡ true → isEnd (turn r) ≡ false
-      → nextOf m text fs r nums bytes line o w ≡ settle (skipIn m (linesBack (turn r)) fs (sharedOf (r .state) o w) (stateOf text none fs (r .state) o w))
+      → nextOf m text fs y r nums bytes line o w ≡ settle (skipIn m (linesBack (turn r)) fs (sharedOf (r .state) o w) (stateOf text none fs y (r .state) o w))
   unfolding nextOf nextAt
   next-back e f = by (turn r) e f
     where
-      by : (z : Turn) → isLeft z ≡ true → isEnd z ≡ false → turned z ≡ settle (skipIn m (linesBack z) fs (sharedOf (r .state) o w) (stateOf text none fs (r .state) o w))
+      by : (z : Turn) → isLeft z ≡ true → isEnd z ≡ false → turned z ≡ settle (skipIn m (linesBack z) fs (sharedOf (r .state) o w) (stateOf text none fs y (r .state) o w))
       by Continues e f = false-not-true e
       by (Offers n) e f = false-not-true e
       by (Back n) e f = refl
       by (Halts k) e f = false-not-true (sym f)
 
   -- the run ends
-  pub next-ends : isEnd (turn r) ≡ true → (fuel : ℕ) (room : Rooms) (t : Loaded) → comesTo fuel room t (nextOf m text fs r nums bytes line o w) ≡ resultAfter r o w
+  pub next-ends : isEnd (turn r) ≡ true → (fuel : ℕ) (room : Rooms) (t : Loaded) → comesTo fuel room t (nextOf m text fs y r nums bytes line o w) ≡ resultAfter t y r o w
   unfolding nextOf nextAt
   next-ends e fuel room t = by (turn r) e
     where
-      by : (z : Turn) → isEnd z ≡ true → comesTo fuel room t (turned z) ≡ resultAt z (r .state) o w
+      by : (z : Turn) → isEnd z ≡ true → comesTo fuel room t (turned z) ≡ resultAt t y z (r .state) o w
       by Continues e = false-not-true e
       by (Offers n) e = false-not-true e
       by (Back n) e = false-not-true e
-      by (Halts k) e = halts-with fuel room t text k [] (r .state) o w
+      by (Halts k) e = halts-with fuel room t text k [] y (r .state) o w
 
   -- where the call is left, its numbers and bytes and the built line don't matter
-  pub left-same : isLeft (turn r) ≡ true → (nums′ : List ℕ) (bytes′ line′ : Bytes) → nextOf m text fs r nums bytes line o w ≡ nextOf m text fs r nums′ bytes′ line′ o w
+  pub left-same : isLeft (turn r) ≡ true → (nums′ : List ℕ) (bytes′ line′ : Bytes) → nextOf m text fs y r nums bytes line o w ≡ nextOf m text fs y r nums′ bytes′ line′ o w
   unfolding nextOf nextAt
   left-same e nums′ bytes′ line′ = by (turn r) e
     where
-      by : (z : Turn) → isLeft z ≡ true → turned z ≡ nextAt m text fs z (r .call) (r .state) nums′ bytes′ line′ o w
+      by : (z : Turn) → isLeft z ≡ true → turned z ≡ nextAt m text fs y z (r .call) (r .state) nums′ bytes′ line′ o w
       by Continues e = false-not-true e
       by (Offers n) e = false-not-true e
       by (Back n) e = refl
       by (Halts k) e = refl
 
   -- where no line is offered, the built line doesn't matter
-  pub unoffered-same : isOffer (turn r) ≡ false → (line′ : Bytes) → nextOf m text fs r nums bytes line o w ≡ nextOf m text fs r nums bytes line′ o w
+  pub unoffered-same : isOffer (turn r) ≡ false → (line′ : Bytes) → nextOf m text fs y r nums bytes line o w ≡ nextOf m text fs y r nums bytes line′ o w
   unfolding nextOf nextAt
   unoffered-same e line′ = by (turn r) e
     where
-      by : (z : Turn) → isOffer z ≡ false → turned z ≡ nextAt m text fs z (r .call) (r .state) nums bytes line′ o w
+      by : (z : Turn) → isOffer z ≡ false → turned z ≡ nextAt m text fs y z (r .call) (r .state) nums bytes line′ o w
       by Continues e = refl
       by (Offers n) e = false-not-true (sym e)
       by (Back n) e = refl
       by (Halts k) e = refl
 
   -- where the call is left, its callers stay well nested
-  pub left-nested : isLeft (turn r) ≡ true → FramesOk m fs → NextOk m (nextOf m text fs r nums bytes line o w)
+  pub left-nested : isLeft (turn r) ≡ true → FramesOk m fs → NextOk m (nextOf m text fs y r nums bytes line o w)
   unfolding nextOf nextAt
   left-nested e h = by (turn r) e
     where
       by : (z : Turn) → isLeft z ≡ true → NextOk m (turned z)
       by Continues e = false-not-true e
       by (Offers n) e = false-not-true e
-      by (Back n) e = settle-nested m _ (skipIn-nested m n fs (sharedOf (r .state) o w) (stateOf text none fs (r .state) o w) h)
+      by (Back n) e = settle-nested m _ (skipIn-nested m n fs (sharedOf (r .state) o w) (stateOf text none fs y (r .state) o w) h)
       by (Halts k) e = tt
 
   -- a call that goes on, at once or after an offer, is well nested
-  pub next-nested : NextOk m (nextOf m text fs r nums bytes line o w) → isLeft (turn r) ≡ false → Nested m (frameOf m text (laid (r .call) nums bytes))
+  pub next-nested : NextOk m (nextOf m text fs y r nums bytes line o w) → isLeft (turn r) ≡ false → Nested m (frameOf m text (laid (r .call) nums bytes))
   unfolding nextOf nextAt
   next-nested = by (turn r)
     where

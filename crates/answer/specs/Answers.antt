@@ -9,6 +9,7 @@ use Rattle.model.specs.declared.Marks.{Marks}
 use Rattle.model.specs.Text.{Bytes}
 use Rattle.model.specs.Store.{listing}
 use Rattle.model.specs.Load.{Loaded}
+use Rattle.model.specs.Report.{Tally, reportRows, reportBytes}
 use Rattle.model.specs.Machine.{Rooms, rooms, Outputs, outputs, Frame, Next, running, ended, stateWith, skipIn, after, Result, outcome}
 use Rattle.store.specs.Memory.{held}
 use Rattle.state.specs.declared.State.{State}
@@ -109,17 +110,17 @@ unfoldable pub settle : Next → Next
 settle (running s) = running s
 settle (ended k s) = ended k (stateWith s none [] (s .shared))
 
--- the expansion after a turn, with the callers fs. Where the call goes on, at once or after an offer, it has this head, these numbers and
--- bytes, and `line` is what it built
-unfoldable pub nextAt : Marks → Bytes → (fs : List Frame) → Turn → Head → State → (nums : List ℕ) (bytes line : Bytes) → Outputs → (memory : Bytes) → Next
-nextAt m text fs Continues c s nums bytes line o w = running (stateOf text none (frameOf m text (laid c nums bytes) ∷ fs) s o w)
-nextAt m text fs (Offers n) c s nums bytes line o w = running (stateOf text (some (take n line)) (frameOf m text (laid c nums bytes) ∷ fs) s o w)
-nextAt m text fs (Back n) c s nums bytes line o w = settle (skipIn m n fs (sharedOf s o w) (stateOf text none fs s o w))
-nextAt m text fs (Halts k) c s nums bytes line o w = ended k (stateOf text none [] s o w)
+-- the expansion after a turn, with the callers fs and the tally y, which no code line sees. Where the call goes on, at once or after an offer, it has
+-- this head, these numbers and bytes, and `line` is what it built
+unfoldable pub nextAt : Marks → Bytes → (fs : List Frame) → Tally → Turn → Head → State → (nums : List ℕ) (bytes line : Bytes) → Outputs → (memory : Bytes) → Next
+nextAt m text fs y Continues c s nums bytes line o w = running (stateOf text none (frameOf m text (laid c nums bytes) ∷ fs) y s o w)
+nextAt m text fs y (Offers n) c s nums bytes line o w = running (stateOf text (some (take n line)) (frameOf m text (laid c nums bytes) ∷ fs) y s o w)
+nextAt m text fs y (Back n) c s nums bytes line o w = settle (skipIn m n fs (sharedOf s o w) (stateOf text none fs y s o w))
+nextAt m text fs y (Halts k) c s nums bytes line o w = ended k (stateOf text none [] y s o w)
 
 -- and after an answer
-unfoldable pub nextOf : Marks → Bytes → (fs : List Frame) → Answer → (nums : List ℕ) (bytes line : Bytes) → Outputs → (memory : Bytes) → Next
-nextOf m text fs r nums bytes line o w = nextAt m text fs (turn r) (r .call) (r .state) nums bytes line o w
+unfoldable pub nextOf : Marks → Bytes → (fs : List Frame) → Tally → Answer → (nums : List ℕ) (bytes line : Bytes) → Outputs → (memory : Bytes) → Next
+nextOf m text fs y r nums bytes line o w = nextAt m text fs y (turn r) (r .call) (r .state) nums bytes line o w
 
 -- the rooms that two lent slices are
 abbrev pub roomsOf : Outputs → Rooms
@@ -127,17 +128,18 @@ roomsOf o = rooms (length (o .first)) (length (o .second))
 
 -- what the expansion comes to from there, with this fuel
 abbrev pub comesTo : ℕ → Rooms → Loaded → Next → Result
-comesTo fuel room t x = outcome (after fuel room t x)
+comesTo fuel room t x = outcome t (after fuel room t x)
 
--- the result of a run that ends with a turn, or with an answer
-abbrev pub resultAt : Turn → State → Outputs → (memory : Bytes) → Result
-resultAt z s o w = record {
+-- the result of a run of t that ends with a turn, or with an answer
+abbrev pub resultAt : Loaded → Tally → Turn → State → Outputs → (memory : Bytes) → Result
+resultAt t y z s o w = record {
   number = endNumber z;
   line = s .line;
   events = s .events;
   output = outputs (take (s .written) (o .first)) (take (s .second) (o .second));
   store = listing (held (s .index .count) w);
+  report = reportBytes (reportRows (t .macros) y);
 }
 
-abbrev pub resultAfter : Answer → Outputs → (memory : Bytes) → Result
-resultAfter r o w = resultAt (turn r) (r .state) o w
+abbrev pub resultAfter : Loaded → Tally → Answer → Outputs → (memory : Bytes) → Result
+resultAfter t y r o w = resultAt t y (turn r) (r .state) o w

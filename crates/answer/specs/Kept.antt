@@ -7,6 +7,7 @@ use lib.ListN.{length, take, drop}
 use Rattle.model.specs.Limits.{lineMost, fuelMost}
 use Rattle.model.specs.declared.Marks.{Marks}
 use Rattle.model.specs.Text.{Bytes}
+use Rattle.model.specs.Report.{Tally}
 use Rattle.model.specs.Machine.{Outputs, Frame, Step, stepped}
 use Rattle.model.specs.Sizes.{Nested}
 use Rattle.state.specs.declared.State.{State}
@@ -56,7 +57,7 @@ pub record Stays (s t : State) : Type 0 where
 --   nums bytes o′ memory′   the call's numbers and bytes, outputs and memory after it
 pub record Comes (m : Marks) (text : Bytes) (p : Step) (s : State) (o : Outputs) (line : Bytes)
     (r : Answer) (nums : List ℕ) (bytes : Bytes) (o′ : Outputs) (memory′ : Bytes) : Type 0 where
-  pub same : (fs : List Frame) → settle (stepped m fs p (stateOf text none fs s o′ memory′)) ≡ nextOf m text fs r nums bytes line o′ memory′
+  pub same : (fs : List Frame) (y : Tally) → settle (stepped m fs p (stateOf text none fs y s o′ memory′)) ≡ nextOf m text fs y r nums bytes line o′ memory′
   pub sound : Sound text (r .state) o′ memory′
   pub placed : Placed text (laid (r .call) nums bytes)
   pub short : offeredLength (turn r) ≤ lineMost

@@ -45,14 +45,16 @@ pub extern "C" fn stage2_run(
     output: &mut [u8],
     second: &mut [u8],
     store: &mut [u8],
+    report: &mut [u8],
 ) -> Ran
     ensures { λ r. ⌜ Runs (runText fuel (length (now (nodes .entry))) (length (now (dead .entry)))
-        (rooms (length (now (output .entry))) (length (now (second .entry)))) (length (now (store .entry))) (now (text .entry)))
-        (now (output .entry)) (now (second .entry)) (now (store .entry)) r (now (output .exit)) (now (second .exit)) (now (store .exit)) ⌝ }
+        (rooms (length (now (output .entry))) (length (now (second .entry)))) (length (now (store .entry))) (length (now (report .entry))) (now (text .entry)))
+        (now (output .entry)) (now (second .entry)) (now (store .entry)) (now (report .entry)) r
+        (now (output .exit)) (now (second .exit)) (now (store .exit)) (now (report .exit)) ⌝ }
     ensures { λ r. ⌜ ((t : Loaded) → load (now (text .entry)) ≡ loaded t
-        → illegal fuel (length (now (nodes .entry))) (length (now (dead .entry))) (length (now (store .entry))) ≡ false
-        → HoldsTree t (now (nodes .exit)) × FollowsExpansion t fuel (now (output .entry)) (now (second .entry)) (now (store .entry)) r
-        (now (output .exit)) (now (second .exit)) (now (store .exit))) ⌝ }
+        → illegal fuel (length (now (nodes .entry))) (length (now (dead .entry))) (length (now (store .entry))) (length (now (report .entry))) ≡ false
+        → HoldsTree t (now (nodes .exit)) × FollowsExpansion t fuel (now (output .entry)) (now (second .entry)) (now (store .entry)) (now (report .entry)) r
+        (now (output .exit)) (now (second .exit)) (now (store .exit)) (now (report .exit))) ⌝ }
 {
-    stage2::run(text, fuel, nodes, dead, output, second, store)
+    stage2::run(text, fuel, nodes, dead, output, second, store, report)
 }

@@ -28,7 +28,7 @@ use Rattle.carry.specs.Carries.{ReadyToFinish, Finishes, Carries}
 comes-from : {m : Marks} {text : Bytes} {p : Step} {s t : State} {o : Outputs} {line : Bytes} {r : Answer} {nums : List ℕ} {bytes : Bytes} {o′ : Outputs} {memory memory′ : Bytes} → Keeps s memory t → Comes m text p t o line r nums bytes o′ memory′
     → Comes m text p s o line r nums bytes o′ memory′
 comes-from {m} {text} {p} {s} {t} {o} {r = r} {o′ = o′} {memory′ = memory′} k h = record {
-  same = λ fs. ap settle (stepped-at m text s t (k .at) (k .line) (k .calls) (k .events) fs fs p o′ memory′ o′ memory′) ∙ h .same fs;
+  same = λ fs y. ap settle (stepped-at m text s t (k .at) (k .line) (k .calls) (k .events) fs fs y p o′ memory′ o′ memory′) ∙ h .same fs y;
   sound = h .sound;
   placed = h .placed;
   short = h .short;

@@ -114,7 +114,7 @@ module _ {m : Marks} {text : Bytes} {to : ℕ} {c : Head} {nums : List ℕ} {byt
   unfolding finish settle nextAt nextOf stepped stateWith
   ends-leave e f = ends-as e (record {
     comes = subst (λ (x : Answer). Comes m text (leaves (sharedOf s o memory)) s o line x nums bytes o memory) (sym f) (record {
-      same = λ fs. sym (skip-none m text fs s o memory);
+      same = λ fs y. sym (skip-none m text fs y s o memory);
       sound = h;
       placed = none-placed q;
       short = omega arith;
@@ -131,5 +131,5 @@ module _ {m : Marks} {text : Bytes} {to : ℕ} {c : Head} {nums : List ℕ} {byt
   unfolding finish settle nextAt nextOf stepped stateWith
   ends-offer y e f = ends-as e (record {
     comes = subst (λ (x : Answer). Comes m text (offers (take n line) (frameOf m text (laid c nums bytes)) (sharedOf s o memory)) s o line x nums bytes o memory) (sym f)
-        (record { same = λ fs. refl; sound = h; placed = q; short = y .short; stays = stays-same s; extends = both-none h });
+        (record { same = λ fs _. refl; sound = h; placed = q; short = y .short; stays = stays-same s; extends = both-none h });
   })

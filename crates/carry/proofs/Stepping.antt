@@ -12,6 +12,7 @@ use Rattle.model.specs.declared.Effect.the-variants.{Opens}
 use Rattle.model.specs.Text.{Bytes, part}
 use Rattle.model.specs.Code.{parse, effect}
 use Rattle.model.specs.Load.{bodyAt}
+use Rattle.model.specs.Report.{Tally, noLines}
 use Rattle.model.specs.Machine.{Frame, Step, Next, resumeAt, carryOut, Outputs}
 use Rattle.model.proofs.Nesting.{Passing, passing, nested-few}
 use Rattle.model.proofs.Frames.{NextOk, carryOut-nested, stepped-nested}
@@ -64,8 +65,8 @@ module _ {m : Marks} {text : Bytes} {c : Head} {nums : List ℕ} {bytes : Bytes}
       less = λ f. false-not-true (sym f);
       stays = λ f. false-not-true (sym f);
       short = omega arith;
-      same = λ t marks fs. closes text s o memory (roomsOf o) t (frameOf m text (laid c nums bytes)) fs (code .ended e)
-          ∙ ap (comesTo (s .fuel) (roomsOf o) t) (sym (skip-none m text fs s o memory));
+      same = λ t marks fs y. closes text y s o memory (roomsOf o) t (frameOf m text (laid c nums bytes)) fs (code .ended e)
+          ∙ ap (comesTo (s .fuel) (roomsOf o) t) (sym (skip-none m text fs y s o memory));
     }
 
     -- no fuel is left
@@ -76,8 +77,8 @@ module _ {m : Marks} {text : Bytes} {c : Head} {nums : List ℕ} {bytes : Bytes}
       less = λ f. false-not-true (sym f);
       stays = λ f. false-not-true (sym f);
       short = omega arith;
-      same = λ t marks fs. code-spent text s o memory (roomsOf o) t (frameOf m text (laid c nums bytes)) fs (part text (c .next) (line .end)) (bodyAt m text (line .next)) (code .more e) spent
-          ∙ sym (halts-with (s .fuel) (roomsOf o) t text 20 [] s o memory);
+      same = λ t marks fs y. code-spent text y s o memory (roomsOf o) t (frameOf m text (laid c nums bytes)) fs (part text (c .next) (line .end)) (bodyAt m text (line .next)) (code .more e) spent
+          ∙ sym (halts-with (s .fuel) (roomsOf o) t text 20 [] y s o memory);
     }
 
   module _ (s : State) {c₁ : Head} {x : State} {o : Outputs} {memory built : Bytes} {r : Answer} {nums′ : List ℕ} {bytes′ : Bytes} {o′ : Outputs} {memory′ : Bytes} (there : line .there ≡ true) (some-fuel : 0 < s .fuel) (moves : Moves c (line .next) c₁)
@@ -97,10 +98,10 @@ module _ {m : Marks} {text : Bytes} {c : Head} {nums : List ℕ} {bytes : Bytes}
         (ap (λ (g : Frame). carryOut (roomsOf o) m (parse m true content) g (sharedOf s o memory)) (sym (moves .frame m text nums bytes)))
         (subst (λ (y : State). Carries m text (c .next) (line .end) (laid c₁ nums bytes) y o memory built r nums′ bytes′ o′ memory′) ex carries .comes)
 
-    next-ok : NextOk m (nextOf m text [] r nums′ bytes′ built o′ memory′)
-    next-ok =
-        subst (NextOk m) (came .same [])
-        (settle-nested m _ (stepped-nested m [] p (stateOf text none [] (countedEvent s) o′ memory′)
+    next-ok : (y : Tally) → NextOk m (nextOf m text [] y r nums′ bytes′ built o′ memory′)
+    next-ok y =
+        subst (NextOk m) (came .same [] y)
+        (settle-nested m _ (stepped-nested m [] p (stateOf text none [] y (countedEvent s) o′ memory′)
         (carryOut-nested m (roomsOf o) content (bodyAt m text (line .next)) f (sharedOf s o memory) (is-open .nested .around) (rw (code .more there) at (is-open .nested .lines))) tt))
 
     -- the code line is carried out
@@ -110,12 +111,12 @@ module _ {m : Marks} {text : Bytes} {c : Head} {nums : List ℕ} {bytes : Bytes}
         record {
           follows = record { sound = came .sound; from = stays .from; fuel = omega (arith, stays .fuel); extends = record { first = came .extends .first; second = came .extends .second } };
           less = λ _. omega (arith, stays .fuel);
-          stays = λ e. record { placed = came .placed; nested = next-nested m text r [] nums′ bytes′ built o′ memory′ next-ok e };
+          stays = λ e. record { placed = came .placed; nested = next-nested m text r [] (noLines []) nums′ bytes′ built o′ memory′ (next-ok (noLines [])) e };
           short = came .short;
-          same = λ t marks fs.
-              begins text s o memory (roomsOf o) t f fs content (bodyAt m text (line .next)) (code .more there) m marks some-fuel
-              ∙ ap (λ (y : Next). comesTo (s .fuel - 1) (roomsOf o) t y)
-              (stepped-at m text (countedEvent s) (countedEvent s) refl refl refl refl fs (f ∷ fs) p o memory o′ memory′)
+          same = λ t marks fs y.
+              begins text y s o memory (roomsOf o) t f fs content (bodyAt m text (line .next)) (code .more there) m marks some-fuel
+              ∙ ap (λ (z : Next). comesTo (s .fuel - 1) (roomsOf o) t z)
+              (stepped-at m text (countedEvent s) (countedEvent s) refl refl refl refl fs (f ∷ fs) y p o memory o′ memory′)
               ∙ settle-same (s .fuel - 1) (roomsOf o) t _
-              ∙ (λ i. comesTo (sym (stays .fuel) i) (roomsOf o) t (came .same fs i));
+              ∙ (λ i. comesTo (sym (stays .fuel) i) (roomsOf o) t (came .same fs y i));
         }

@@ -11,6 +11,7 @@ use Rattle.model.specs.declared.Effect.the-variants.{Opens}
 use Rattle.model.specs.Text.{Bytes, part}
 use Rattle.model.specs.Code.{parse, effectOf}
 use Rattle.model.specs.Load.{Loaded}
+use Rattle.model.specs.Report.{Tally}
 use Rattle.model.specs.Machine.{Frame, finish, carryOut, running, Outputs}
 use Rattle.code.specs.declared.Ending.{Ending}
 use Rattle.code.specs.Tokens.{endingOf, Ranged}
@@ -51,6 +52,6 @@ pub record Steps (m : Marks) (text : Bytes) (c : Laid)
   pub less : isLeft (turn r) ≡ false → r .state .fuel < s .fuel
   pub stays : isLeft (turn r) ≡ false → Open m text (laid (r .call) nums bytes)
   pub short : offeredLength (turn r) ≤ lineMost
-  pub same : (t : Loaded) → t .marks ≡ m → (fs : List Frame)
-      → comesTo (s .fuel) (roomsOf o) t (running (stateOf text none (frameOf m text c ∷ fs) s o memory))
-      ≡ comesTo (r .state .fuel) (roomsOf o) t (nextOf m text fs r nums bytes built o′ memory′)
+  pub same : (t : Loaded) → t .marks ≡ m → (fs : List Frame) (y : Tally)
+      → comesTo (s .fuel) (roomsOf o) t (running (stateOf text none (frameOf m text c ∷ fs) y s o memory))
+      ≡ comesTo (r .state .fuel) (roomsOf o) t (nextOf m text fs y r nums bytes built o′ memory′)

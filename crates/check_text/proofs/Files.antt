@@ -10,9 +10,9 @@ use lib.Seq.{take-all}
 use Rattle.model.specs.Text.{Bytes, part}
 use Rattle.model.specs.Results.{checkText}
 use Rattle.model.proofs.Choices.{false-not-true}
-use Rattle.write.proofs.Adding.{adds-take}
+use Rattle.rendering.proofs.Added.{adds-take}
 use Rattle.model.specs.Printed.{checkRow, checkPrints}
-use Rattle.printed.specs.Prints.{Prints}
+use Rattle.rendering.specs.Prints.{Prints}
 use Rattle.source.specs.declared.Got.{Got}
 use Rattle.check_text.specs.Files.{AddsFile, AddsGot, HasFiles, HasGot}
 

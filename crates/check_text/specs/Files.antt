@@ -7,7 +7,7 @@ use lib.ListN.{length, take}
 use Rattle.model.specs.Text.{Bytes}
 use Rattle.model.specs.Results.{checkText}
 use Rattle.model.specs.Printed.{checkRow, checkPrints}
-use Rattle.printed.specs.Prints.{Prints}
+use Rattle.rendering.specs.Prints.{Prints}
 use Rattle.source.specs.declared.Got.{Got}
 
 -- the row of a file comes after the first w bytes, and ends at r

@@ -11,6 +11,7 @@ use Rattle.model.specs.declared.Marks.{Marks}
 use Rattle.model.specs.declared.Channel.{Channel}
 use Rattle.model.specs.Text.{Bytes, part, lines}
 use Rattle.model.specs.Load.{begins}
+use Rattle.model.specs.Report.{Tally}
 use Rattle.model.specs.Machine as Machine
 use Rattle.model.specs.Machine.{Rooms, Outputs, Frame, Shared, Next, running, ended, stateWith, stepped, param, wrote, pastLine, tooLong, copies, copyLines, copyInput}
 use Rattle.model.proofs.Choices.{when-true, when-false, false-not-true}
@@ -106,25 +107,25 @@ module _ {text : Bytes} {s : State} {o : Outputs} {st : State} {o₁ : Outputs} 
 
 -- lines are copied up to st: what is left comes to the same
 pub record Copied (m : Marks) (text : Bytes) (ch : Channel) (name : Bytes) (s : State) (o : Outputs) (st : State) (o₁ : Outputs) : Type 0 where
-  pub same : (frames : List Frame) (memory : Bytes)
-      → copyLines m (roomsOf o) ch name (lines (drop (s .at) text)) (stateOf text none frames s o memory)
-      ≡ copyLines m (roomsOf o) ch name (lines (drop (st .at) text)) (stateOf text none frames st o₁ memory)
+  pub same : (frames : List Frame) (y : Tally) (memory : Bytes)
+      → copyLines m (roomsOf o) ch name (lines (drop (s .at) text)) (stateOf text none frames y s o memory)
+      ≡ copyLines m (roomsOf o) ch name (lines (drop (st .at) text)) (stateOf text none frames y st o₁ memory)
   pub moved : Moved text s o st o₁
 
 -- at first none is
 pub copied-none : {m : Marks} {text : Bytes} {ch : Channel} {name : Bytes} {s : State} {o : Outputs} → ReadyToCopy text s o → Copied m text ch name s o s o
 copied-none h = record {
-  same = λ frames memory. refl;
+  same = λ frames y memory. refl;
   moved = record { is = refl; from = omega arith; within = h .within; lines = h .lines; extends = record { first = extends-none (h .written); second = extends-none (h .second) } };
 }
 
 module _ {m : Marks} {text : Bytes} {ch : Channel} {c : Head} {name : Bytes} {s : State} {o : Outputs} {t : State} {o₂ : Outputs} {r : Answer} (v : Moved text s o t o₂) where
   -- the copy is over and the call goes on
-  goes-on : ((frames : List Frame) (memory : Bytes) → copyLines m (roomsOf o) ch name (lines (drop (s .at) text)) (stateOf text none frames s o memory) ≡ running (stateOf text none frames t o₂ memory))
+  goes-on : ((frames : List Frame) (y : Tally) (memory : Bytes) → copyLines m (roomsOf o) ch name (lines (drop (s .at) text)) (stateOf text none frames y s o memory) ≡ running (stateOf text none frames y t o₂ memory))
       → r ≡ goesOn c t → CopiesLines m text ch c name s o r o₂
   unfolding settle nextAt nextOf
   goes-on f e = subst (λ (x : Answer). CopiesLines m text ch c name s o x o₂) (sym e) (record {
-    same = λ fs nums bytes b memory. ap settle (f (frameOf m text (laid c nums bytes) ∷ fs) memory);
+    same = λ fs y nums bytes b memory. ap settle (f (frameOf m text (laid c nums bytes) ∷ fs) y memory);
     sound = moved-sound v;
     placed = λ nums bytes q. q;
     settled = refl;
@@ -133,11 +134,11 @@ module _ {m : Marks} {text : Bytes} {ch : Channel} {c : Head} {name : Bytes} {s 
   })
 
   -- or the run ends
-  run-ends : {k : ℕ} → ((frames : List Frame) (memory : Bytes) → copyLines m (roomsOf o) ch name (lines (drop (s .at) text)) (stateOf text none frames s o memory) ≡ ended k (stateOf text none frames t o₂ memory))
+  run-ends : {k : ℕ} → ((frames : List Frame) (y : Tally) (memory : Bytes) → copyLines m (roomsOf o) ch name (lines (drop (s .at) text)) (stateOf text none frames y s o memory) ≡ ended k (stateOf text none frames y t o₂ memory))
       → r ≡ endsWith k t → CopiesLines m text ch c name s o r o₂
   unfolding settle nextAt nextOf stateWith
   run-ends f e = subst (λ (x : Answer). CopiesLines m text ch c name s o x o₂) (sym e) (record {
-    same = λ fs nums bytes b memory. ap settle (f (frameOf m text (laid c nums bytes) ∷ fs) memory);
+    same = λ fs y nums bytes b memory. ap settle (f (frameOf m text (laid c nums bytes) ∷ fs) y memory);
     sound = moved-sound v;
     placed = λ nums bytes q. none-placed q;
     settled = refl;
@@ -150,7 +151,7 @@ module _ {m : Marks} {text : Bytes} {ch : Channel} {name : Bytes} {s : State} {o
   pub copied-all : {c : Head} {r : Answer} → length text ≤ st .at → r ≡ goesOn c st → CopiesLines m text ch c name s o r o₁
   unfolding copyLines lines
   copied-all h e = goes-on (v .moved)
-      (λ frames memory. v .same frames memory ∙ ap (λ (x : Bytes). copyLines m (roomsOf o) ch name (lines x) (stateOf text none frames st o₁ memory)) (drop-of-length-le text h)) e
+      (λ frames y memory. v .same frames y memory ∙ ap (λ (x : Bytes). copyLines m (roomsOf o) ch name (lines x) (stateOf text none frames y st o₁ memory)) (drop-of-length-le text h)) e
 
   module _ {end next : ℕ} {b : Bool} {t : State} (g : ContentAt text (m .source) (st .at) end next) (n : BeginsName text (st .at) end name b) (et : t ≡ withInput st next (st .line + 1)) where
     abbrev content : Bytes
@@ -160,37 +161,37 @@ module _ {m : Marks} {text : Bytes} {ch : Channel} {name : Bytes} {s : State} {o
     abbrev read : State
     read = withInput st next (st .line + 1)
 
-    past-is : (frames : List Frame) (memory : Bytes) → pastLine (lines (drop next text)) (stateOf text none frames st o₁ memory) ≡ stateOf text none frames read o₁ memory
+    past-is : (frames : List Frame) (y : Tally) (memory : Bytes) → pastLine (lines (drop next text)) (stateOf text none frames y st o₁ memory) ≡ stateOf text none frames y read o₁ memory
     unfolding pastLine
-    past-is frames memory =
-        ap (λ (k : ℕ). record { input = lines (drop next text); line = k; pending = none; frames = frames; calls = st .calls; shared = sharedOf st o₁ memory; events = st .events }) (sym (add-one (st .line)))
+    past-is frames y memory =
+        ap (λ (k : ℕ). record { input = lines (drop next text); line = k; pending = none; frames = frames; calls = st .calls; shared = sharedOf st o₁ memory; events = st .events; tally = y }) (sym (add-one (st .line)))
 
     -- what is done with the next line: by what writing it comes to, by its length, and by its content
-    abbrev byWriting : List Frame → Bytes → Option Shared → Next
-    byWriting frames memory w = elim w as (λ _. Next) [
-      | none ↦ ended 13 (pastLine (lines (drop next text)) (stateOf text none frames st o₁ memory))
-      | some w ↦ copyLines m (roomsOf o) ch name (lines (drop next text)) (stateWith (pastLine (lines (drop next text)) (stateOf text none frames st o₁ memory)) none frames w)
+    abbrev byWriting : List Frame → Tally → Bytes → Option Shared → Next
+    byWriting frames y memory w = elim w as (λ _. Next) [
+      | none ↦ ended 13 (pastLine (lines (drop next text)) (stateOf text none frames y st o₁ memory))
+      | some w ↦ copyLines m (roomsOf o) ch name (lines (drop next text)) (stateWith (pastLine (lines (drop next text)) (stateOf text none frames y st o₁ memory)) none frames w)
     ]
 
-    abbrev byLength : List Frame → Bytes → Bytes → Next
-    byLength frames memory l = elim (tooLong ch l) as (λ _. Next) [
-      | true ↦ ended 11 (pastLine (lines (drop next text)) (stateOf text none frames st o₁ memory))
-      | false ↦ byWriting frames memory (wrote (roomsOf o) ch l (sharedOf st o₁ memory))
+    abbrev byLength : List Frame → Tally → Bytes → Bytes → Next
+    byLength frames y memory l = elim (tooLong ch l) as (λ _. Next) [
+      | true ↦ ended 11 (pastLine (lines (drop next text)) (stateOf text none frames y st o₁ memory))
+      | false ↦ byWriting frames y memory (wrote (roomsOf o) ch l (sharedOf st o₁ memory))
     ]
 
-    abbrev nextLine : List Frame → Bytes → Bytes → Next
-    nextLine frames memory l = elim (begins name l) as (λ _. Next) [
-      | true ↦ running (pastLine (lines (drop next text)) (stateOf text none frames st o₁ memory))
-      | false ↦ byLength frames memory l
+    abbrev nextLine : List Frame → Tally → Bytes → Bytes → Next
+    nextLine frames y memory l = elim (begins name l) as (λ _. Next) [
+      | true ↦ running (pastLine (lines (drop next text)) (stateOf text none frames y st o₁ memory))
+      | false ↦ byLength frames y memory l
     ]
 
-    next-is : (frames : List Frame) (memory : Bytes)
-        → copyLines m (roomsOf o) ch name (lines (drop (s .at) text)) (stateOf text none frames s o memory) ≡ nextLine frames memory content
+    next-is : (frames : List Frame) (y : Tally) (memory : Bytes)
+        → copyLines m (roomsOf o) ch name (lines (drop (s .at) text)) (stateOf text none frames y s o memory) ≡ nextLine frames y memory content
     unfolding copyLines
-    next-is frames memory =
-        v .same frames memory
-        ∙ ap (λ (ls : List Bytes). copyLines m (roomsOf o) ch name ls (stateOf text none frames st o₁ memory)) (g .is)
-        ∙ ap (nextLine frames memory) (sym (g .content))
+    next-is frames y memory =
+        v .same frames y memory
+        ∙ ap (λ (ls : List Bytes). copyLines m (roomsOf o) ch name ls (stateOf text none frames y st o₁ memory)) (g .is)
+        ∙ ap (nextLine frames y memory) (sym (g .content))
 
     -- what writing it asks
     module _ {c : Head} {x : Answer} (ex : x ≡ goesOn c t) where
@@ -203,7 +204,7 @@ module _ {m : Marks} {text : Bytes} {ch : Channel} {name : Bytes} {s : State} {o
     -- it begins with the name
     pub copied-stops : {c : Head} {r : Answer} → b ≡ true → r ≡ goesOn c t → CopiesLines m text ch c name s o r o₁
     copied-stops {c} e er = goes-on (moved-read (v .moved) g)
-        (λ frames memory. next-is frames memory ∙ when-true _ _ (sym (n .is) ∙ e) ∙ ap (λ (x : Machine.State). running x) (past-is frames memory)) (er ∙ ap (goesOn c) et)
+        (λ frames y memory. next-is frames y memory ∙ when-true _ _ (sym (n .is) ∙ e) ∙ ap (λ (x : Machine.State). running x) (past-is frames y memory)) (er ∙ ap (goesOn c) et)
 
     module _ {c : Head} {x a : Answer} {o₂ : Outputs} (e : b ≡ false) (ex : x ≡ goesOn c t) (y : CopiesContent ch text (st .at) end x o₁ a o₂) where
       -- the answer before is that of the line read
@@ -213,9 +214,9 @@ module _ {m : Marks} {text : Bytes} {ch : Channel} {name : Bytes} {s : State} {o
       moved-on : Moved text s o read o₁
       moved-on = moved-read (v .moved) g
 
-      not-begun : (frames : List Frame) (memory : Bytes)
-          → copyLines m (roomsOf o) ch name (lines (drop (s .at) text)) (stateOf text none frames s o memory) ≡ byLength frames memory content
-      not-begun frames memory = next-is frames memory ∙ when-false _ _ (sym (n .is) ∙ e)
+      not-begun : (frames : List Frame) (y : Tally) (memory : Bytes)
+          → copyLines m (roomsOf o) ch name (lines (drop (s .at) text)) (stateOf text none frames y s o memory) ≡ byLength frames y memory content
+      not-begun frames y memory = next-is frames y memory ∙ when-false _ _ (sym (n .is) ∙ e)
 
       writes-as : (memory : Bytes) {w : Option Shared} → wrote (roomsOf o₁) ch content (sharedOf read o₁ memory) ≡ w → wrote (roomsOf o) ch content (sharedOf st o₁ memory) ≡ w
       writes-as memory f = ap (λ (k : Rooms). wrote k ch content (sharedOf st o₁ memory)) (sym (rooms-kept (v .moved .extends))) ∙ f
@@ -227,11 +228,11 @@ module _ {m : Marks} {text : Bytes} {ch : Channel} {name : Bytes} {s : State} {o
           byRoom : (k : Bool) → hasRoomOn ch content read o₁ ≡ k → tooLong ch content ≡ false → Writes ch content (goesOn c read) o₁ a o₂ → CopiesLines m text ch c name s o a o₂
           byRoom true k q w = false-not-true (sym (ap (λ (z : Answer). isLeft (turn z)) (w .fits k .0)) ∙ left)
           byRoom false k q w = subst (λ (z : Outputs). CopiesLines m text ch c name s o a z) (sym (w .full k .1)) (run-ends moved-on
-              (λ frames memory. not-begun frames memory ∙ when-false _ _ q ∙ ap (byWriting frames memory) (writes-as memory (w .full k .2 memory)) ∙ ap (λ (z : Machine.State). ended 13 z) (past-is frames memory)) (w .full k .0))
+              (λ frames y memory. not-begun frames y memory ∙ when-false _ _ q ∙ ap (byWriting frames y memory) (writes-as memory (w .full k .2 memory)) ∙ ap (λ (z : Machine.State). ended 13 z) (past-is frames y memory)) (w .full k .0))
 
           by : (q : Bool) → tooLong ch content ≡ q → CopiesLines m text ch c name s o a o₂
           by true q = subst (λ (z : Outputs). CopiesLines m text ch c name s o a z) (sym (at-read .long q .1)) (run-ends moved-on
-              (λ frames memory. not-begun frames memory ∙ when-true _ _ q ∙ ap (λ (z : Machine.State). ended 11 z) (past-is frames memory)) (at-read .long q .0))
+              (λ frames y memory. not-begun frames y memory ∙ when-true _ _ q ∙ ap (λ (z : Machine.State). ended 11 z) (past-is frames y memory)) (at-read .long q .0))
           by false q = byRoom (hasRoomOn ch content read o₁) refl q (at-read .writes q)
 
       -- it is copied
@@ -243,11 +244,11 @@ module _ {m : Marks} {text : Bytes} {ch : Channel} {name : Bytes} {s : State} {o
           byRoom true k q w =
               let is : a .state ≡ withWritten read (a .state .written) (a .state .second) = ap (λ (z : Answer). z .state) (w .fits k .0) in
               record {
-                same = λ frames memory.
-                    not-begun frames memory ∙ when-false _ _ q ∙ ap (byWriting frames memory) (writes-as memory (w .fits k .1 memory))
-                    ∙ ap (λ (z : Machine.State). copyLines m (roomsOf o) ch name (lines (drop next text)) (stateWith z none frames (sharedOf (a .state) o₂ memory))) (past-is frames memory)
+                same = λ frames y memory.
+                    not-begun frames y memory ∙ when-false _ _ q ∙ ap (byWriting frames y memory) (writes-as memory (w .fits k .1 memory))
+                    ∙ ap (λ (z : Machine.State). copyLines m (roomsOf o) ch name (lines (drop next text)) (stateWith z none frames (sharedOf (a .state) o₂ memory))) (past-is frames y memory)
                     ∙ (λ i. copyLines m (roomsOf o) ch name (lines (drop (sym is i .at) text))
-                    (record { input = lines (drop (sym is i .at) text); line = sym is i .line; pending = none; frames = frames; calls = sym is i .calls; shared = sharedOf (a .state) o₂ memory; events = sym is i .events }));
+                    (record { input = lines (drop (sym is i .at) text); line = sym is i .line; pending = none; frames = frames; calls = sym is i .calls; shared = sharedOf (a .state) o₂ memory; events = sym is i .events; tally = y }));
                 moved = moved-written moved-on is (w .extends);
               }
           byRoom false k q w = false-not-true (sym on ∙ ap (λ (z : Answer). isLeft (turn z)) (w .full k .0))
@@ -297,7 +298,7 @@ module _ {m : Marks} {text : Bytes} {ch : Channel} {c : Head} {nums : List ℕ} 
   unfolding stepped stateWith settle nextAt nextOf
   copies-none {r} z e = record {
     comes = λ memory b h. subst (λ (x : Answer). Comes m text (copies (roomsOf o) ch (frameOf m text (laid c nums bytes)) (sharedOf s o memory)) s o b x nums bytes o memory) (sym e) (record {
-      same = λ fs. ap settle (unnamed m (roomsOf o) ch (param (frameOf m text (laid c nums bytes)) 1) (stateOf text none (frameOf m text (laid c nums bytes) ∷ fs) s o memory) (name-long m q l ∙ z));
+      same = λ fs y. ap settle (unnamed m (roomsOf o) ch (param (frameOf m text (laid c nums bytes)) 1) (stateOf text none (frameOf m text (laid c nums bytes) ∷ fs) y s o memory) (name-long m q l ∙ z));
       sound = h;
       placed = q;
       short = omega arith;
@@ -310,8 +311,8 @@ module _ {m : Marks} {text : Bytes} {ch : Channel} {c : Head} {nums : List ℕ} 
   unfolding stepped stateWith
   copies-input {r} {o′} z v = record {
     comes = λ memory b h. record {
-      same = λ fs. ap settle (copies-named m (roomsOf o) ch (param (frameOf m text (laid c nums bytes)) 1) (stateOf text none (frameOf m text (laid c nums bytes) ∷ fs) s o memory) (λ e. z (sym (name-long m q l) ∙ e))
-          ∙ ap (λ (x : Bytes). copyLines m (roomsOf o) ch x (lines (drop (s .at) text)) (stateOf text none (frameOf m text (laid c nums bytes) ∷ fs) s o memory)) (named m q l)) ∙ v .same fs nums bytes b memory;
+      same = λ fs y. ap settle (copies-named m (roomsOf o) ch (param (frameOf m text (laid c nums bytes)) 1) (stateOf text none (frameOf m text (laid c nums bytes) ∷ fs) y s o memory) (λ e. z (sym (name-long m q l) ∙ e))
+          ∙ ap (λ (x : Bytes). copyLines m (roomsOf o) ch x (lines (drop (s .at) text)) (stateOf text none (frameOf m text (laid c nums bytes) ∷ fs) y s o memory)) (named m q l)) ∙ v .same fs y nums bytes b memory;
       sound = v .sound memory h;
       placed = v .placed nums bytes q;
       short = unoffered-short (turn r) (v .settled);

@@ -11,6 +11,7 @@ use Rattle.model.specs.declared.Marks.{Marks}
 use Rattle.model.specs.declared.Channel.{Channel}
 use Rattle.model.specs.Text.{Bytes, part, lines}
 use Rattle.model.specs.Load.{begins}
+use Rattle.model.specs.Report.{Tally}
 use Rattle.model.specs.Machine.{Outputs, Frame, copies, tooLong, copyLines}
 use Rattle.state.specs.declared.State.{State}
 use Rattle.state.specs.State.{sharedOf, stateOf, Sound}
@@ -43,8 +44,8 @@ pub record CopiesContent (ch : Channel) (text : Bytes) (at end : ℕ) (r : Answe
 
 -- r is what copying the input lines left comes to, in whatever call with this head, up to one that begins with the name
 pub record CopiesLines (m : Marks) (text : Bytes) (ch : Channel) (c : Head) (name : Bytes) (s : State) (o : Outputs) (r : Answer) (o′ : Outputs) : Type 0 where
-  pub same : (fs : List Frame) (nums : List ℕ) (bytes b memory : Bytes)
-      → settle (copyLines m (roomsOf o) ch name (lines (drop (s .at) text)) (stateOf text none (frameOf m text (laid c nums bytes) ∷ fs) s o memory)) ≡ nextOf m text fs r nums bytes b o′ memory
+  pub same : (fs : List Frame) (y : Tally) (nums : List ℕ) (bytes b memory : Bytes)
+      → settle (copyLines m (roomsOf o) ch name (lines (drop (s .at) text)) (stateOf text none (frameOf m text (laid c nums bytes) ∷ fs) y s o memory)) ≡ nextOf m text fs y r nums bytes b o′ memory
   pub sound : (memory : Bytes) → Sound text s o memory → Sound text (r .state) o′ memory
   pub placed : (nums : List ℕ) (bytes : Bytes) → Placed text (laid c nums bytes) → Placed text (laid (r .call) nums bytes)
   pub settled : isOffer (turn r) ≡ false

@@ -1,6 +1,6 @@
 // Offering a line and running a body call each other under fuel (document 01, "Events, store and result"). The fuel falls with
 // each line that is offered and each code line that is begun. Of the lent rows, `dead` is the search's alone: it has bits for the places of the
-// tree's `count` nodes.
+// tree's `count` nodes; `counts` says how often each template was chosen.
 ghost use mathlib.Core.Option.{none, some};
 ghost use mathlib.Core.List.{[], _∷_};
 ghost use Prim.Native.Nat.{_≤_, _<_};
@@ -8,6 +8,7 @@ ghost use lib.ListN.{length, take};
 ghost use Rattle.model.specs.Machine.{outputs};
 ghost use Rattle.state.specs.State.{Sound};
 ghost use Rattle.call.specs.Call.{openedOf, laid, Sized};
+ghost use Rattle.usage.specs.Counts.{Counts};
 ghost use Rattle.matching.specs.Book.{Prepared};
 ghost use Rattle.answer.specs.Kept.{Begun, Open};
 ghost use Rattle.cycle_laws.specs.Meets.{Meets, Advances};
@@ -22,6 +23,7 @@ use call::CALL_NUMBERS;
 use call::Call;
 use landing::land;
 use matching::count_call;
+use matching::count_decided;
 use matching::decide;
 use matching::open_reading;
 use model::LINE_MOST;
@@ -40,18 +42,21 @@ pub fn offer(
     output: &mut [u8],
     second: &mut [u8],
     memory: &mut [u8],
+    counts: &mut [usize],
     line: &[u8],
     n: usize,
     depth: usize,
     s: State,
 ) -> Answer
     requires { ⌜ Prepared m (now text) (now nodes) count (now bodies) × Sound (now text) s (outputs (now output) (now second)) (now memory)
-        × (n ≤ lineMost) × (n ≤ length (now line)) × (depth ≤ callsMost) × (deadLeast ≤ length (now dead)) ⌝ }
+        × (n ≤ lineMost) × (n ≤ length (now line)) × (depth ≤ callsMost) × (deadLeast ≤ length (now dead))
+        × Counts (now counts) (s .fuel) ⌝ }
     ensures { λ r. ⌜ Meets m (now (text .entry)) (now (nodes .entry)) count (now (bodies .entry)) (some (take n (now (line .entry)))) []
-        depth s (outputs (now (output .entry)) (now (second .entry))) (now (memory .entry)) r
-        (outputs (now (output .exit)) (now (second .exit))) (now (memory .exit)) ⌝ }
+        depth s (outputs (now (output .entry)) (now (second .entry))) (now (memory .entry)) (now (counts .entry)) r
+        (outputs (now (output .exit)) (now (second .exit))) (now (memory .exit)) (now (counts .exit)) ⌝ }
 {
     let found = fit::first_reading(m, nodes, count, dead, line, n);
+    count_decided(found, counts, s);
     let a = decide(found, line, n, output, depth, s);
     if is_left(a) {
         return a;
@@ -70,6 +75,7 @@ pub fn offer(
         output,
         second,
         memory,
+        counts,
         &mut nums,
         &mut params,
         call,
@@ -89,6 +95,7 @@ fn body(
     output: &mut [u8],
     second: &mut [u8],
     memory: &mut [u8],
+    counts: &mut [usize],
     nums: &mut [usize],
     params: &mut [u8],
     call: Call,
@@ -96,10 +103,11 @@ fn body(
     s: State,
 ) -> Answer
     requires { ⌜ Prepared m (now text) (now nodes) count (now bodies) × Sound (now text) s (outputs (now output) (now second)) (now memory)
-        × Begun m (now text) call × (depth < callsMost) × Sized (now nums) (now params) × (deadLeast ≤ length (now dead)) ⌝ }
+        × Begun m (now text) call × (depth < callsMost) × Sized (now nums) (now params) × (deadLeast ≤ length (now dead))
+        × Counts (now counts) (s .fuel) ⌝ }
     ensures { λ r. ⌜ Meets m (now (text .entry)) (now (nodes .entry)) count (now (bodies .entry)) none (openedOf m (now (text .entry)) call ∷ [])
-        depth s (outputs (now (output .entry)) (now (second .entry))) (now (memory .entry)) r
-        (outputs (now (output .exit)) (now (second .exit))) (now (memory .exit)) ⌝ }
+        depth s (outputs (now (output .entry)) (now (second .entry))) (now (memory .entry)) (now (counts .entry)) r
+        (outputs (now (output .exit)) (now (second .exit))) (now (memory .exit)) (now (counts .exit)) ⌝ }
 {
     let c = call::lay_out(call, nums, params);
     let mut a = go_on(c, s);
@@ -114,6 +122,7 @@ fn body(
             output,
             second,
             memory,
+            counts,
             nums,
             params,
             a,
@@ -137,16 +146,18 @@ fn advance(
     output: &mut [u8],
     second: &mut [u8],
     memory: &mut [u8],
+    counts: &mut [usize],
     nums: &mut [usize],
     params: &mut [u8],
     a: Answer,
     depth: usize,
 ) -> Answer
     requires { ⌜ Prepared m (now text) (now nodes) count (now bodies) × Sound (now text) (a .state) (outputs (now output) (now second)) (now memory)
-        × Open m (now text) (laid (a .call) (now nums) (now params)) × (depth < callsMost) × (deadLeast ≤ length (now dead)) ⌝ }
+        × Open m (now text) (laid (a .call) (now nums) (now params)) × (depth < callsMost) × (deadLeast ≤ length (now dead))
+        × Counts (now counts) (a .state .fuel) ⌝ }
     ensures { λ r. ⌜ Advances m (now (text .entry)) (now (nodes .entry)) count (now (bodies .entry)) (laid (a .call) (now (nums .entry)) (now (params .entry)))
-        depth (a .state) (outputs (now (output .entry)) (now (second .entry))) (now (memory .entry)) r
-        (now (nums .exit)) (now (params .exit)) (outputs (now (output .exit)) (now (second .exit))) (now (memory .exit)) ⌝ }
+        depth (a .state) (outputs (now (output .entry)) (now (second .entry))) (now (memory .entry)) (now (counts .entry)) r
+        (now (nums .exit)) (now (params .exit)) (outputs (now (output .exit)) (now (second .exit))) (now (memory .exit)) (now (counts .exit)) ⌝ }
 {
     let mut built = [0u8; LINE_MOST];
     let q = carry::step(m, text, a, nums, params, &mut built, output, second, memory);
@@ -165,6 +176,7 @@ fn advance(
         output,
         second,
         memory,
+        counts,
         &built,
         n,
         depth + 1,

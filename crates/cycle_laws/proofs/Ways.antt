@@ -13,7 +13,8 @@ use lib.ListN.{length, getD, take}
 use Rattle.model.specs.declared.Marks.{Marks}
 use Rattle.model.specs.Text.{Bytes}
 use Rattle.model.specs.Load.{templates, Loaded, noMacro}
-use Rattle.model.specs.Machine.{Rooms, Outputs, outputs, Frame, running}
+use Rattle.model.specs.Report.{Tally, noLines}
+use Rattle.model.specs.Machine.{Rooms, Outputs, outputs, Frame, running, passThrough}
 use Rattle.model.specs.Sizes.{Nested}
 use Rattle.model.proofs.Choices.{false-not-true}
 use Rattle.model.proofs.Frames.{NextOk}
@@ -27,7 +28,7 @@ use Rattle.call.specs.Params.{Lays}
 use Rattle.fit.specs.declared.Choice.{Choice}
 use Rattle.fit.specs.Chosen.{Chooses}
 use Rattle.answer.specs.declared.Answer.{Answer}
-use Rattle.answer.specs.Answers.{turn, goesOn, endsWith, isLeft, isOffer, offeredLength, nextAt, nextOf, roomsOf, comesTo}
+use Rattle.answer.specs.Answers.{turn, goesOn, endsWith, isLeft, isOffer, offeredLength, nextAt, nextOf, roomsOf, comesTo, resultAfter}
 use Rattle.answer.specs.Kept.{Follows, Begun, Open}
 use Rattle.answer.proofs.Following.{extends-none, follows-itself, follows-trans, rooms-kept}
 use Rattle.answer.proofs.Expansion.{halts-with, settle-same, next-on, next-offers, next-nested, left-same, left-nested, unoffered-same, offer-open}
@@ -35,9 +36,12 @@ use Rattle.write.specs.Output.{PassesThrough}
 use Rattle.write.proofs.Lines.{wrote-back, wrote-follows, wrote-left, wrote-fuel}
 use Rattle.carry.specs.Carries.{Steps}
 use Rattle.landing.specs.Landing.{LandsAnswer}
-use Rattle.matching.specs.Book.{Book, Prepared}
-use Rattle.matching.specs.Matches.{opened, Decides, Opened}
+use Rattle.usage.specs.Counts.{Counts}
+use Rattle.usage.proofs.Counts.{counts-less}
+use Rattle.matching.specs.Book.{Book, Prepared, tallyIn}
+use Rattle.matching.specs.Matches.{opened, CountsDecided, Decides, Opened}
 use Rattle.matching.proofs.Matching.{reading-calls}
+use Rattle.matching.proofs.Counting.{decided-counts, passed-tally, chosen-tally}
 use Rattle.cycle_laws.specs.Meets.{Meets, Advances}
 use Rattle.cycle_laws.proofs.Events.{eventWith, offer-spent, no-call, too-deep, enters}
 
@@ -74,54 +78,64 @@ pub record EntersCall (q : Choice) (depth : ℕ) (s : State) (o : Bytes) (a : An
   pub kept : o₁ ≡ o
 
 -- no fuel is left
-offer-stops : {m : Marks} {text : Bytes} {row : List Node} {count : ℕ} {bodies : List ℕ} {l : Bytes} {depth : ℕ} {s : State} {o : Outputs} {w : Bytes}
-    → Sound text s o w → s .fuel ≡ 0 → Meets m text row count bodies (some l) [] depth s o w (endsWith 20 s) o w
+offer-stops : {m : Marks} {text : Bytes} {row : List Node} {count : ℕ} {bodies : List ℕ} {l : Bytes} {depth : ℕ} {s : State} {o : Outputs} {w : Bytes} {cs : List ℕ}
+    → Sound text s o w → Counts cs (s .fuel) → s .fuel ≡ 0 → Meets m text row count bodies (some l) [] depth s o w cs (endsWith 20 s) o w cs
 unfolding nextAt nextOf
-offer-stops {m} {text} {row} {count} {bodies} {l} {depth} {s} {o} {w} sound spent = record {
+offer-stops {m} {text} {row} {count} {bodies} {l} {depth} {s} {o} {w} {cs} sound kept spent = record {
   follows = follows-itself sound;
+  counted = kept;
   left = refl;
-  same = λ t b fs k _ _ _. offer-spent (roomsOf o) m text t s o w spent l fs ∙ sym (halts-with (s .fuel) (roomsOf o) t text 20 [] s o w);
+  same = λ t b fs k _ _ _. offer-spent (roomsOf o) m text t (tallyIn t cs) s o w spent l fs ∙ sym (halts-with (s .fuel) (roomsOf o) t text 20 [] (tallyIn t cs) s o w);
 }
 
-module _ {m : Marks} {text : Bytes} {row : List Node} {count : ℕ} {bodies : List ℕ} (line : Bytes) (n : ℕ) {depth : ℕ} {s : State} {o : Outputs} {w : Bytes} {q : Choice} (sound : Sound text s o w) (g : Chooses m row count (take n line) q) where
+module _ {m : Marks} {text : Bytes} {row : List Node} {count : ℕ} {bodies : List ℕ} (line : Bytes) (n : ℕ) {depth : ℕ} {s : State} {o : Outputs} {w : Bytes} {cs cs₁ : List ℕ} {q : Choice}
+    (sound : Sound text s o w) (kept : Counts cs (s .fuel)) (g : Chooses m row count (take n line) q) (z : CountsDecided q (s .fuel) cs cs₁) where
   module _ (some-fuel : 0 < s .fuel) where
     -- the line has no reading
-    offer-writes : {r : Answer} {o′ : Bytes} → q .found ≡ false → PassesThrough line n (countedEvent s) (o .first) r o′ → Meets m text row count bodies (some (take n line)) [] depth s o w r (outputs o′ (o .second)) w
+    offer-writes : {r : Answer} {o′ : Bytes} → q .found ≡ false → PassesThrough line n (countedEvent s) (o .first) r o′
+        → Meets m text row count bodies (some (take n line)) [] depth s o w cs r (outputs o′ (o .second)) w cs₁
     offer-writes e p =
         let v = p .writes (o .second) (sound .second) in
         let c = event-follows (s .calls) (omega arith) sound some-fuel in
         record {
           follows = follows-trans c (wrote-follows v (c .sound));
+          counted = rw (wrote-fuel v) (decided-counts z some-fuel kept);
           left = wrote-left v;
-          same = λ t b fs i nums bytes built. no-call (roomsOf o) m text t s o w (b .marks) some-fuel (take n line) fs (g .no-call e _ (b .fits))
+          same = λ t b fs i nums bytes built. no-call (roomsOf o) m text t (tallyIn t cs) s o w (b .marks) some-fuel (take n line) fs (g .no-call e _ (b .fits))
+              ∙ ap (λ (y : Tally). comesTo (s .fuel - 1) (roomsOf o) t (passThrough (roomsOf o) (take n line) (stateOf text none fs y (countedEvent s) o w))) (sym (passed-tally z some-fuel b kept e))
               ∙ settle-same (s .fuel - 1) (roomsOf o) t _
-              ∙ (λ j. comesTo (sym (wrote-fuel v) j) (roomsOf o) t (wrote-back v m text fs nums bytes built w j));
+              ∙ (λ j. comesTo (sym (wrote-fuel v) j) (roomsOf o) t (wrote-back v m text fs (tallyIn t cs₁) nums bytes built w j));
         }
 
     -- it opens a thirteenth call
-    offer-deep : q .found ≡ true → depth ≡ 12 → Meets m text row count bodies (some (take n line)) [] depth s o w (endsWith 14 (countedEvent s)) o w
+    offer-deep : q .found ≡ true → depth ≡ 12 → Meets m text row count bodies (some (take n line)) [] depth s o w cs (endsWith 14 (countedEvent s)) o w cs₁
     unfolding nextAt nextOf
     offer-deep e deep = record {
       follows = event-follows (s .calls) (omega arith) sound some-fuel;
+      counted = decided-counts z some-fuel kept;
       left = refl;
       same = λ t b fs i _ _ _.
           let c = g .call e (templates (t .macros)) (b .fits) in
-          too-deep (roomsOf o) m text t s o w (b .marks) some-fuel (take n line) fs (c .reading) (c .is) (le-leb 12 (length fs) (omega arith))
-          ∙ sym (halts-with (s .fuel - 1) (roomsOf o) t text 14 [] (countedEvent s) o w);
+          too-deep (roomsOf o) m text t (tallyIn t cs) s o w (b .marks) some-fuel (take n line) fs (c .reading) (c .is) (le-leb 12 (length fs) (omega arith))
+          ∙ ap (λ (y : Tally). resultAfter t y (endsWith 14 (countedEvent s)) o w) (sym (chosen-tally z some-fuel b e c (c .reading) (c .is)))
+          ∙ sym (halts-with (s .fuel - 1) (roomsOf o) t text 14 [] (tallyIn t cs₁) (countedEvent s) o w);
     }
 
   module _ {a : Answer} {o₁ : Bytes} (d : Decides q line n depth s (o .first) a o₁) where
     -- no call is opened
-    pub offer-left : isLeft (turn a) ≡ true → Meets m text row count bodies (some (take n line)) [] depth s o w a (outputs o₁ (o .second)) w
+    pub offer-left : isLeft (turn a) ≡ true → Meets m text row count bodies (some (take n line)) [] depth s o w cs a (outputs o₁ (o .second)) w cs₁
     offer-left e = by (eqb (s .fuel) 0) refl (q .found) refl (eqb depth 12) refl
       where
-        is : {x : Answer} → (a ≡ x) × (o₁ ≡ o .first) → Meets m text row count bodies (some (take n line)) [] depth s o w x o w
-            → Meets m text row count bodies (some (take n line)) [] depth s o w a (outputs o₁ (o .second)) w
+        is : {x : Answer} → (a ≡ x) × (o₁ ≡ o .first) → Meets m text row count bodies (some (take n line)) [] depth s o w cs x o w cs₁
+            → Meets m text row count bodies (some (take n line)) [] depth s o w cs a (outputs o₁ (o .second)) w cs₁
         is f h = rw (f .0, f .1) h
 
+        uncounted : s .fuel ≡ 0 → Meets m text row count bodies (some (take n line)) [] depth s o w cs (endsWith 20 s) o w cs₁
+        uncounted e = rw (z .spent e) (offer-stops sound kept e)
+
         by : (spent : Bool) → eqb (s .fuel) 0 ≡ spent → (found : Bool) → q .found ≡ found → (deep : Bool) → eqb depth 12 ≡ deep
-            → Meets m text row count bodies (some (take n line)) [] depth s o w a (outputs o₁ (o .second)) w
-        by true f b _ _ _ = is (d .spent (eqb-true _ _ f)) (offer-stops sound (eqb-true _ _ f))
+            → Meets m text row count bodies (some (take n line)) [] depth s o w cs a (outputs o₁ (o .second)) w cs₁
+        by true f b _ _ _ = is (d .spent (eqb-true _ _ f)) (uncounted (eqb-true _ _ f))
         by false f false b _ _ = let k = pos-of-ne-zero (eqb-false _ _ f) in offer-writes k b (d .writes k b)
         by false f true b true c = let k = pos-of-ne-zero (eqb-false _ _ f) in is (d .deep k b (eqb-true _ _ c)) (offer-deep k b (eqb-true _ _ c))
         by false f true b false c = false-not-true (sym (ap (λ (x : Answer). isLeft (turn x)) (d .opens (pos-of-ne-zero (eqb-false _ _ f)) b (eqb-false _ _ c) .0)) ∙ e)
@@ -163,6 +177,10 @@ module _ {text : Bytes} {depth : ℕ} {s : State} {o : Outputs} {w : Bytes} {q :
     pub called-less : u .fuel < s .fuel
     called-less = omega (arith, k .some-fuel, ap (λ (y : State). y .fuel) called)
 
+    -- with the line counted
+    pub called-counts : {cs cs₁ : List ℕ} → Counts cs (s .fuel) → CountsDecided q (s .fuel) cs cs₁ → Counts cs₁ (u .fuel)
+    called-counts kept z = rw called (decided-counts z (k .some-fuel) kept)
+
     module _ {m : Marks} {row : List Node} {count : ℕ} {bodies : List ℕ} (line : Bytes) (n : ℕ) {c : Call} (g : Chooses m row count (take n line) q) (h : Opened bodies line n q (u .calls) c) where
       -- the call that is opened
       pub called-begun : Prepared m text row count bodies → Begun m text c
@@ -171,17 +189,22 @@ module _ {text : Bytes} {depth : ℕ} {s : State} {o : Outputs} {w : Bytes} {q :
           record { number = omega (arith, r .same, k .some-fuel, ap (λ (y : State). y .calls) called, sound .calls, sound .total); next = r .within; nested = r .nested }
 
       -- what comes of it
-      pub offer-enters : {r : Answer} {o′ : Outputs} {w′ : Bytes} → depth ≤ 12 → Meets m text row count bodies none (openedOf m text c ∷ []) depth u (outputs o₁ (o .second)) w r o′ w′
-          → Meets m text row count bodies (some (take n line)) [] depth s o w r o′ w′
-      offer-enters {r} {o′} {w′} few p =
-          let x : Meets m text row count bodies none (openedOf m text c ∷ []) depth (withCall (countedEvent s)) o w r o′ w′ = rw (called, k .kept) at p in
+      pub offer-enters : {cs cs₁ : List ℕ} {r : Answer} {o′ : Outputs} {w′ : Bytes} {cs′ : List ℕ} → depth ≤ 12 → CountsDecided q (s .fuel) cs cs₁
+          → Meets m text row count bodies none (openedOf m text c ∷ []) depth u (outputs o₁ (o .second)) w cs₁ r o′ w′ cs′
+          → Meets m text row count bodies (some (take n line)) [] depth s o w cs r o′ w′ cs′
+      offer-enters {cs} {cs₁} {r} {o′} {w′} {cs′} few d p =
+          let x : Meets m text row count bodies none (openedOf m text c ∷ []) depth (withCall (countedEvent s)) o w cs₁ r o′ w′ cs′ = rw (called, k .kept) at p in
           record {
             follows = follows-trans entered (x .follows);
+            counted = x .counted;
             left = x .left;
             same = λ t b fs i nums bytes built.
+                let v = g .call (k .found) (templates (t .macros)) (b .fits) in
                 let z = reading-calls line n g (k .found) h text t b in
-                enters (roomsOf o) m text t s o w (b .marks) (k .some-fuel) (take n line) fs (z .reading) (z .is) (lt-leb 12 (length fs) (omega (arith, few, k .shallow, i)))
-                ∙ ap (λ (f : Frame). comesTo (s .fuel - 1) (roomsOf o) t (running (stateOf text none (f ∷ fs) (withCall (countedEvent s)) o w)))
+                enters (roomsOf o) m text t (tallyIn t cs) s o w (b .marks) (k .some-fuel) (take n line) fs (z .reading) (z .is) (lt-leb 12 (length fs) (omega (arith, few, k .shallow, i)))
+                ∙ ap (λ (y : Tally). comesTo (s .fuel - 1) (roomsOf o) t (running (stateOf text none (opened (s .calls + 1) (getD (t .macros) (z .reading .which) noMacro) (z .reading .pieces) ∷ fs) y (withCall (countedEvent s)) o w)))
+                (sym (chosen-tally d (k .some-fuel) b (k .found) v (z .reading) (z .is)))
+                ∙ ap (λ (f : Frame). comesTo (s .fuel - 1) (roomsOf o) t (running (stateOf text none (f ∷ fs) (tallyIn t cs₁) (withCall (countedEvent s)) o w)))
                 (ap (λ (j : ℕ). opened j (getD (t .macros) (z .reading .which) noMacro) (z .reading .pieces)) (sym (ap (λ (y : State). y .calls) called)) ∙ sym (z .frame))
                 ∙ x .same t b fs i nums bytes built;
           }
@@ -190,13 +213,15 @@ module _ {text : Bytes} {depth : ℕ} {s : State} {o : Outputs} {w : Bytes} {q :
 
 module _ {m : Marks} {text : Bytes} {c : Laid} {s : State} {o : Outputs} {w b : Bytes} {q : Answer} {nums : List ℕ} {bytes : Bytes} {o₁ : Outputs} {w₁ : Bytes} (steps : Steps m text c s o w b q nums bytes o₁ w₁) where
   -- it offers nothing
-  pub advance-takes : {row : List Node} {count : ℕ} {bodies : List ℕ} {depth : ℕ} → isOffer (turn q) ≡ false → Advances m text row count bodies c depth s o w q nums bytes o₁ w₁
-  advance-takes e = record {
+  pub advance-takes : {row : List Node} {count : ℕ} {bodies : List ℕ} {depth : ℕ} {cs : List ℕ} → Counts cs (s .fuel) → isOffer (turn q) ≡ false
+      → Advances m text row count bodies c depth s o w cs q nums bytes o₁ w₁ cs
+  advance-takes {cs = cs} kept e = record {
     follows = steps .follows;
+    counted = counts-less kept (steps .follows .fuel);
     settled = e;
     less = steps .less;
     stays = steps .stays;
-    same = λ t k fs n line. steps .same t (k .marks) fs ∙ ap (comesTo (q .state .fuel) (roomsOf o) t) (unoffered-same m text q fs nums bytes b o₁ w₁ e line);
+    same = λ t k fs n line. steps .same t (k .marks) fs (tallyIn t cs) ∙ ap (comesTo (q .state .fuel) (roomsOf o) t) (unoffered-same m text q fs (tallyIn t cs) nums bytes b o₁ w₁ e line);
   }
 
   module _ (e : isOffer (turn q) ≡ true) where
@@ -210,65 +235,75 @@ module _ {m : Marks} {text : Bytes} {c : Laid} {s : State} {o : Outputs} {w b : 
     offer-placed = stays .placed .next
 
     -- the line that it builds is offered
-    pub advance-offers : {row : List Node} {count : ℕ} {bodies : List ℕ} {depth n : ℕ} {r a : Answer} {o₂ : Outputs} {w₂ : Bytes} → n ≡ offeredLength (turn q)
-        → Meets m text row count bodies (some (take n b)) [] (depth + 1) (q .state) o₁ w₁ r o₂ w₂ → LandsAnswer m text (q .call) r a → Advances m text row count bodies c depth s o w a nums bytes o₂ w₂
-    advance-offers {depth = depth} {n} {r} {a} {o₂} {w₂} en p k =
+    pub advance-offers : {row : List Node} {count : ℕ} {bodies : List ℕ} {depth n : ℕ} {cs : List ℕ} {r a : Answer} {o₂ : Outputs} {w₂ : Bytes} {cs₂ : List ℕ} → n ≡ offeredLength (turn q)
+        → Meets m text row count bodies (some (take n b)) [] (depth + 1) (q .state) o₁ w₁ cs r o₂ w₂ cs₂ → LandsAnswer m text (q .call) r a
+        → Advances m text row count bodies c depth s o w cs a nums bytes o₂ w₂ cs₂
+    advance-offers {depth = depth} {n} {cs} {r} {a} {o₂} {w₂} {cs₂} en p k =
         let f = frameOf m text (laid (q .call) nums bytes) in
-        let ok : NextOk m (nextOf m text [] a nums bytes [] o₂ w₂) =
-        subst (NextOk m) (k .same (p .left) [] nums bytes [] o₂ w₂) (left-nested m text r (f ∷ []) nums bytes [] o₂ w₂ (p .left) (stays .nested, tt)) in
+        let y = noLines [] in
+        let ok : NextOk m (nextOf m text [] y a nums bytes [] o₂ w₂) =
+        subst (NextOk m) (k .same (p .left) [] y nums bytes [] o₂ w₂) (left-nested m text r (f ∷ []) y nums bytes [] o₂ w₂ (p .left) (stays .nested, tt)) in
         record {
+          counted = rw (k .state) (p .counted);
           follows = subst (λ (y : State). Follows text s o y o₂ w₂) (sym (k .state)) (follows-trans (steps .follows) (p .follows));
           settled = k .settled (p .left);
           less = λ _. omega (arith, ap (λ (y : State). y .fuel) (k .state), p .follows .fuel, offer-less);
-          stays = λ g. record { placed = k .placed (p .left) g nums bytes (stays .placed); nested = next-nested m text a [] nums bytes [] o₂ w₂ ok g };
-          same = λ t b′ fs i line. steps .same t (b′ .marks) fs
-              ∙ ap (comesTo (q .state .fuel) (roomsOf o) t) (next-offers m text q fs nums bytes b o₁ w₁ e)
-              ∙ ap (λ (j : ℕ). comesTo (q .state .fuel) (roomsOf o) t (running (stateOf text (some (take j b)) (f ∷ fs) (q .state) o₁ w₁))) (sym en)
-              ∙ subst (λ (room : Rooms). comesTo (q .state .fuel) room t (running (stateOf text (some (take n b)) (f ∷ fs) (q .state) o₁ w₁)) ≡ comesTo (r .state .fuel) room t (nextOf m text (f ∷ fs) r nums bytes line o₂ w₂))
+          stays = λ g. record { placed = k .placed (p .left) g nums bytes (stays .placed); nested = next-nested m text a [] y nums bytes [] o₂ w₂ ok g };
+          same = λ t b′ fs i line. steps .same t (b′ .marks) fs (tallyIn t cs)
+              ∙ ap (comesTo (q .state .fuel) (roomsOf o) t) (next-offers m text q fs (tallyIn t cs) nums bytes b o₁ w₁ e)
+              ∙ ap (λ (j : ℕ). comesTo (q .state .fuel) (roomsOf o) t (running (stateOf text (some (take j b)) (f ∷ fs) (tallyIn t cs) (q .state) o₁ w₁))) (sym en)
+              ∙ subst (λ (room : Rooms). comesTo (q .state .fuel) room t (running (stateOf text (some (take n b)) (f ∷ fs) (tallyIn t cs) (q .state) o₁ w₁))
+              ≡ comesTo (r .state .fuel) room t (nextOf m text (f ∷ fs) (tallyIn t cs₂) r nums bytes line o₂ w₂))
               (rooms-kept (steps .follows .extends)) (p .same t b′ (f ∷ fs) (ap suc i ∙ sym (add-one depth)) nums bytes line)
-              ∙ (λ j. comesTo (sym (k .state) j .fuel) (roomsOf o) t (k .same (p .left) fs nums bytes line o₂ w₂ j));
+              ∙ (λ j. comesTo (sym (k .state) j .fuel) (roomsOf o) t (k .same (p .left) fs (tallyIn t cs₂) nums bytes line o₂ w₂ j));
         }
 
 -- ---- a body
 
 -- what the expansion comes to from the call f₀ on, it comes to from the call c on
-pub record Running (m : Marks) (text : Bytes) (row : List Node) (count : ℕ) (bodies : List ℕ) (depth : ℕ) (f₀ : Frame) (s₀ : State) (o₀ : Outputs) (w₀ : Bytes) (c : Laid) (s : State) (o : Outputs) (w : Bytes) : Type 0 where
+pub record Running (m : Marks) (text : Bytes) (row : List Node) (count : ℕ) (bodies : List ℕ) (depth : ℕ) (f₀ : Frame) (s₀ : State) (o₀ : Outputs) (w₀ : Bytes) (cs₀ : List ℕ)
+    (c : Laid) (s : State) (o : Outputs) (w : Bytes) (cs : List ℕ) : Type 0 where
   pub follows : Follows text s₀ o₀ s o w
+  pub counted : Counts cs (s .fuel)
   pub is-open : Open m text c
   pub same : (t : Loaded) → Book m text row count bodies t → (fs : List Frame) → length fs ≡ depth
-      → comesTo (s₀ .fuel) (roomsOf o₀) t (running (stateOf text none (f₀ ∷ fs) s₀ o₀ w₀)) ≡ comesTo (s .fuel) (roomsOf o₀) t (running (stateOf text none (frameOf m text c ∷ fs) s o w))
+      → comesTo (s₀ .fuel) (roomsOf o₀) t (running (stateOf text none (f₀ ∷ fs) (tallyIn t cs₀) s₀ o₀ w₀))
+      ≡ comesTo (s .fuel) (roomsOf o₀) t (running (stateOf text none (frameOf m text c ∷ fs) (tallyIn t cs) s o w))
 
 -- the call is laid out
-pub running-starts : {m : Marks} {text : Bytes} {row : List Node} {count : ℕ} {bodies : List ℕ} {depth : ℕ} {f : Call} {c : Head} {a : Answer} {nums : List ℕ} {bytes : Bytes} {s : State} {o : Outputs} {w : Bytes}
-    → Sound text s o w → Begun m text f → Lays f c nums bytes → a ≡ goesOn c s → Running m text row count bodies depth (openedOf m text f) s o w (laid (a .call) nums bytes) (a .state) o w
-running-starts {m} {text} {row} {count} {bodies} {depth} {f} {nums = nums} {bytes} {s} {o} {w} sound b h e =
-    subst (λ (x : Answer). Running m text row count bodies depth (openedOf m text f) s o w (laid (x .call) nums bytes) (x .state) o w) (sym e) record {
+pub running-starts : {m : Marks} {text : Bytes} {row : List Node} {count : ℕ} {bodies : List ℕ} {depth : ℕ} {f : Call} {c : Head} {a : Answer} {nums : List ℕ} {bytes : Bytes} {s : State} {o : Outputs} {w : Bytes} {cs : List ℕ}
+    → Sound text s o w → Counts cs (s .fuel) → Begun m text f → Lays f c nums bytes → a ≡ goesOn c s → Running m text row count bodies depth (openedOf m text f) s o w cs (laid (a .call) nums bytes) (a .state) o w cs
+running-starts {m} {text} {row} {count} {bodies} {depth} {f} {nums = nums} {bytes} {s} {o} {w} {cs} sound kept b h e =
+    subst (λ (x : Answer). Running m text row count bodies depth (openedOf m text f) s o w cs (laid (x .call) nums bytes) (x .state) o w cs) (sym e) record {
       follows = follows-itself sound;
+      counted = kept;
       is-open = record { placed = h .placed text (b .number) (b .next); nested = subst (Nested m) (sym (h .frame m text)) (b .nested) };
-      same = λ t _ fs n. ap (λ (g : Frame). comesTo (s .fuel) (roomsOf o) t (running (stateOf text none (g ∷ fs) s o w))) (sym (h .frame m text));
+      same = λ t _ fs n. ap (λ (g : Frame). comesTo (s .fuel) (roomsOf o) t (running (stateOf text none (g ∷ fs) (tallyIn t cs) s o w))) (sym (h .frame m text));
     }
 
-module _ {m : Marks} {text : Bytes} {row : List Node} {count : ℕ} {bodies : List ℕ} {depth : ℕ} {f₀ : Frame} {s₀ : State} {o₀ : Outputs} {w₀ : Bytes} {c : Laid} {s : State} {o : Outputs} {w : Bytes}
-    (i : Running m text row count bodies depth f₀ s₀ o₀ w₀ c s o w) where
-  module _ {a : Answer} {nums : List ℕ} {bytes : Bytes} {o′ : Outputs} {w′ : Bytes} (h : Advances m text row count bodies c depth s o w a nums bytes o′ w′) where
+module _ {m : Marks} {text : Bytes} {row : List Node} {count : ℕ} {bodies : List ℕ} {depth : ℕ} {f₀ : Frame} {s₀ : State} {o₀ : Outputs} {w₀ : Bytes} {cs₀ : List ℕ} {c : Laid} {s : State} {o : Outputs} {w : Bytes} {cs : List ℕ}
+    (i : Running m text row count bodies depth f₀ s₀ o₀ w₀ cs₀ c s o w cs) where
+  module _ {a : Answer} {nums : List ℕ} {bytes : Bytes} {o′ : Outputs} {w′ : Bytes} {cs′ : List ℕ} (h : Advances m text row count bodies c depth s o w cs a nums bytes o′ w′ cs′) where
     advanced-same : (t : Loaded) → Book m text row count bodies t → (fs : List Frame) → length fs ≡ depth → (line : Bytes)
-        → comesTo (s₀ .fuel) (roomsOf o₀) t (running (stateOf text none (f₀ ∷ fs) s₀ o₀ w₀)) ≡ comesTo (a .state .fuel) (roomsOf o₀) t (nextOf m text fs a nums bytes line o′ w′)
+        → comesTo (s₀ .fuel) (roomsOf o₀) t (running (stateOf text none (f₀ ∷ fs) (tallyIn t cs₀) s₀ o₀ w₀)) ≡ comesTo (a .state .fuel) (roomsOf o₀) t (nextOf m text fs (tallyIn t cs′) a nums bytes line o′ w′)
     advanced-same t b fs n line = i .same t b fs n
-        ∙ subst (λ (room : Rooms). comesTo (s .fuel) room t (running (stateOf text none (frameOf m text c ∷ fs) s o w)) ≡ comesTo (a .state .fuel) room t (nextOf m text fs a nums bytes line o′ w′))
+        ∙ subst (λ (room : Rooms). comesTo (s .fuel) room t (running (stateOf text none (frameOf m text c ∷ fs) (tallyIn t cs) s o w)) ≡ comesTo (a .state .fuel) room t (nextOf m text fs (tallyIn t cs′) a nums bytes line o′ w′))
         (rooms-kept (i .follows .extends)) (h .same t b fs n line)
 
     -- the call is left, or the run has ended
-    pub body-left : isLeft (turn a) ≡ true → Meets m text row count bodies none (f₀ ∷ []) depth s₀ o₀ w₀ a o′ w′
+    pub body-left : isLeft (turn a) ≡ true → Meets m text row count bodies none (f₀ ∷ []) depth s₀ o₀ w₀ cs₀ a o′ w′ cs′
     body-left e = record {
       follows = follows-trans (i .follows) (h .follows);
+      counted = h .counted;
       left = e;
-      same = λ t b fs n nums′ bytes′ line. advanced-same t b fs n line ∙ ap (comesTo (a .state .fuel) (roomsOf o₀) t) (left-same m text a fs nums bytes line o′ w′ e nums′ bytes′ line);
+      same = λ t b fs n nums′ bytes′ line. advanced-same t b fs n line ∙ ap (comesTo (a .state .fuel) (roomsOf o₀) t) (left-same m text a fs (tallyIn t cs′) nums bytes line o′ w′ e nums′ bytes′ line);
     }
 
     -- the call goes on
-    pub running-on : isLeft (turn a) ≡ false → Running m text row count bodies depth f₀ s₀ o₀ w₀ (laid (a .call) nums bytes) (a .state) o′ w′
+    pub running-on : isLeft (turn a) ≡ false → Running m text row count bodies depth f₀ s₀ o₀ w₀ cs₀ (laid (a .call) nums bytes) (a .state) o′ w′ cs′
     running-on e = record {
       follows = follows-trans (i .follows) (h .follows);
+      counted = h .counted;
       is-open = h .stays e;
-      same = λ t b fs n. advanced-same t b fs n [] ∙ ap (comesTo (a .state .fuel) (roomsOf o₀) t) (next-on m text a fs nums bytes [] o′ w′ e (h .settled));
+      same = λ t b fs n. advanced-same t b fs n [] ∙ ap (comesTo (a .state .fuel) (roomsOf o₀) t) (next-on m text a fs (tallyIn t cs′) nums bytes [] o′ w′ e (h .settled));
     }

@@ -59,7 +59,7 @@ module _ {c : Laid} {s : State} {memory : Bytes} {a b : ℕ} {memory′ : Bytes}
           subst (λ (z : Answer). Comes m text (saveText (param (frameOf m text c) 1) (param (frameOf m text c) 2) (frameOf m text c) (sharedOf s o memory)) s o line z (c .nums) (c .bytes) o memory′)
           (sym (g ∙ ap (λ (z : State). goesOn (c .head) z) f))
           (comes-as (when-true _ _ (v .fits) ∙ ap (λ (es : Store). continues (frameOf m text c) (withStore (sharedOf s o memory) es)) (sym (v .is))) (record {
-            same = λ fs. refl;
+            same = λ fs y. refl;
             sound = record { within = h .within; lines = h .lines; written = h .written; second = h .second; kept = v .kept; symbols = omega arith; calls = h .calls; total = h .total };
             placed = q;
             short = omega arith;

@@ -14,7 +14,8 @@ use Rattle.state.specs.State.{Sound, stateOf, withInput}
 use Rattle.answer.specs.declared.Answer.{Answer}
 use Rattle.answer.specs.Answers.{roomsOf, comesTo, resultAfter}
 use Rattle.answer.specs.Kept.{ExtendsBoth}
-use Rattle.matching.specs.Book.{Book}
+use Rattle.usage.specs.Counts.{Counts}
+use Rattle.matching.specs.Book.{Book, tallyIn}
 
 -- the content text[at..end] is at the front of the line
 pub record TakesContent (text : Bytes) (at end : ℕ) (line : Bytes) : Type 0 where
@@ -29,10 +30,12 @@ pub record DropsLines (text : Bytes) (n : ℕ) (s s′ : State) : Type 0 where
   pub within : s′ .at ≤ length text
   pub few : s′ .line + s .at ≤ s .line + s′ .at
 
--- r ends the run with the expansion's result. `row`, `count` and `bodies` are the nodes, how many the tree has and where the bodies start, s o memory are the state, outputs
--- and memory before, and o′ memory′ those after
-pub record Expands (m : Marks) (text : Bytes) (row : List Node) (count : ℕ) (bodies : List ℕ) (s : State) (o : Outputs) (memory : Bytes) (r : Answer) (o′ : Outputs) (memory′ : Bytes) : Type 0 where
+-- r ends the run with the expansion's result. `row`, `count` and `bodies` are the nodes, how many the tree has and where the bodies start, s o memory counts are the state,
+-- outputs, memory and counts before, and o′ memory′ counts′ those after
+pub record Expands (m : Marks) (text : Bytes) (row : List Node) (count : ℕ) (bodies : List ℕ)
+    (s : State) (o : Outputs) (memory : Bytes) (counts : List ℕ) (r : Answer) (o′ : Outputs) (memory′ : Bytes) (counts′ : List ℕ) : Type 0 where
   pub sound : Sound text (r .state) o′ memory′
+  pub counted : Counts counts′ (r .state .fuel)
   pub extends : ExtendsBoth o s o′ (r .state)
   pub same : (t : Loaded) → Book m text row count bodies t
-      → comesTo (s .fuel) (roomsOf o) t (running (stateOf text none [] s o memory)) ≡ resultAfter r o′ memory′
+      → comesTo (s .fuel) (roomsOf o) t (running (stateOf text none [] (tallyIn t counts) s o memory)) ≡ resultAfter t (tallyIn t counts′) r o′ memory′

@@ -7,6 +7,7 @@ ghost use lib.ListN.{length};
 ghost use Rattle.model.specs.Text.{part};
 ghost use Rattle.model.specs.Machine.{outputs};
 ghost use Rattle.state.specs.State.{Sound};
+ghost use Rattle.usage.specs.Counts.{Counts};
 ghost use Rattle.matching.specs.Book.{Prepared};
 ghost use Rattle.cycle_laws.specs.Meets.{Meets};
 ghost use Rattle.input.specs.Expands.{TakesContent, DropsLines, Expands};
@@ -60,15 +61,16 @@ fn offer_content(
     output: &mut [u8],
     second: &mut [u8],
     memory: &mut [u8],
+    counts: &mut [usize],
     at: usize,
     end: usize,
     s: State,
 ) -> Answer
     requires { ⌜ Prepared m (now text) (now nodes) count (now bodies) × Sound (now text) s (outputs (now output) (now second)) (now memory)
-        × (at ≤ end) × (end ≤ length (now text)) × (end ≤ at + lineMost) × (deadLeast ≤ length (now dead)) ⌝ }
+        × (at ≤ end) × (end ≤ length (now text)) × (end ≤ at + lineMost) × (deadLeast ≤ length (now dead)) × Counts (now counts) (s .fuel) ⌝ }
     ensures { λ r. ⌜ Meets m (now (text .entry)) (now (nodes .entry)) count (now (bodies .entry)) (some (part (now (text .entry)) at end)) []
-        0 s (outputs (now (output .entry)) (now (second .entry))) (now (memory .entry)) r
-        (outputs (now (output .exit)) (now (second .exit))) (now (memory .exit)) ⌝ }
+        0 s (outputs (now (output .entry)) (now (second .entry))) (now (memory .entry)) (now (counts .entry)) r
+        (outputs (now (output .exit)) (now (second .exit))) (now (memory .exit)) (now (counts .exit)) ⌝ }
 {
     let mut line = [0u8; LINE_MOST];
     take_line(text, at, end, &mut line);
@@ -83,6 +85,7 @@ fn offer_content(
         output,
         second,
         memory,
+        counts,
         &line,
         n,
         0,
@@ -101,13 +104,14 @@ pub fn expand_input(
     output: &mut [u8],
     second: &mut [u8],
     memory: &mut [u8],
+    counts: &mut [usize],
     s: State,
 ) -> Answer
     requires { ⌜ Prepared m (now text) (now nodes) count (now bodies) × Sound (now text) s (outputs (now output) (now second)) (now memory)
-        × (deadLeast ≤ length (now dead)) ⌝ }
+        × (deadLeast ≤ length (now dead)) × Counts (now counts) (s .fuel) ⌝ }
     ensures { λ r. ⌜ Expands m (now (text .entry)) (now (nodes .entry)) count (now (bodies .entry)) s
-        (outputs (now (output .entry)) (now (second .entry))) (now (memory .entry)) r
-        (outputs (now (output .exit)) (now (second .exit))) (now (memory .exit)) ⌝ }
+        (outputs (now (output .entry)) (now (second .entry))) (now (memory .entry)) (now (counts .entry)) r
+        (outputs (now (output .exit)) (now (second .exit))) (now (memory .exit)) (now (counts .exit)) ⌝ }
 {
     let mut st = s;
     while st.at < text.len() {
@@ -128,6 +132,7 @@ pub fn expand_input(
             output,
             second,
             memory,
+            counts,
             at,
             end,
             t,

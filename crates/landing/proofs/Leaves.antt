@@ -8,6 +8,7 @@ use Prim.Native.Nat.{ℕ}
 use Rattle.model.specs.declared.Marks.{Marks}
 use Rattle.model.specs.Text.{Bytes}
 use Rattle.model.specs.Load.{bodyAt}
+use Rattle.model.specs.Report.{Tally}
 use Rattle.model.specs.Machine as Machine
 use Rattle.model.specs.Machine.{Frame, running, resumeAt, stateWith, passOver, skipFrom, skipIn, Outputs}
 use Rattle.model.proofs.Choices.{false-not-true}
@@ -30,12 +31,12 @@ use Rattle.landing.specs.Landing.{LandsSkip, LandsAnswer}
 -- ---- a skip in a call
 
 -- what a skip comes to, by where it ends
-skipped : (m : Marks) (text : Bytes) (c : Laid) (n : ℕ) (z : Machine.Passed) → passOver m n 0 (bodyAt m text (c .head .next)) ≡ z → (s : State) (fs : List Frame) (o : Outputs) (w : Bytes)
-    → settle (skipIn m n (frameOf m text c ∷ fs) (sharedOf s o w) (stateOf text none fs s o w))
-    ≡ settle (skipFrom (frameOf m text c) fs (sharedOf s o w) (stateOf text none fs s o w) (λ k. skipIn m k fs (sharedOf s o w) (stateOf text none fs s o w)) z)
+skipped : (m : Marks) (text : Bytes) (c : Laid) (n : ℕ) (z : Machine.Passed) → passOver m n 0 (bodyAt m text (c .head .next)) ≡ z → (s : State) (fs : List Frame) (y : Tally) (o : Outputs) (w : Bytes)
+    → settle (skipIn m n (frameOf m text c ∷ fs) (sharedOf s o w) (stateOf text none fs y s o w))
+    ≡ settle (skipFrom (frameOf m text c) fs (sharedOf s o w) (stateOf text none fs y s o w) (λ k. skipIn m k fs (sharedOf s o w) (stateOf text none fs y s o w)) z)
 unfolding skipIn
-skipped m text c n z q s fs o w =
-    ap (λ (y : Machine.Passed). settle (skipFrom (frameOf m text c) fs (sharedOf s o w) (stateOf text none fs s o w) (λ k. skipIn m k fs (sharedOf s o w) (stateOf text none fs s o w)) y)) q
+skipped m text c n z q s fs y o w =
+    ap (λ (x : Machine.Passed). settle (skipFrom (frameOf m text c) fs (sharedOf s o w) (stateOf text none fs y s o w) (λ k. skipIn m k fs (sharedOf s o w) (stateOf text none fs y s o w)) x)) q
 
 module _ {m : Marks} {text : Bytes} {c : Head} {n : ℕ} {s : State} {x : Passed} {r : Answer} (p : PassesOver m text (c .next) n x) where
   -- it lands on a line of the body
@@ -45,8 +46,8 @@ module _ {m : Marks} {text : Bytes} {c : Head} {n : ℕ} {s : State} {x : Passed
     state = refl;
     settled = refl;
     placed = λ nums bytes h. moves .placed text nums bytes h (landed-within p q);
-    same = λ fs nums bytes line o w. skipped m text (laid c nums bytes) n _ (passes-landed p q) s fs o w
-        ∙ ap (λ (f : Frame). running (stateOf text none (f ∷ fs) s o w)) (sym (moves .frame m text nums bytes));
+    same = λ fs y nums bytes line o w. skipped m text (laid c nums bytes) n _ (passes-landed p q) s fs y o w
+        ∙ ap (λ (f : Frame). running (stateOf text none (f ∷ fs) y s o w)) (sym (moves .frame m text nums bytes));
   }
 
   -- it goes past the body's end
@@ -56,7 +57,7 @@ module _ {m : Marks} {text : Bytes} {c : Head} {n : ℕ} {s : State} {x : Passed
     state = refl;
     settled = refl;
     placed = λ nums bytes h. none-placed h;
-    same = λ fs nums bytes line o w. skipped m text (laid c nums bytes) n _ (passes-beyond p q) s fs o w;
+    same = λ fs y nums bytes line o w. skipped m text (laid c nums bytes) n _ (passes-beyond p q) s fs y o w;
   }
 
   -- it ends inside an iteration
@@ -66,7 +67,7 @@ module _ {m : Marks} {text : Bytes} {c : Head} {n : ℕ} {s : State} {x : Passed
     state = refl;
     settled = refl;
     placed = λ nums bytes h. none-placed h;
-    same = λ fs nums bytes line o w. skipped m text (laid c nums bytes) n _ (passes-bad p q) s fs o w;
+    same = λ fs y nums bytes line o w. skipped m text (laid c nums bytes) n _ (passes-bad p q) s fs y o w;
   }
 
 -- ---- an answer
@@ -81,11 +82,11 @@ module _ {m : Marks} {text : Bytes} {c : Head} {r : Answer} where
         state = h .state;
         settled = λ _. h .settled;
         placed = λ _ _. h .placed;
-        same = λ _ fs nums bytes line o w.
+        same = λ _ fs y nums bytes line o w.
             let f = frameOf m text (laid c nums bytes) in
-            next-as m text r (f ∷ fs) nums bytes line o w back
-            ∙ ap settle (skip-same m (r .count) (f ∷ fs) fs (sharedOf (r .state) o w) (sharedOf (r .state) o w) (stateOf text none (f ∷ fs) (r .state) o w))
-            ∙ h .same fs nums bytes line o w;
+            next-as m text r (f ∷ fs) y nums bytes line o w back
+            ∙ ap settle (skip-same m (r .count) (f ∷ fs) fs (sharedOf (r .state) o w) (sharedOf (r .state) o w) (stateOf text none (f ∷ fs) y (r .state) o w))
+            ∙ h .same fs y nums bytes line o w;
       }
 
   -- any other turn ends the run, or leaves no call and is no answer to an offer
@@ -99,5 +100,5 @@ module _ {m : Marks} {text : Bytes} {c : Head} {r : Answer} where
         state = refl;
         settled = λ _. ap isOffer f;
         placed = λ g h. false-not-true (sym h ∙ g);
-        same = λ _ fs nums bytes line o w. next-as m text r (frameOf m text (laid c nums bytes) ∷ fs) nums bytes line o w f ∙ sym (next-as m text r fs nums bytes line o w f);
+        same = λ _ fs y nums bytes line o w. next-as m text r (frameOf m text (laid c nums bytes) ∷ fs) y nums bytes line o w f ∙ sym (next-as m text r fs y nums bytes line o w f);
       }

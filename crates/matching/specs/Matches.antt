@@ -5,11 +5,12 @@ use mathlib.Core.Option.{some}
 use mathlib.Core.List.{List, []}
 use Prim.Native.Nat.{ℕ, _≤_, _<_}
 use lib.ListN.{length, getD, take, replicate}
-use Rattle.model.specs.Limits.{callsMost}
+use Rattle.model.specs.Limits.{macrosMost, callsMost}
 use Rattle.model.specs.declared.Marks.{Marks}
 use Rattle.model.specs.Text.{Bytes}
 use Rattle.model.specs.Reading.{Reading, chosen}
 use Rattle.model.specs.Load.{templates, Macro, noMacro, Loaded}
+use Rattle.model.specs.Report.{oneMore}
 use Rattle.model.specs.Machine.{Frame, padded}
 use Rattle.model.specs.Sizes.{Nested}
 use Rattle.call.specs.declared.Call.{Call}
@@ -21,6 +22,15 @@ use Rattle.state.specs.State.{countedEvent}
 use Rattle.answer.specs.declared.Answer.{Answer}
 use Rattle.answer.specs.Answers.{noCall, goesOn, endsWith}
 use Rattle.write.specs.Output.{PassesThrough}
+
+-- where a line is counted by its reading: at its template's place, or behind all templates where it has none
+abbrev pub chosenPlace : Choice → ℕ
+chosenPlace c = elim (c .found) [ true ↦ c .template | false ↦ macrosMost ]
+
+-- a line with the reading c is counted, unless no fuel is left
+pub record CountsDecided (c : Choice) (fuel : ℕ) (counts counts′ : List ℕ) : Type 0 where
+  pub spent : fuel ≡ 0 → counts′ ≡ counts
+  pub counted : 0 < fuel → counts′ ≡ oneMore (chosenPlace c) counts
 
 -- a is what the first n bytes of a line come to by their reading c, with `depth` calls open, up to the opening of a call; output is the first
 -- output before it, and output′ after it

@@ -87,6 +87,7 @@ module _ (m : Marks) (room : Rooms) where
           calls = s .calls;
           shared = sharing (s .shared) (sym (received-none ch (s .shared .output)) i);
           events = s .events;
+          tally = s .tally;
         })
     through (l ∷ ls) left s e p n h =
         let c : Bytes = upTo (m .source) l in
@@ -105,6 +106,7 @@ module _ (m : Marks) (room : Rooms) where
           calls = s .calls;
           shared = sharing (s .shared) (received-more ch (c ++ (10 ∷ [])) (contents m ls) (s .shared .output) i);
           events = s .events;
+          tally = s .tally;
         }))
 
     -- a name that is not empty is looked for
@@ -135,7 +137,7 @@ module _ (m : Marks) (room : Rooms) where
         unfolding pastLine
         past =
             let z : suc (s .line + length ls) ≡ s .line + suc (length ls) = omega arith in
-            λ i. record { input = left; line = z i; pending = none; frames = s .frames; calls = s .calls; shared = sharing (s .shared) copied; events = s .events }
+            λ i. record { input = left; line = z i; pending = none; frames = s .frames; calls = s .calls; shared = sharing (s .shared) copied; events = s .events; tally = s .tally }
 
         -- the line that begins with the name is read and dropped, whatever its length
         pub copies-until : begins name (upTo (m .source) l) ≡ true → copyInput m room ch name s ≡ running (movedOn s (suc (length ls)) left copied)

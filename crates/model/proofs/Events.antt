@@ -75,7 +75,7 @@ module _ (f : ℕ) (room : Rooms) (t : Loaded) where
       number : (p : EndsInFuel f room t) → run f room (loaded t) .number ≡ p .1
       number p = ap (λ (r : Result). r .number) (run-ended f room t (p .0) (p .1) (p .2) (omega (arith, p .3)) (p .4))
 
-      by : (x : Next) → after f room t (running (initial t)) ≡ x → ¬ (outcome x .number ≡ 20) → EndsInFuel f room t
+      by : (x : Next) → after f room t (running (initial t)) ≡ x → ¬ (outcome t x .number ≡ 20) → EndsInFuel f room t
       by (running s) e z = absurd (z refl)
       by (ended k s) e z = (f, k, s, omega arith, e)
 
@@ -84,6 +84,6 @@ module _ (f : ℕ) (room : Rooms) (t : Loaded) where
   unfolding run outcome resultOf
   exactly-spent = (by (after f room t (running (initial t))) refl, λ p. ap (λ (r : Result). r .number) (run-spent f room t (p .0) (p .1)))
     where
-      by : (x : Next) → after f room t (running (initial t)) ≡ x → outcome x .number ≡ 20 → GoesBeyond f room t
+      by : (x : Next) → after f room t (running (initial t)) ≡ x → outcome t x .number ≡ 20 → GoesBeyond f room t
       by (running s) e z = (s, e)
       by (ended k s) e z = absurd (ended-unspent f room t k s e z)

@@ -13,7 +13,7 @@ use Rattle.model.specs.declared.Channel.the-variants as Channel
 use Rattle.model.specs.Text.{Bytes, lines}
 use Rattle.model.specs.Reading.{Pieces, Reading, chosen}
 use Rattle.model.specs.Load.{Macro, noMacro, templates, nodes, Loaded, loaded, load}
-use Rattle.model.specs.Machine.{Rooms, State, Next, running, ended, stateWith, call, Shared, wrote, passed, passThrough, offeredAs, offered, counted, event}
+use Rattle.model.specs.Machine.{Rooms, State, Next, running, ended, stateWith, call, Shared, wrote, passed, passThrough, decided, offeredAs, offered, counted, event}
 use Rattle.model.specs.Places.{placesTaken, bytesRead}
 use Rattle.model.specs.Results.{shortRow, shortDead, fittedAs, fittedIn, fitLine}
 use Rattle.model.specs.Fitting.{First}
@@ -83,18 +83,18 @@ IsPass s (running x) = x .calls ≡ s .calls
 IsPass s (ended k x) = k ≡ 13
 
 -- so a call is never what passing through comes to
-call-no-pass : (x : Macro) (ps : Pieces) (s : State) (room : Rooms) (l : Bytes) → ¬ (call x ps s ≡ passThrough room l s)
-unfolding call passThrough passed stateWith
-call-no-pass x ps s room l e = not-both (passThrough room l s) (subst (IsCall s) e is-call) is-pass
+call-no-pass : (x : Macro) (i : ℕ) (ps : Pieces) (s : State) (room : Rooms) (l : Bytes) → ¬ (call x ps (decided (some i) s) ≡ passThrough room l (decided none s))
+unfolding call decided passThrough passed stateWith
+call-no-pass x i ps s room l e = not-both (passThrough room l (decided none s)) (subst (IsCall s) e is-call) is-pass
   where
-    is-call : IsCall s (call x ps s)
+    is-call : IsCall s (call x ps (decided (some i) s))
     is-call = both (IsCall s) (leb 12 (length (s .frames))) _ _ refl refl
 
-    by : (o : Option Shared) → IsPass s (passed s o)
+    by : (o : Option Shared) → IsPass s (passed (decided none s) o)
     by none = refl
     by (some w) = refl
 
-    is-pass : IsPass s (passThrough room l s)
+    is-pass : IsPass s (passThrough room l (decided none s))
     is-pass = by (wrote room Channel.First l (s .shared))
 
     not-both : (y : Next) → IsCall s y → IsPass s y → ⊥
@@ -112,7 +112,7 @@ module _ (text : Bytes) (t : Loaded) (loads : load text ≡ loaded t) (room : Ro
   offeredAs-first (some r) e =
       let f : First (t .marks) (templates (t .macros)) l (r .which) (r .pieces) = loaded-chosen text t loads l r e in
       record {
-        passed = (λ z. absurd (call-no-pass _ (r .pieces) s room l z), λ h. absurd (h (r .which) (r .pieces) (f .reads)));
+        passed = (λ z. absurd (call-no-pass _ (r .which) (r .pieces) s room l z), λ h. absurd (h (r .which) (r .pieces) (f .reads)));
         called = λ z. (r .which, r .pieces, f, refl);
       }
 

@@ -19,7 +19,7 @@ use Rattle.model.specs.declared.Effect.the-variants.{Closes, Owns}
 use Rattle.model.specs.declared.Comparison.{Comparison}
 use Rattle.model.specs.Store.{put, within}
 use Rattle.model.specs.Load.{templates, Loaded, loaded, load}
-use Rattle.model.specs.Machine.{Rooms, Loop, byPieces, byCount, Frame, Shared, Step, continues, offers, skips, leaves, halts, param, withParam, resumeAt, Building, built, failed, build, Piece, takePass, nextPass, endPass, pastLoop, startRepeat, writeTo, writeLayout, saveText, skipBy, skipIf, skipCompared, finish, finishBuilt, carryOut, State, Next, running, ended, stateWith, Passed, landed, beyond, badLanding, passOver, skipIn, call, passThrough, offered, stepped, unfinished, readInput, ready, beginLine, counted, event, after, initial, skipFrom, offeredAs, beginAt, eventFor, measured, readyIn, readyFor, closed, follow, copies, wrote, goesWritten, passed, pastLine, copyInput}
+use Rattle.model.specs.Machine.{Rooms, Loop, byPieces, byCount, Frame, Shared, Step, continues, offers, skips, leaves, halts, param, withParam, resumeAt, Building, built, failed, build, Piece, takePass, nextPass, endPass, pastLoop, startRepeat, writeTo, writeLayout, saveText, skipBy, skipIf, skipCompared, finish, finishBuilt, carryOut, State, Next, running, ended, stateWith, Passed, landed, beyond, badLanding, passOver, skipIn, call, passThrough, offered, stepped, unfinished, readInput, ready, beginLine, counted, event, after, initial, skipFrom, offeredAs, decided, beginAt, eventFor, measured, readyIn, readyFor, closed, follow, copies, wrote, goesWritten, passed, pastLine, copyInput}
 use Rattle.model.specs.Sizes.{wellNested, BodiesOk, afterOf, LoopsOk, Nested, FramesOk}
 use Rattle.model.proofs.Choices.{both}
 use Rattle.model.proofs.Copying.{input-copied}
@@ -209,7 +209,7 @@ module _ (m : Marks) where
   readInput-nested (l ∷ ls) s = by (leb (length (upTo (m .source) l)) 200)
     where
       s′ : State
-      s′ = record { input = ls; line = suc (s .line); pending = some (upTo (m .source) l); frames = []; calls = s .calls; shared = s .shared; events = s .events }
+      s′ = record { input = ls; line = suc (s .line); pending = some (upTo (m .source) l); frames = []; calls = s .calls; shared = s .shared; events = s .events; tally = s .tally }
 
       by : (b : Bool) → NextOk m (measured s′ (upTo (m .source) l) b)
       by true = tt
@@ -235,10 +235,10 @@ module _ (m : Marks) where
 module _ (room : Rooms) (t : Loaded) (g : BodiesOk (t .marks) (t .macros)) where
   -- a line offered: a new call has its macro's body
   pub offeredAs-nested : (l : Bytes) (s : State) (o : Option Reading) → FramesOk (t .marks) (s .frames) → NextOk (t .marks) (offeredAs room t l s o)
-  unfolding offeredAs passThrough passed call stateWith
+  unfolding offeredAs decided passThrough passed call stateWith
   offeredAs-nested l s none h = by (wrote room First l (s .shared))
     where
-      by : (o : Option Shared) → NextOk (t .marks) (passed s o)
+      by : (o : Option Shared) → NextOk (t .marks) (passed (decided none s) o)
       by none = h
       by (some v) = h
   offeredAs-nested l s (some r) h = both (NextOk (t .marks)) (leb 12 (length (s .frames))) _ _ h (record { lines = all-at (t .marks) (t .macros) _ g; around = tt }, h)

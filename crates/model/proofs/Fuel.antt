@@ -22,7 +22,7 @@ use Rattle.model.specs.declared.Comparison.{Comparison}
 use Rattle.model.specs.Store.{put, within, decimal}
 use Rattle.model.specs.Value.{written}
 use Rattle.model.specs.Load.{templates, Macro, Loaded, Load, refused, loaded}
-use Rattle.model.specs.Machine.{Rooms, Outputs, Extends, Loop, byPieces, byCount, Frame, Shared, Step, continues, offers, skips, leaves, copies, halts, withStore, Building, built, failed, add, addSymbol, addValue, addLength, addCodePoint, addConverted, addPart, build, Piece, takePass, nextPass, endPass, startRepeat, appended, withFirst, withSecond, wrote, goesWritten, writeTo, writeLayout, saveText, skipBy, skipIf, skipCompared, finish, finishBuilt, carryOut, State, Next, running, ended, stateWith, Passed, landed, beyond, badLanding, passOver, skipIn, call, passed, passThrough, pastLine, copyInput, noOutput, offered, stepped, unfinished, readInput, ready, beginLine, counted, event, after, initial, resultOf, outcome, run, skipFrom, offeredAs, beginAt, eventFor, measured, readyIn, readyFor, closed, follow}
+use Rattle.model.specs.Machine.{Rooms, Outputs, Extends, Loop, byPieces, byCount, Frame, Shared, Step, continues, offers, skips, leaves, copies, halts, withStore, Building, built, failed, add, addSymbol, addValue, addLength, addCodePoint, addConverted, addPart, build, Piece, takePass, nextPass, endPass, startRepeat, appended, withFirst, withSecond, wrote, goesWritten, writeTo, writeLayout, saveText, skipBy, skipIf, skipCompared, finish, finishBuilt, carryOut, State, Next, running, ended, stateWith, Passed, landed, beyond, badLanding, passOver, skipIn, call, passed, passThrough, pastLine, copyInput, noOutput, offered, stepped, unfinished, readInput, ready, beginLine, counted, event, after, initial, resultOf, outcome, run, skipFrom, offeredAs, decided, beginAt, eventFor, measured, readyIn, readyFor, closed, follow}
 use Rattle.model.specs.Text.{Grows}
 use Rattle.model.proofs.Choices.{both}
 use Rattle.model.proofs.Copying.{input-copied}
@@ -293,9 +293,9 @@ call-later x ps s = both (Later (s .shared .output) (s .events)) (leb 12 (length
 
 -- a line offered, with its reading or none
 pub offeredAs-later : (room : Rooms) (t : Loaded) (l : Bytes) (s : State) (o : Option Reading) → Later (s .shared .output) (s .events) (offeredAs room t l s o)
-unfolding offeredAs
-offeredAs-later room t l s none = passThrough-later room l s
-offeredAs-later room t l s (some r) = call-later _ _ s
+unfolding offeredAs decided
+offeredAs-later room t l s none = passThrough-later room l (decided none s)
+offeredAs-later room t l s (some r) = call-later _ _ (decided (some (r .which)) s)
 
 -- a code line begun
 pub beginAt-later : (room : Rooms) (m : Marks) (f : Frame) (fs : List Frame) (s : State) (cs : List Bytes) → Later (s .shared .output) (s .events) (beginAt room m f fs s cs)
@@ -396,7 +396,7 @@ readInput-settled m (l ∷ ls) s = by (leb (length (upTo (m .source) l)) 200)
     c = upTo (m .source) l
 
     s′ : State
-    s′ = record { input = ls; line = suc (s .line); pending = some c; frames = []; calls = s .calls; shared = s .shared; events = s .events }
+    s′ = record { input = ls; line = suc (s .line); pending = some c; frames = []; calls = s .calls; shared = s .shared; events = s .events; tally = s .tally }
 
     by : (b : Bool) → Settled m (measured s′ c b)
     by true = ready-pending m s′ c refl
@@ -498,11 +498,11 @@ more-fuel f g room t x h = ap (λ (n : ℕ). after n room t x) (sym (add-sub-of-
 pub fuel-enough : (f g : ℕ) (room : Rooms) (x : Load) → f ≤ g → ¬ (run f room x .number ≡ 20) → run g room x ≡ run f room x
 unfolding run outcome resultOf
 fuel-enough f g room (refused k n) h e = refl
-fuel-enough f g room (loaded t) h e = ap outcome (more-fuel f g room t (running (initial t)) h) ∙ by (after f room t (running (initial t))) e
+fuel-enough f g room (loaded t) h e = ap (outcome t) (more-fuel f g room t (running (initial t)) h) ∙ by (after f room t (running (initial t))) e
   where
-    by : (r : Next) → ¬ (outcome r .number ≡ 20) → outcome (after (g - f) room t r) ≡ outcome r
+    by : (r : Next) → ¬ (outcome t r .number ≡ 20) → outcome t (after (g - f) room t r) ≡ outcome t r
     by (running s) e = absurd (e refl)
-    by (ended k s) e = ap outcome (after-ended (g - f) room t k s)
+    by (ended k s) e = ap (outcome t) (after-ended (g - f) room t k s)
 
 -- the outputs of a spent run begin those with more fuel
 pub fuel-spent : (f g : ℕ) (room : Rooms) (x : Load) → f ≤ g → run f room x .number ≡ 20 → Extends (run f room x .output) (run g room x .output)
@@ -510,11 +510,11 @@ unfolding run outcome resultOf
 fuel-spent f g room (refused k n) h e = extends-refl _
 fuel-spent f g room (loaded t) h e = rw (more-fuel f g room t (running (initial t)) h) (by (after f room t (running (initial t))))
   where
-    grown : (o : Outputs) (n : ℕ) (e : ℕ) (r : Next) → Since o e n r → Extends o (outcome r .output)
+    grown : (o : Outputs) (n : ℕ) (e : ℕ) (r : Next) → Since o e n r → Extends o (outcome t r .output)
     grown o n e (running s) h = h .0
     grown o n e (ended k s) h = h .0
 
-    by : (r : Next) → Extends (outcome r .output) (outcome (after (g - f) room t r) .output)
+    by : (r : Next) → Extends (outcome t r .output) (outcome t (after (g - f) room t r) .output)
     by (running s) = grown (s .shared .output) (g - f) (s .events) (after (g - f) room t (running s)) (after-since (g - f) room t s)
     by (ended k s) = rw (after-ended (g - f) room t k s) (extends-refl (s .shared .output))
 
@@ -523,7 +523,7 @@ pub run-events : (f : ℕ) (room : Rooms) (t : Loaded) → run f room (loaded t)
 unfolding run initial outcome resultOf
 run-events f room t = by (after f room t (running (initial t))) (after-since f room t (initial t))
   where
-    by : (r : Next) → Since noOutput 0 f r → outcome r .events ≤ f
+    by : (r : Next) → Since noOutput 0 f r → outcome t r .events ≤ f
     by (running s) h = omega arith
     by (ended k s) h = omega arith
 
@@ -532,18 +532,18 @@ pub spent-events : (f : ℕ) (room : Rooms) (t : Loaded) → run f room (loaded 
 unfolding run initial outcome resultOf
 spent-events f room t = by (after f room t (running (initial t))) refl (after-since f room t (initial t))
   where
-    by : (r : Next) → after f room t (running (initial t)) ≡ r → Since noOutput 0 f r → outcome r .number ≡ 20 → outcome r .events ≡ f
+    by : (r : Next) → after f room t (running (initial t)) ≡ r → Since noOutput 0 f r → outcome t r .number ≡ 20 → outcome t r .events ≡ f
     by (running s) d h e = omega arith
     by (ended k s) d h e = absurd (ended-unspent f room t k s d e)
 
 -- a run is the expansion where that ends within the fuel
-pub run-ended : (f : ℕ) (room : Rooms) (t : Loaded) (n k : ℕ) (s : State) → n ≤ f → after n room t (running (initial t)) ≡ ended k s → run f room (loaded t) ≡ resultOf k s
+pub run-ended : (f : ℕ) (room : Rooms) (t : Loaded) (n k : ℕ) (s : State) → n ≤ f → after n room t (running (initial t)) ≡ ended k s → run f room (loaded t) ≡ resultOf t k s
 unfolding run outcome
 run-ended f room t n k s h e =
     let p : n + (f - n) ≡ f = omega arith in
-    ap outcome (ap (λ (j : ℕ). after j room t (running (initial t))) (sym p) ∙ ended-stays n (f - n) room t (running (initial t)) k s e)
+    ap (outcome t) (ap (λ (j : ℕ). after j room t (running (initial t))) (sym p) ∙ ended-stays n (f - n) room t (running (initial t)) k s e)
 
 -- and is spent where it doesn't
-pub run-spent : (f : ℕ) (room : Rooms) (t : Loaded) (s : State) → after f room t (running (initial t)) ≡ running s → run f room (loaded t) ≡ resultOf 20 s
+pub run-spent : (f : ℕ) (room : Rooms) (t : Loaded) (s : State) → after f room t (running (initial t)) ≡ running s → run f room (loaded t) ≡ resultOf t 20 s
 unfolding run outcome
-run-spent f room t s e = ap outcome e
+run-spent f room t s e = ap (outcome t) e

@@ -1,6 +1,6 @@
 -- Where a run stands in its text: the input left is the text's lines after the last one read, and a macro's template and body are
 -- the text's lines at its number and after it.
--- The theorems, at the end: load-at, run-at, skip-beyond, text-short, line-number.
+-- The theorems, at the end: load-at, run-at, skip-beyond, text-short, line-number, macro-line.
 use mathlib.Core.Path.{_≡_, refl, ap, sym, _∙_, subst}
 use mathlib.Core.Bool.{Bool, true, false, not, _&&_, _||_}
 use mathlib.Core.Option.{Option, none, some}
@@ -16,8 +16,8 @@ use Rattle.model.specs.declared.Channel.{Channel}
 use Rattle.model.specs.declared.Channel.the-variants.{First}
 use Rattle.model.specs.Text.{Bytes, has, startsWith, upTo, ontoFirst, lines, marksOf}
 use Rattle.model.specs.Reading.{Reading, chosen}
-use Rattle.model.specs.Load.{templates, Macro, bodyOf, Progress, Seen, fault, more, sectionEnds, templateFault, unless, templateLine, codeLine, endLine, lineSeen, Loaded, Load, refused, loaded, loadOn, loadFrom, noneRead, loadLines, load}
-use Rattle.model.specs.Machine.{Rooms, Frame, Shared, Step, continues, offers, skips, leaves, halts, State, Next, running, ended, stateWith, Passed, landed, beyond, badLanding, passOver, skipFrom, skipIn, call, passThrough, offeredAs, offered, stepped, unfinished, measured, readInput, readyIn, readyFor, ready, beginAt, beginLine, counted, eventFor, event, follow, after, initial, copies, wrote, passed, pastLine, copyInput}
+use Rattle.model.specs.Load.{templates, Macro, noMacro, bodyOf, Progress, Seen, fault, more, sectionEnds, templateFault, unless, templateLine, codeLine, endLine, lineSeen, Loaded, Load, refused, loaded, loadOn, loadFrom, noneRead, loadLines, load}
+use Rattle.model.specs.Machine.{Rooms, Frame, Shared, Step, continues, offers, skips, leaves, halts, State, Next, running, ended, stateWith, Passed, landed, beyond, badLanding, passOver, skipFrom, skipIn, call, passThrough, offeredAs, decided, offered, stepped, unfinished, measured, readInput, readyIn, readyFor, ready, beginAt, beginLine, counted, eventFor, event, follow, after, initial, copies, wrote, passed, pastLine, copyInput}
 use Rattle.model.specs.Legal.{At, MacroAt, MacrosAt}
 use Rattle.model.proofs.Chosen.{Order, lower, level, upper, order}
 use Rattle.model.proofs.Choices.{both, split, or-false}
@@ -183,10 +183,10 @@ module _ (all : List Bytes) where
 
   -- a line offered, with its reading or none
   offeredAs-at : (room : Rooms) (t : Loaded) (l : Bytes) (s : State) (o : Option Reading) → At all (s .line) (s .input) → NextAt all (offeredAs room t l s o)
-  unfolding offeredAs passThrough passed call stateWith
+  unfolding offeredAs decided passThrough passed call stateWith
   offeredAs-at room t l s none h = by (wrote room First l (s .shared))
     where
-      by : (o : Option Shared) → NextAt all (passed s o)
+      by : (o : Option Shared) → NextAt all (passed (decided none s) o)
       by none = h
       by (some v) = h
   offeredAs-at room t l s (some r) h = both (NextAt all) (leb 12 (length (s .frames))) _ _ h h
@@ -278,7 +278,7 @@ skip-beyond m n w s h =
     let k : ℕ = length (s .input) in
     let e : min n k ≡ min k k = omega arith in
     let d : drop n (s .input) ≡ drop k (s .input) = drop-of-length-le (s .input) h ∙ sym (drop-length (s .input)) in
-    λ i. running (record { input = d i; line = s .line + e i; pending = none; frames = []; calls = s .calls; shared = w; events = s .events })
+    λ i. running (record { input = d i; line = s .line + e i; pending = none; frames = []; calls = s .calls; shared = w; events = s .events; tally = s .tally })
 
 -- a text that loads has at most 65,536 bytes
 pub text-short : (text : Bytes) (t : Loaded) → load text ≡ loaded t → length text ≤ 65536
@@ -296,3 +296,15 @@ text-short text t e = subst Short e (split Short (ltb 65536 (length text) || has
 -- so no line number is above 65,536
 pub line-number : (text : Bytes) (t : Loaded) → load text ≡ loaded t → (i : ℕ) (ls : List Bytes) → At (lines text) i ls → i ≤ 65536
 line-number text t e i ls h = omega (arith, text-short text t e, lines-few text, h .read)
+
+-- the line of each macro is one of the text's
+line-within : (m : Marks) (all : List Bytes) (ms : List Macro) (i : ℕ) → MacrosAt m all ms → getD ms i noMacro .line ≤ length all
+unfolding noMacro
+line-within m all [] i h = omega arith
+line-within m all (x ∷ ms) zero h = h .0 .last
+line-within m all (x ∷ ms) (suc i) h = line-within m all ms i (h .1)
+
+pub macro-line : (text : Bytes) (t : Loaded) → load text ≡ loaded t → (i : ℕ) → getD (t .macros) i noMacro .line ≤ 65536
+macro-line text t e i =
+    let k = getD (t .macros) i noMacro .line in
+    line-number text t e k (drop k (lines text)) (record { read = line-within (t .marks) (lines text) (t .macros) i (load-at text t e .0); left = refl })

@@ -42,6 +42,8 @@ pub mod Frames
 pub mod Loading
 pub mod Input
 pub mod Sizes
+-- The usage report: its counts, and how long it is.
+pub mod Usage
 -- Every value fits its width.
 pub mod Range
 -- The bounds on depth in Value and Machine are large enough.

@@ -22,7 +22,7 @@ use Rattle.model.specs.Code.{Code, Part, Ending, byte, serial, convert, 
 use Rattle.model.specs.Store.{put, within, decimal}
 use Rattle.model.specs.Load.{templates, Progress, Seen, fault, more, sectionEnds, lowest, templateFault, unless, templateLine, codeLine, endLine, lineSeen}
 use Rattle.model.specs.Load.{Loaded, Load, refused, loaded, lowestAt, loadOn, loadFrom, noneRead, loadLines, load}
-use Rattle.model.specs.Machine.{Rooms, Loop, byPieces, byCount, Frame, Shared, Step, continues, offers, skips, leaves, copies, halts}
+use Rattle.model.specs.Machine.{Rooms, Loop, byPieces, byCount, Frame, Shared, Step, continues, offers, skips, leaves, copies, halts, decided}
 use Rattle.model.specs.Machine.{Building, built, failed, add, addSymbol, addValue, addLength, addCodePoint, addConverted, addPart, build}
 use Rattle.model.specs.Machine.{Piece, takePass, nextPass, endPass, startRepeat, wrote, goesWritten, writeTo, writeLayout, saveText, skipBy, skipIf, skipCompared, finish, finishBuilt, carryOut}
 use Rattle.model.specs.Machine.{State, Next, running, ended, Passed, landed, beyond, badLanding, passOver, skipFrom, skipIn, call, passed, passThrough, copyInput, offeredAs, offered, stepped, unfinished}
@@ -330,10 +330,10 @@ stepped-numbered m fs (halts k w) s h = h
 
 -- a line offered: 13 and 14
 offeredAs-numbered : (room : Rooms) (t : Loaded) (l : Bytes) (s : State) (o : Option Reading) → NextNumbered (offeredAs room t l s o)
-unfolding offeredAs passThrough passed call has
+unfolding offeredAs decided passThrough passed call has
 offeredAs-numbered room t l s none = by (wrote room First l (s .shared))
   where
-    by : (o : Option Shared) → NextNumbered (passed s o)
+    by : (o : Option Shared) → NextNumbered (passed (decided none s) o)
     by none = refl
     by (some v) = tt
 offeredAs-numbered room t l s (some r) = both NextNumbered (leb 12 (length (s .frames))) _ _ refl tt
@@ -435,14 +435,14 @@ pub begun-numbered : (fuel : ℕ) (room : Rooms) (t : Loaded) → has (run fuel 
 unfolding run outcome resultOf has
 begun-numbered fuel room t = by (after fuel room t (running (initial t))) (after-numbered fuel room t (running (initial t)) tt)
   where
-    by : (x : Next) → NextNumbered x → has (outcome x .number) begunNumbers ≡ true
+    by : (x : Next) → NextNumbered x → has (outcome t x .number) begunNumbers ≡ true
     by (running s) h = refl
     by (ended k s) h = has-more k 20 endNumbers h
 
 -- any run
-pub run-numbered : (fuel rows dead : ℕ) (room : Rooms) (store : ℕ) (text : Bytes) → has (runText fuel rows dead room store text .number) runNumbers ≡ true
+pub run-numbered : (fuel rows dead : ℕ) (room : Rooms) (store report : ℕ) (text : Bytes) → has (runText fuel rows dead room store report text .number) runNumbers ≡ true
 unfolding runText run has
-run-numbered fuel rows dead room store text = both (λ (x : Result). has (x .number) runNumbers ≡ true) (illegal fuel rows dead store) _ _ refl (by (load text) (load-numbered text))
+run-numbered fuel rows dead room store report text = both (λ (x : Result). has (x .number) runNumbers ≡ true) (illegal fuel rows dead store report) _ _ refl (by (load text) (load-numbered text))
   where
     by : (x : Load) → LoadNumbered x → has (run fuel room x .number) runNumbers ≡ true
     by (refused k n) h = has-more k 1 (loadNumbers ++ begunNumbers) (has-left k loadNumbers begunNumbers h)

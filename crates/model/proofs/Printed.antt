@@ -19,11 +19,10 @@ use Rattle.model.specs.Load.{Macro, noMacro, templates, nodes, Progress,
 use Rattle.model.specs.Places.{placesTaken, bytesRead}
 use Rattle.model.specs.Results.{shortRow, shortDead, startsOf, nine, noPieces, fittedAs, fittedIn, fitLine}
 use Rattle.model.specs.Fitting.{Fits, end, literal, placeholder}
-use Rattle.model.specs.Legal.{MacrosAt}
 use Rattle.model.specs.Printed.{spaced, endRow, checkRow, pieceRow, fitRow, fitRows, fitPrints}
 use Rattle.model.proofs.Choices.{both, split, or-false}
 use Rattle.model.proofs.Loading.{load-legal, loaded-chosen}
-use Rattle.model.proofs.Input.{load-at, line-number}
+use Rattle.model.proofs.Input.{macro-line}
 use Rattle.model.proofs.Places.{few-read, loaded-places}
 
 -- ---- numbers in decimal
@@ -53,7 +52,7 @@ pub spaced-most : (n : ℕ) → length (spaced n) ≤ 21
 unfolding spaced
 spaced-most n = omega (arith, decimal-most n)
 
-decimal-few : (k n : ℕ) → n < 10 ^ suc k → length (decimal n) ≤ suc k
+pub decimal-few : (k n : ℕ) → n < 10 ^ suc k → length (decimal n) ≤ suc k
 unfolding decimal
 decimal-few k n h = digits-few 20 n k h
 
@@ -207,12 +206,6 @@ template-at [] i = refl
 template-at (x ∷ ms) zero = refl
 template-at (x ∷ ms) (suc i) = template-at ms i
 
-line-within : (m : Marks) (all : List Bytes) (ms : List Macro) (i : ℕ) → MacrosAt m all ms → getD ms i noMacro .line ≤ length all
-unfolding noMacro
-line-within m all [] i h = omega arith
-line-within m all (x ∷ ms) zero h = h .0 .last
-line-within m all (x ∷ ms) (suc i) h = line-within m all ms i (h .1)
-
 -- an answer for a line: its numbers are small, and no start or length is above n
 record FittedLow (line : Bytes) (n : ℕ) (f : Fitted) : Type 0 where
   number : f .number ≤ 11
@@ -286,8 +279,7 @@ module _ (text : Bytes) (line : Bytes) where
       let f : Fits (t .marks) (x .template) (r .pieces) line =
       subst (λ (u : Bytes). Fits (t .marks) u (r .pieces) line) (template-at (t .macros) i) (loaded-chosen text t e line r q .reads .fits) in
       let c : count (t .marks .placeholder) (x .template) ≤ 9 = subst (λ (u : Bytes). count (t .marks .placeholder) u ≤ 9) (template-at (t .macros) i) (load-legal text t e .1 .nine i) in
-      let l = line-number text t e (x .line) (drop (x .line) (lines text))
-      (record { read = line-within (t .marks) (lines text) (t .macros) i (load-at text t e .0); left = refl }) in
+      let l = macro-line text t e i in
       let (a, b) = places-low t e h in (
         length line,
         omega arith,

@@ -24,7 +24,7 @@ use Rattle.model.specs.declared.Comparison.{Comparison}
 use Rattle.model.specs.Store.{Store, find, put, size, within, decimal, digitsOf}
 use Rattle.model.specs.Value.{written}
 use Rattle.model.specs.Load.{templates, Macro, Loaded, loaded, load, count}
-use Rattle.model.specs.Machine.{Rooms, Loop, byPieces, byCount, Frame, Shared, Step, continues, offers, skips, leaves, halts, param, withParam, resumeAt, withStore, Building, built, failed, add, addSymbol, addValue, addLength, addCodePoint, addConverted, addPart, build, Piece, longer, pieceOf, onePass, passOf, takePass, nextPass, endPass, startRepeat, writeTo, writeLayout, saveText, skipBy, skipIf, skipCompared, finish, finishBuilt, carryOut, State, Next, running, ended, stateWith, Passed, landed, beyond, badLanding, passOver, skipFrom, skipIn, padded, call, passThrough, offeredAs, offered, stepped, closed, unfinished, measured, readInput, readyIn, readyFor, ready, beginAt, beginLine, counted, eventFor, event, follow, after, initial, copies, appended, withFirst, withSecond, wrote, goesWritten, passed, pastLine, copyInput, noOutput}
+use Rattle.model.specs.Machine.{Rooms, Loop, byPieces, byCount, Frame, Shared, Step, continues, offers, skips, leaves, halts, param, withParam, resumeAt, withStore, Building, built, failed, add, addSymbol, addValue, addLength, addCodePoint, addConverted, addPart, build, Piece, longer, pieceOf, onePass, passOf, takePass, nextPass, endPass, startRepeat, writeTo, writeLayout, saveText, skipBy, skipIf, skipCompared, finish, finishBuilt, carryOut, State, Next, running, ended, stateWith, Passed, landed, beyond, badLanding, passOver, skipFrom, skipIn, padded, call, passThrough, offeredAs, decided, offered, stepped, closed, unfinished, measured, readInput, readyIn, readyFor, ready, beginAt, beginLine, counted, eventFor, event, follow, after, initial, copies, appended, withFirst, withSecond, wrote, goesWritten, passed, pastLine, copyInput, noOutput}
 use Rattle.model.specs.Fitting.{Fits, end, literal, placeholder}
 use Rattle.model.specs.Sizes.{AllShort, FramesOk, LoopsSmall, FrameSmall, FramesSmall, EntriesShort, SharedSmall, PendingSmall, Small, LoopsFew}
 use Rattle.model.proofs.Chosen.{chosen-reads}
@@ -512,6 +512,11 @@ module _ (room : Rooms) where
       rw (h .0) (copyInput-small m ch (param f 1) (stateWith s none (f ∷ fs) w) (stateWith-small s none (f ∷ fs) w (h .2) (h .1, g) l c) tt)
   stepped-small m fs (halts k w) s h g l c = stateWith-small s none fs w h g (omega arith) c
 
+  -- a line counted
+  pub decided-small : (i : Option ℕ) (s : State) → Small room s → Small room (decided i s)
+  unfolding decided
+  decided-small i s h = record { shared = h .shared; frames = h .frames; few = h .few; calls = h .calls }
+
   -- a line without a reading, written
   pub passThrough-small : (l : Bytes) (s : State) → Small room s → NextSmall room (passThrough room l s)
   unfolding passThrough passed stateWith
@@ -609,12 +614,12 @@ module _ (room : Rooms) (t : Loaded) (nine : (i : ℕ) → count (t .marks .plac
   -- a line offered: the chosen reading's pieces are few and short
   pub offeredAs-small : (l : Bytes) (s : State) (o : Option Reading) → chosen (t .marks) (templates (t .macros)) l ≡ o → length l ≤ 200 → s .calls < s .events → Small room s
       → NextSmall room (offeredAs room t l s o)
-  unfolding offeredAs
-  offeredAs-small l s none e k c h = passThrough-small room l s h
+  unfolding offeredAs decided
+  offeredAs-small l s none e k c h = passThrough-small room l (decided none s) (decided-small room none s h)
   offeredAs-small l s (some r) e k c h =
       let q = chosen-reads (t .marks) (templates (t .macros)) l r e in
-      call-small room _ (r .pieces) s (fits-short (t .marks) 200 _ (r .pieces) l (q .fits) k)
-      (omega (arith, nine (r .which), fits-count (t .marks) _ (r .pieces) l (q .fits))) c h
+      call-small room _ (r .pieces) (decided (some (r .which)) s) (fits-short (t .marks) 200 _ (r .pieces) l (q .fits) k)
+      (omega (arith, nine (r .which), fits-count (t .marks) _ (r .pieces) l (q .fits))) c (decided-small room (some (r .which)) s h)
 
   -- an event, with a line pending or none
   pub eventFor-small : (s : State) (p : Option Bytes) → s .pending ≡ p → NextSmall room (running s) → NextSmall room (eventFor room t s p)

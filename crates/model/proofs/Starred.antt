@@ -20,6 +20,7 @@ use Rattle.model.specs.Parts.{elems}
 use Rattle.model.specs.Store.{find, decimal, digitsOf}
 use Rattle.model.specs.Value.{valueFault, valueOf, checked, quotient, divided, andThen, giving, number, isMark, nameOf, allDigits, isStoredNumber, storedNumber, ofStored, closing, expression, sum, product, factors, operand, whole}
 use Rattle.model.specs.Load.{begins}
+use Rattle.model.specs.Report.{noLines}
 use Rattle.model.specs.Machine.{Rooms, rooms, appended, withFirst, withSecond, wrote, Next, running, ended, stateWith, pastLine, tooLong, copyLines, copyInput, Frame, param, Building, built, failed, add, addLength, addCodePoint, addConverted, Piece, onePass, passOf, noPass, noOutput}
 use Rattle.model.specs.Places.{isIn, tryPlace, sameElem, sameElems, numberFrom, addBeginnings, beginningsFrom, beginnings, beginningAt, childIn, endsInHole, holeyIn, together, bytesOfLook, fitting, placesTaken, bytesRead}
 
@@ -168,7 +169,7 @@ toldCopy (ended k s) = copied (some k) (s .shared .output .first) (s .shared .ou
 abbrev copying : Rooms → Channel → String → List Bytes → Copy
 copying room ch name ls =
     toldCopy (copyInput session room ch (bytes name)
-    (record { input = ls; line = 5; pending = none; frames = []; calls = 0; shared = record { symbols = 0; store = []; output = noOutput }; events = 7 }))
+    (record { input = ls; line = 5; pending = none; frames = []; calls = 0; shared = record { symbols = 0; store = []; output = noOutput }; events = 7; tally = noLines [] }))
 
 -- a line of 201 bytes
 abbrev long : String → Bytes

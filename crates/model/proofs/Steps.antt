@@ -21,7 +21,7 @@ withFrames s fs = stateWith s none fs (s .shared)
 -- a state with its own calls is itself
 pub same-state : (s : State) (fs : List Frame) → s .pending ≡ none → s .frames ≡ fs → withFrames s fs ≡ s
 unfolding stateWith
-same-state s fs p e = λ i. record { input = s .input; line = s .line; pending = sym p i; frames = sym e i; calls = s .calls; shared = s .shared; events = s .events }
+same-state s fs p e = λ i. record { input = s .input; line = s .line; pending = sym p i; frames = sym e i; calls = s .calls; shared = s .shared; events = s .events; tally = s .tally }
 
 -- ---- a line is to be offered
 
@@ -92,7 +92,7 @@ input-done n room t s p e h = input-step n room t s p e ∙ (ap (λ (ls : List B
 
 -- the state after a line is read and measured
 unfoldable pub reading : Marks → Bytes → List Bytes → State → State
-reading m l ls s = record { input = ls; line = suc (s .line); pending = some (upTo (m .source) l); frames = []; calls = s .calls; shared = s .shared; events = s .events }
+reading m l ls s = record { input = ls; line = suc (s .line); pending = some (upTo (m .source) l); frames = []; calls = s .calls; shared = s .shared; events = s .events; tally = s .tally }
 
 -- a line of at most 200 bytes is to be offered
 pub input-line : (n : ℕ) (room : Rooms) (t : Loaded) (s : State) (l : Bytes) (ls : List Bytes) → s .pending ≡ none → s .frames ≡ [] → s .input ≡ l ∷ ls

@@ -1,4 +1,4 @@
--- What is proved of document 01's definitions, in one place: the first reading, the places of a search, the keys of children, the fuels, the events, the numbers, what is demanded of a run, the sizes
+-- What is proved of document 01's definitions, in one place: the first reading, the places of a search, the keys of children, the fuels, the events, the usage report, the numbers, what is demanded of a run, the sizes
 -- of its states, the places of its lines, the digits of conversions and channels, function 2, characters, and the range of values. Every statement is for all texts that load and all rooms; the proofs are in the
 -- modules that each line cites.
 use mathlib.Core.Path.{_≡_, refl}
@@ -8,7 +8,7 @@ use mathlib.Core.Option.{none, some}
 use mathlib.Core.List.{List, [], _∷_, _++_}
 use Prim.Native.Nat.{ℕ, suc, _+_, _*_, _^_, _≤_, _<_}
 use native.Mathlib.Omega.{arith}
-use lib.ListN.{length}
+use lib.ListN.{length, getD}
 use lib.IntN.{ℤ}
 use Rattle.model.specs.declared.Marks.{Marks}
 use Rattle.model.specs.declared.Ran.{Ran}
@@ -16,14 +16,16 @@ use Rattle.model.specs.declared.Channel.{Channel}
 use Rattle.model.specs.declared.Conversion.{Conversion}
 use Rattle.model.specs.declared.Conversion.the-variants.{Length, CodePoint}
 use Rattle.model.specs.declared.Effect.the-variants.{Malformed}
-use Rattle.model.specs.Limits.{lineMost, nodesMost, deadLeast, largest, digitsMost}
+use Rattle.model.specs.Limits.{lineMost, nodesMost, deadLeast, reportLeast, fuelMost, largest, digitsMost}
 use Rattle.model.specs.Text.{Bytes, upTo, has, lines}
 use Rattle.model.specs.Utf8.{Character, character, points, Point, encode, encodeAll, Points, Leads, MalformedText, MalformedFront}
 use Rattle.model.specs.Reading.{atom, Pieces, Reading, chosen}
 use Rattle.model.specs.Code.{digitOf, conversionOf, channelOf, OtherDigit, effect}
 use Rattle.model.specs.Store.{Store, decimal}
 use Rattle.model.specs.Value.{FitsWidth, checked, expression, whole, valueOf}
-use Rattle.model.specs.Load.{begins, templates, nodes, Loaded, Load, loaded, load}
+use Rattle.model.specs.Load.{begins, noMacro, templates, nodes, Loaded, Load, loaded, load}
+use Rattle.model.specs.Report.{reportBytes, total, NoLess}
+use Rattle.model.specs.Usage.{eventsOf, isChosen, isPassed, linesOffered, linesDecided, rowsAfter}
 use Rattle.model.specs.Machine.{Rooms, rooms, Extends, Loop, Frame, Shared, halts, param, failed, add, addConverted, pieceOf, passOf, takePass, State, tooLong, copyInput, skipIn, running, ended, counted, event, after, initial, resultOf, run}
 use Rattle.model.specs.Places.{Found, bytesOfLook, tryPlace, beginnings, childIn, holeyIn, together, fitting, placesTaken, bytesRead, Once}
 use Rattle.model.specs.Parts.{lit, hole, stop}
@@ -57,6 +59,7 @@ use Rattle.model.proofs.Channels as Channels
 use Rattle.model.proofs.Copies as Copies
 use Rattle.model.proofs.Utf8 as Utf8
 use Rattle.model.proofs.Characters as Characters
+use Rattle.model.proofs.Usage as Usage
 use Rattle.model.proofs.Range as Range
 use Rattle.model.proofs.Depth as Depth
 
@@ -157,11 +160,11 @@ more-fuel-adds = Fuel.fuel-spent
 
 module _ (f : ℕ) (room : Rooms) (t : Loaded) where
   -- where the expansion ends within as many events as the fuel, the run is the expansion
-  pub run-ends : (n k : ℕ) (s : State) → n ≤ f → after n room t (running (initial t)) ≡ ended k s → run f room (loaded t) ≡ resultOf k s
+  pub run-ends : (n k : ℕ) (s : State) → n ≤ f → after n room t (running (initial t)) ≡ ended k s → run f room (loaded t) ≡ resultOf t k s
   run-ends = Fuel.run-ended f room t
 
   -- where it doesn't, the run is spent, and stands just before the first event beyond the fuel
-  pub run-spent : (s : State) → after f room t (running (initial t)) ≡ running s → run f room (loaded t) ≡ resultOf 20 s
+  pub run-spent : (s : State) → after f room t (running (initial t)) ≡ running s → run f room (loaded t) ≡ resultOf t 20 s
   run-spent = Fuel.run-spent f room t
 
   -- so its number is other than 20 exactly when the expansion ends within as many events as the fuel
@@ -179,6 +182,37 @@ module _ (f : ℕ) (room : Rooms) (t : Loaded) where
   -- a spent run has used all of its fuel
   pub spent-used : run f room (loaded t) .number ≡ 20 → run f room (loaded t) .events ≡ f
   spent-used = Fuel.spent-events f room t
+
+-- ---- the usage report
+
+module _ (f : ℕ) (room : Rooms) (t : Loaded) where
+  -- it has the bytes of these rows
+  pub report-bytes : run f room (loaded t) .report ≡ reportBytes (rowsAfter f room t)
+  report-bytes = Usage.report-is room t f
+
+  -- each template has a row: its line number, and how many of the lines offered it was chosen for
+  pub count-of : (i : ℕ) → i < length (t .macros) → getD (rowsAfter f room t) i (0, 0) ≡ (getD (t .macros) i noMacro .line, linesDecided (isChosen i) f room t)
+  count-of = Usage.row-is room t f
+
+  -- the row after them has 0, and how many no template was chosen for
+  pub count-passed : getD (rowsAfter f room t) (length (t .macros)) (0, 0) ≡ (0, linesDecided isPassed f room t)
+  count-passed = Usage.last-row-is room t f
+
+  -- there is no other row
+  pub row-count : length (rowsAfter f room t) ≡ length (t .macros) + 1
+  row-count = Usage.rows-are room t f
+
+  -- the printed counts, the last line's included, add up to the lines offered among the events counted
+  pub counts-add-up : total (rowsAfter f room t) ≡ linesOffered f room t
+  counts-add-up = Usage.counts-add-up room t f
+
+  -- which are the events of the result, one each
+  pub events-are : run f room (loaded t) .events ≡ eventsOf (λ _. 1) f room t (running (initial t))
+  events-are = Usage.events-are room t f
+
+  -- a report with more fuel has the same line numbers, and no count is smaller
+  pub counts-grow : (g : ℕ) → f ≤ g → NoLess (rowsAfter f room t) (rowsAfter g room t)
+  counts-grow g = Usage.counts-grow room t f g
 
 -- ---- n events after the start
 
@@ -205,7 +239,7 @@ check-number = NumberTable.check-numbered
 pub fit-number : (rows dead : ℕ) (text line : Bytes) → has (fitLine rows dead text line .number) fitNumbers ≡ true
 fit-number = NumberTable.fit-numbered
 
-pub run-number : (fuel rows dead : ℕ) (room : Rooms) (store : ℕ) (text : Bytes) → has (runText fuel rows dead room store text .number) runNumbers ≡ true
+pub run-number : (fuel rows dead : ℕ) (room : Rooms) (store report : ℕ) (text : Bytes) → has (runText fuel rows dead room store report text .number) runNumbers ≡ true
 run-number = NumberTable.run-numbered
 
 -- the table has no 10
@@ -235,6 +269,10 @@ module _ (text : Bytes) (t : Loaded) (loads : load text ≡ loaded t) where
   pub parts-placed : MacrosAt (t .marks) (lines text) (t .macros) × At (lines text) (t .last) (t .input)
   parts-placed = Input.load-at text t loads
 
+  -- no report of its runs is longer than its room has to be
+  pub report-short : (f : ℕ) (room : Rooms) → f ≤ fuelMost → length (run f room (loaded t) .report) ≤ reportLeast
+  report-short = Usage.report-short text t loads
+
   -- ---- the states of its runs
 
   module _ (n : ℕ) (room : Rooms) (s : State) where
@@ -257,9 +295,9 @@ module _ (text : Bytes) (t : Loaded) (loads : load text ≡ loaded t) where
   offers-in-run = Demands.run-offers text t loads
 
   -- an answer that is the expansion stopped at the fuel has all that 01 demands
-  pub run-follows : (fuel : ℕ) (output second store : Bytes) {r : Ran} {output′ second′ store′ : Bytes}
-      → Runs (run fuel (rooms (length output) (length second)) (loaded t)) output second store r output′ second′ store′
-      → FollowsExpansion t fuel output second store r output′ second′ store′
+  pub run-follows : (fuel : ℕ) (output second store report : Bytes) {r : Ran} {output′ second′ store′ report′ : Bytes}
+      → Runs (run fuel (rooms (length output) (length second)) (loaded t)) output second store report r output′ second′ store′ report′
+      → fuel ≤ fuelMost → FollowsExpansion t fuel output second store report r output′ second′ store′ report′
   run-follows = Demands.follows-expansion text t loads
 
 -- ---- code lines

@@ -56,4 +56,5 @@ movedOn s n left o = record {
   calls = s .calls;
   shared = record { symbols = s .shared .symbols; store = s .shared .store; output = o };
   events = s .events;
+  tally = s .tally;
 }

@@ -10,6 +10,7 @@ use Rattle.model.specs.Text.{Bytes, has}
 use Rattle.model.specs.Load.{Loaded, loaded}
 use Rattle.model.specs.Machine.{Rooms, rooms, outputs, Extends, State, running, ended, counted, event, after, initial, resultOf, outcome, run}
 use Rattle.model.specs.FirstReading.{OffersFirst}
+use Rattle.model.specs.Usage.{ReportsUse}
 use Rattle.model.specs.Runs.{Runs}
 use Rattle.model.specs.NumberTable.{begunNumbers}
 
@@ -28,13 +29,13 @@ OffersInRun fuel room t = (n : ℕ) (s : State) (l : Bytes) → n < fuel → aft
     → (after (n + 1) room t (running (initial t)) ≡ after 0 room t (event room t s)) × OffersFirst room t l (counted s) (event room t s)
 
 -- the answer r of a run with this fuel of the loaded text t
-pub record FollowsExpansion (t : Loaded) (fuel : ℕ) (output second store : Bytes) (r : Ran) (output′ second′ store′ : Bytes) : Type 0 where
+pub record FollowsExpansion (t : Loaded) (fuel : ℕ) (output second store report : Bytes) (r : Ran) (output′ second′ store′ report′ : Bytes) : Type 0 where
   -- the run is the expansion, stopped before the event beyond the fuel
-  pub is : Runs (outcome (after fuel (rooms (length output) (length second)) t (running (initial t)))) output second store r output′ second′ store′
+  pub is : Runs (outcome t (after fuel (rooms (length output) (length second)) t (running (initial t)))) output second store report r output′ second′ store′ report′
   -- where the expansion ends within as many events as the fuel, the run's result is the expansion's
-  pub ends : (n k : ℕ) (s : State) → n ≤ fuel → after n (rooms (length output) (length second)) t (running (initial t)) ≡ ended k s → Runs (resultOf k s) output second store r output′ second′ store′
+  pub ends : (n k : ℕ) (s : State) → n ≤ fuel → after n (rooms (length output) (length second)) t (running (initial t)) ≡ ended k s → Runs (resultOf t k s) output second store report r output′ second′ store′ report′
   -- where it does not, the run is spent, with what the expansion has before the event beyond the fuel
-  pub spent : (s : State) → after fuel (rooms (length output) (length second)) t (running (initial t)) ≡ running s → Runs (resultOf 20 s) output second store r output′ second′ store′
+  pub spent : (s : State) → after fuel (rooms (length output) (length second)) t (running (initial t)) ≡ running s → Runs (resultOf t 20 s) output second store report r output′ second′ store′ report′
   -- so its number is other than 20 exactly when the expansion ends within as many events as the fuel, and 20 exactly when it goes on
   pub exactly-ended : (¬ (r .number ≡ 20)) ↔ EndsInFuel fuel (rooms (length output) (length second)) t
   pub exactly-spent : r .number ≡ 20 ↔ GoesBeyond fuel (rooms (length output) (length second)) t
@@ -46,6 +47,8 @@ pub record FollowsExpansion (t : Loaded) (fuel : ℕ) (output second store : Byt
   pub events : r .events ≤ fuel
   pub used : r .number ≡ 20 → r .events ≡ fuel
   -- more fuel changes nothing of a run that is not spent
-  pub same : (more : ℕ) → fuel ≤ more → ¬ (r .number ≡ 20) → Runs (run more (rooms (length output) (length second)) (loaded t)) output second store r output′ second′ store′
+  pub same : (more : ℕ) → fuel ≤ more → ¬ (r .number ≡ 20) → Runs (run more (rooms (length output) (length second)) (loaded t)) output second store report r output′ second′ store′ report′
   -- and only adds to the outputs of a spent one
   pub adds : (more : ℕ) → fuel ≤ more → r .number ≡ 20 → Extends (outputs (take (r .output) output′) (take (r .second) second′)) (run more (rooms (length output) (length second)) (loaded t) .output)
+  -- the report says what was decided of the lines offered among the events counted
+  pub uses : ReportsUse t fuel (rooms (length output) (length second)) r report′

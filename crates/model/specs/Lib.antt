@@ -7,18 +7,20 @@ pub mod Code
 pub mod Store
 pub mod Value
 pub mod Load
+pub mod Report
 pub mod Machine
 pub mod Places
 pub mod Results
--- What is said of them: readings and their order in 01's words, the children of a node and function 2 in 02's, what a loaded text has, how large a run's states are.
+-- What is said of them: readings and their order in 01's words, the children of a node, function 2 and the usage report in 02's, what a loaded text has, how large a run's states are.
 pub mod Fitting
 pub mod FirstReading
 pub mod Parts
 pub mod Children
 pub mod Copies
+pub mod Usage
 pub mod Legal
 pub mod Sizes
--- What a run's answer says of its outputs and store, which numbers are answered, and what document 01 demands of a run.
+-- What a run's answer says of its outputs, store and report, which numbers are answered, and what document 01 demands of a run.
 pub mod Runs
 pub mod NumberTable
 pub mod Demands

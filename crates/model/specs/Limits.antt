@@ -50,6 +50,10 @@ storeLeast = 8704
 abbrev pub deadLeast : ℕ
 deadLeast = 51456
 
+-- the least length of a lent report, which any report fits
+abbrev pub reportLeast : ℕ
+reportLeast = 2048
+
 -- values are signed numbers of 64 bits: from -(largest + 1) to largest
 abbrev pub largest : ℕ
 largest = 9223372036854775807

@@ -22,6 +22,7 @@ use Rattle.model.specs.declared.Comparison.the-variants.{Equal, Unequal,
 use Rattle.model.specs.Store.{Store, find, put, within, memoryFault, decimal, listing}
 use Rattle.model.specs.Value.{valueFault, valueOf, written}
 use Rattle.model.specs.Load.{begins, templates, Macro, Loaded, Load, refused, loaded, noMacro}
+use Rattle.model.specs.Report.{Tally, noLines, tallied, reportRows, reportBytes}
 
 -- an open iteration. ed7 has the rest of the built line, the list of delimiters and d's old value; eF7 the passes left. `after` are the
 -- code lines after the opening line
@@ -372,7 +373,7 @@ carryOut room m c f w = finishBuilt room m (c .ending) f (build m f (c .parts) [
 -- ---- the machine
 
 -- the machine's state: the input lines left and the last one read, a line that is to be offered, the open calls (the innermost first), the last
--- call number, what calls share, the events
+-- call number, what calls share, the events, and what was decided of the lines offered
 pub record State : Type 0 where
   pub input : List Bytes
   pub line : ℕ
@@ -381,6 +382,7 @@ pub record State : Type 0 where
   pub calls : ℕ
   pub shared : Shared
   pub events : ℕ
+  pub tally : Tally
 
 -- the machine goes on, or has ended with a number
 pub data Next : Type 0 where
@@ -389,7 +391,7 @@ pub data Next : Type 0 where
 
 -- the state with these open calls, and perhaps a line to be offered
 unfoldable pub stateWith : State → Option Bytes → List Frame → Shared → State
-stateWith s p fs w = record { input = s .input; line = s .line; pending = p; frames = fs; calls = s .calls; shared = w; events = s .events }
+stateWith s p fs w = record { input = s .input; line = s .line; pending = p; frames = fs; calls = s .calls; shared = w; events = s .events; tally = s .tally }
 
 -- lines passed over: landed before these lines, beyond the body's end with some left to pass, or a bad landing
 pub data Passed : Type 0 where
@@ -424,7 +426,7 @@ skipFrom f fs w s out badLanding = ended (landingFault badLanding) (stateWith s 
 -- lines passed over in the innermost call, then in its callers, at last in the input
 unfoldable pub skipIn : Marks → ℕ → List Frame → Shared → State → Next
 skipIn m n [] w s =
-    running (record { input = drop n (s .input); line = s .line + min n (length (s .input)); pending = none; frames = []; calls = s .calls; shared = w; events = s .events })
+    running (record { input = drop n (s .input); line = s .line + min n (length (s .input)); pending = none; frames = []; calls = s .calls; shared = w; events = s .events; tally = s .tally })
 skipIn m n (f ∷ fs) w s = skipFrom f fs w s (λ k. skipIn m k fs w s) (passOver m n 0 (f .next))
 
 -- nine parameters; those that the template lacks are empty
@@ -444,6 +446,7 @@ call x ps s =
         calls = suc (s .calls);
         shared = s .shared;
         events = s .events;
+        tally = s .tally;
       })
     ]
 
@@ -455,9 +458,13 @@ passed s (some w) = running (stateWith s none (s .frames) w)
 unfoldable pub passThrough : Rooms → Bytes → State → Next
 passThrough room l s = passed s (wrote room First l (s .shared))
 
+-- a line is counted when its reading is decided, by the template that is chosen or none, whatever follows
+unfoldable pub decided : (which : Option ℕ) → State → State
+decided i s = record { input = s .input; line = s .line; pending = s .pending; frames = s .frames; calls = s .calls; shared = s .shared; events = s .events; tally = tallied i (s .tally) }
+
 unfoldable pub offeredAs : Rooms → Loaded → Bytes → State → Option Reading → Next
-offeredAs room t l s none = passThrough room l s
-offeredAs room t l s (some r) = call (getD (t .macros) (r .which) noMacro) (r .pieces) s
+offeredAs room t l s none = passThrough room l (decided none s)
+offeredAs room t l s (some r) = call (getD (t .macros) (r .which) noMacro) (r .pieces) (decided (some (r .which)) s)
 
 -- an offered line's first reading opens a call; without a reading the line is written
 unfoldable pub offered : Rooms → Loaded → Bytes → State → Next
@@ -467,7 +474,7 @@ offered room t l s = offeredAs room t l s (chosen (t .marks) (templates (t .macr
 
 -- the state with one input line more read, and ls left
 unfoldable pub pastLine : List Bytes → State → State
-pastLine ls s = record { input = ls; line = suc (s .line); pending = none; frames = s .frames; calls = s .calls; shared = s .shared; events = s .events }
+pastLine ls s = record { input = ls; line = suc (s .line); pending = none; frames = s .frames; calls = s .calls; shared = s .shared; events = s .events; tally = s .tally }
 
 -- whether a content is too long to be copied; a dropped one isn't measured
 unfoldable pub tooLong : Channel → Bytes → Bool
@@ -525,7 +532,7 @@ unfoldable pub readInput : Marks → List Bytes → State → Next
 readInput m [] s = ended 0 (stateWith s none [] (s .shared))
 readInput m (l ∷ ls) s =
     let c : Bytes = upTo (m .source) l in
-    measured (record { input = ls; line = suc (s .line); pending = some c; frames = []; calls = s .calls; shared = s .shared; events = s .events }) c (leb (length c) lineMost)
+    measured (record { input = ls; line = suc (s .line); pending = some c; frames = []; calls = s .calls; shared = s .shared; events = s .events; tally = s .tally }) c (leb (length c) lineMost)
 
 unfoldable pub readyIn : Marks → State → List Frame → Next
 readyIn m s [] = readInput m (s .input) s
@@ -550,7 +557,7 @@ beginLine room m (f ∷ fs) s = beginAt room m f fs s (f .next)
 
 -- an event is counted
 unfoldable pub counted : State → State
-counted s = record { input = s .input; line = s .line; pending = none; frames = s .frames; calls = s .calls; shared = s .shared; events = suc (s .events) }
+counted s = record { input = s .input; line = s .line; pending = none; frames = s .frames; calls = s .calls; shared = s .shared; events = suc (s .events); tally = s .tally }
 
 unfoldable pub eventFor : Rooms → Loaded → State → Option Bytes → Next
 eventFor room t s (some l) = offered room t l (counted s)
@@ -575,25 +582,31 @@ noOutput = outputs [] []
 
 -- at first no call is open and nothing is stored, written or counted
 unfoldable pub initial : Loaded → State
-initial t = record { input = t .input; line = t .last; pending = none; frames = []; calls = 0; shared = record { symbols = 0; store = []; output = noOutput }; events = 0 }
+initial t = record { input = t .input; line = t .last; pending = none; frames = []; calls = 0; shared = record { symbols = 0; store = []; output = noOutput }; events = 0; tally = noLines (t .macros) }
 
--- number, line, events, and what is written to the outputs and the store
+-- number, line, events, and what is written to the outputs, the store and the report
 pub record Result : Type 0 where
   pub number : ℕ
   pub line : ℕ
   pub events : ℕ
   pub output : Outputs
   pub store : Bytes
+  pub report : Bytes
 
-unfoldable pub resultOf : ℕ → State → Result
-resultOf k s = record { number = k; line = s .line; events = s .events; output = s .shared .output; store = listing (s .shared .store) }
+unfoldable pub resultOf : Loaded → ℕ → State → Result
+resultOf t k s =
+    record { number = k; line = s .line; events = s .events; output = s .shared .output; store = listing (s .shared .store); report = reportBytes (reportRows (t .macros) (s .tally)) }
 
 -- a machine that goes on when its fuel is used is spent: 20
-unfoldable pub outcome : Next → Result
-outcome (ended k s) = resultOf k s
-outcome (running s) = resultOf 20 s
+unfoldable pub outcome : Loaded → Next → Result
+outcome t (ended k s) = resultOf t k s
+outcome t (running s) = resultOf t 20 s
+
+-- no run begins: nothing is written
+abbrev pub noRun : (number line : ℕ) → Result
+noRun k n = record { number = k; line = n; events = 0; output = noOutput; store = []; report = [] }
 
 -- a run's result, for legal fuel and rooms
 unfoldable pub run : ℕ → Rooms → Load → Result
-run fuel room (refused k n) = record { number = k; line = n; events = 0; output = noOutput; store = [] }
-run fuel room (loaded t) = outcome (after fuel room t (running (initial t)))
+run fuel room (refused k n) = noRun k n
+run fuel room (loaded t) = outcome t (after fuel room t (running (initial t)))

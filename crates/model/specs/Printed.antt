@@ -1,7 +1,7 @@
--- What the programs print on standard output, and what expand writes to its second file, byte for byte: numbers are in decimal, a blank is byte 32, and each row ends with byte 10.
+-- What the programs print on standard output, and what expand writes to its files, byte for byte: numbers are in decimal, a blank is byte 32, and each row ends with byte 10.
 use mathlib.Core.List.{List, [], _∷_, _++_}
 use Prim.Native.Nat.{ℕ}
-use Rattle.model.specs.Limits.{textMost, nodesMost, fuelMost, storeLeast, deadLeast}
+use Rattle.model.specs.Limits.{textMost, nodesMost, fuelMost, storeLeast, deadLeast, reportLeast}
 use Rattle.model.specs.declared.Checked.{Checked}
 use Rattle.model.specs.declared.Fitted.{Fitted}
 use Rattle.model.specs.Text.{Bytes, lines}
@@ -22,7 +22,7 @@ endRow k n e = (69 ∷ 78 ∷ 68 ∷ []) ++ spaced k ++ spaced n ++ spaced e ++ 
 -- `expand` runs a text with all the fuel there is, with room for as many bytes of the output as a text has, and with so many for the second
 -- output: as many where a file is named for it, else none
 unfoldable pub expandRuns : (second : ℕ) → Bytes → Result
-expandRuns second text = runText fuelMost nodesMost deadLeast (rooms textMost second) storeLeast text
+expandRuns second text = runText fuelMost nodesMost deadLeast (rooms textMost second) storeLeast reportLeast text
 
 -- it prints a run's output, then its end
 unfoldable pub runPrinted : Result → Bytes
@@ -31,9 +31,12 @@ runPrinted x = x .output .first ++ endRow (x .number) (x .line) (x .events)
 unfoldable pub expandPrints : (second : ℕ) → Bytes → Bytes
 expandPrints second text = runPrinted (expandRuns second text)
 
--- and writes the second output to its file
+-- and writes the second output to its file, and the usage report to another
 unfoldable pub expandWrites : (second : ℕ) → Bytes → Bytes
 expandWrites second text = expandRuns second text .output .second
+
+unfoldable pub expandReports : (second : ℕ) → Bytes → Bytes
+expandReports second text = expandRuns second text .report
 
 -- ---- check_text
 

@@ -5,7 +5,7 @@ use mathlib.Core.List.{List, [], _∷_, _++_, map}
 use Prim.Native.Nat.{ℕ, suc, _+_, _-_}
 use lib.Dec.{eqb, ltb}
 use lib.ListN.{length, getD, replicate}
-use Rattle.model.specs.Limits.{lineMost, nodesMost, storeLeast, deadLeast, fuelMost}
+use Rattle.model.specs.Limits.{lineMost, nodesMost, storeLeast, deadLeast, reportLeast, fuelMost}
 use Rattle.model.specs.declared.Marks.{Marks}
 use Rattle.model.specs.declared.Checked.{Checked}
 use Rattle.model.specs.declared.Fitted.{Fitted}
@@ -13,7 +13,7 @@ use Rattle.model.specs.declared.Ran.{Ran}
 use Rattle.model.specs.Text.{Bytes}
 use Rattle.model.specs.Reading.{Pieces, Reading, chosen}
 use Rattle.model.specs.Load.{Macro, noMacro, templates, Loaded, Load, refused, loaded, load}
-use Rattle.model.specs.Machine.{Rooms, noOutput, Result, run}
+use Rattle.model.specs.Machine.{Rooms, Result, noRun, run}
 use Rattle.model.specs.Places.{placesTaken, bytesRead}
 
 -- 1 where the node row is below 2,048
@@ -70,18 +70,23 @@ fitLine rows dead text line = elim (shortRow rows || shortDead dead) [ true ↦ 
 
 -- ---- run
 
--- 1 where the fuel isn't 1 to 1,000,000, the node row is below 2,048, the row of dead places below 51,456 or the store below 8,704
-unfoldable pub illegal : (fuel rows dead store : ℕ) → Bool
-illegal fuel rows dead store = ltb fuel 1 || (ltb fuelMost fuel || (shortRow rows || (shortDead dead || ltb store storeLeast)))
+-- 1 where the fuel isn't 1 to 1,000,000, the node row is below 2,048, the row of dead places below 51,456, the store below 8,704 or the report
+-- below 2,048
+unfoldable pub illegal : (fuel rows dead store report : ℕ) → Bool
+illegal fuel rows dead store report = ltb fuel 1 || (ltb fuelMost fuel || (shortRow rows || (shortDead dead || (ltb store storeLeast || ltb report reportLeast))))
 
 -- a run with this fuel, with rows of these lengths and rooms of these sizes
-unfoldable pub runText : (fuel rows dead : ℕ) (room : Rooms) (store : ℕ) → Bytes → Result
-runText fuel rows dead room store text =
-    elim (illegal fuel rows dead store) [
-      | true ↦ record { number = 1; line = 0; events = 0; output = noOutput; store = [] }
-      | false ↦ run fuel room (load text)
-    ]
+unfoldable pub runText : (fuel rows dead : ℕ) (room : Rooms) (store report : ℕ) → Bytes → Result
+runText fuel rows dead room store report text = elim (illegal fuel rows dead store report) [ true ↦ noRun 1 0 | false ↦ run fuel room (load text) ]
 
 -- the numbers of a result
 unfoldable pub ranAs : Result → Ran
-ranAs x = record { number = x .number; line = x .line; events = x .events; output = length (x .output .first); second = length (x .output .second); store = length (x .store) }
+ranAs x = record {
+  number = x .number;
+  line = x .line;
+  events = x .events;
+  output = length (x .output .first);
+  second = length (x .output .second);
+  store = length (x .store);
+  report = length (x .report);
+}

@@ -36,6 +36,9 @@ pub const FUEL_MOST: u64 = 1000000;
 // The least length of a lent store: every listing fits.
 pub const STORE_LEAST: usize = 8704;
 
+// The least length of a lent report: every report fits.
+pub const REPORT_LEAST: usize = 2048;
+
 // The least length of a lent row of dead places: a bit for each node at each position of a line.
 pub const DEAD_LEAST: usize = 51456;
 
@@ -132,7 +135,7 @@ pub struct Fitted {
     pub bytes: u64,
 }
 
-// What a run answers: the lengths are of what was written to the output, the second output and the store.
+// What a run answers: the lengths are of what was written to the output, the second output, the store and the report.
 #[repr(C)]
 pub struct Ran {
     pub number: u64,
@@ -141,4 +144,5 @@ pub struct Ran {
     pub output: u64,
     pub second: u64,
     pub store: u64,
+    pub report: u64,
 }

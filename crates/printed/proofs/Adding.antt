@@ -1,86 +1,16 @@
 -- Rows that are added part by part.
-use mathlib.Core.Path.{_≡_, refl, sym, ap, subst, _∙_}
+use mathlib.Core.Path.{_≡_, sym, ap, _∙_}
 use mathlib.Core.List.{[], _∷_, _++_, append-assoc}
-use Prim.Native.Nat.{ℕ, _+_, _-_, _≤_}
-use native.Mathlib.Omega.{arith}
-use lib.ListN.{length, take, length-append}
+use Prim.Native.Nat.{ℕ}
 use Rattle.model.specs.declared.Checked.{Checked}
 use Rattle.model.specs.declared.Fitted.{Fitted}
-use Rattle.model.specs.Text.{Bytes, part}
+use Rattle.model.specs.Text.{Bytes}
 use Rattle.model.specs.Store.{decimal}
 use Rattle.model.specs.Printed.{spaced, endRow, checkRow, pieceRow, fitRow}
-use Rattle.buffer.specs.Pasted.{Pasted}
-use Rattle.buffer.specs.Decimal.{Decimal}
-use Rattle.buffer.proofs.Written.{written-take}
-use Rattle.write.specs.Output.{AddsAt}
-use Rattle.write.proofs.Adding.{adds-as, adds-none, adds-copy, adds-more, adds-length, adds-fits}
-use Rattle.printed.specs.Prints.{RoomFor, Prints}
-
-pub prints-none : {o : Bytes} {w : ℕ} → w ≤ length o → Prints o w [] w o
-prints-none h = record { adds = adds-none h; ends = omega arith; long = refl; fits = h }
-
-pub prints-copy : {o : Bytes} {w : ℕ} {s o′ : Bytes} → RoomFor o w s → Pasted o w s (length s) o′ → Prints o w s (w + length s) o′
-prints-copy h g = let a = adds-copy g (h .fits) in record { adds = a; ends = refl; long = adds-length a; fits = adds-fits a }
-
--- the same bytes by another name
-pub prints-as : {o : Bytes} {w : ℕ} {s t : Bytes} {r : ℕ} {o′ : Bytes} → s ≡ t → Prints o w s r o′ → Prints o w t r o′
-prints-as {o} {w} {r = r} {o′} e p = subst (λ (x : Bytes). Prints o w x r o′) e p
-
-pub room-as : {o : Bytes} {w : ℕ} {s t : Bytes} → s ≡ t → RoomFor o w s → RoomFor o w t
-room-as {o} {w} e h = subst (λ (x : Bytes). RoomFor o w x) e h
-
--- what is printed from the front is the front
-pub shown : {o : Bytes} (s : Bytes) {r : ℕ} {o′ : Bytes} → Prints o 0 s r o′ → part o′ 0 r ≡ s
-shown s {r} {o′} p =
-    let e = p .ends in
-    let z : r - 0 ≡ 0 + length s = omega arith in
-    ap (λ (n : ℕ). take n o′) z ∙ written-take (p .adds .is)
-
--- ---- one part after another
-
-pub prints-more : {o : Bytes} {w : ℕ} {s t : Bytes} {r k : ℕ} {o₁ o₂ : Bytes} → Prints o w s r o₁ → Prints o₁ r t k o₂ → Prints o w (s ++ t) k o₂
-prints-more {o} {w} {s} {t} {r} {k} {o₁} {o₂} p q =
-    let l = length-append s t in
-    let a : AddsAt o₁ (w + length s) t (length t) o₂ = subst (λ (n : ℕ). AddsAt o₁ n t (length t) o₂) (p .ends) (q .adds) in
-    record {
-      adds = adds-as (adds-more (p .adds) a) refl (sym l);
-      ends = omega (arith, p .ends, q .ends);
-      long = q .long ∙ p .long;
-      fits = omega (arith, q .fits, p .long);
-    }
-
-pub room-first : {o : Bytes} {w : ℕ} (s t : Bytes) → RoomFor o w (s ++ t) → RoomFor o w s
-room-first s t h = let l = length-append s t in record { fits = omega (arith, h .fits) }
-
-pub room-next : {o : Bytes} {w : ℕ} {s : Bytes} (t : Bytes) {r : ℕ} {o₁ : Bytes} → RoomFor o w (s ++ t) → Prints o w s r o₁ → RoomFor o₁ r t
-room-next {s = s} t h p = let l = length-append s t in record { fits = omega (arith, h .fits, p .ends, p .long) }
-
--- a row of four parts
-module _ {o : Bytes} {w : ℕ} (a b c d : Bytes) (h : RoomFor o w (a ++ b ++ c ++ d)) where
-  room-1 : RoomFor o w a
-  room-1 = room-first a b (room-first (a ++ b) c (room-first (a ++ b ++ c) d h))
-
-  room-2 : {i : ℕ} {o₁ : Bytes} → Prints o w a i o₁ → RoomFor o₁ i b
-  room-2 p = room-next b (room-first (a ++ b) c (room-first (a ++ b ++ c) d h)) p
-
-  room-3 : {i j : ℕ} {o₁ o₂ : Bytes} → Prints o w a i o₁ → Prints o₁ i b j o₂ → RoomFor o₂ j c
-  room-3 p q = room-next c (room-first (a ++ b ++ c) d h) (prints-more p q)
-
-  room-4 : {i j k : ℕ} {o₁ o₂ o₃ : Bytes} → Prints o w a i o₁ → Prints o₁ i b j o₂ → Prints o₂ j c k o₃ → RoomFor o₃ k d
-  room-4 p q r = room-next d h (prints-more (prints-more p q) r)
-
-prints-4 : {o : Bytes} {w : ℕ} {a b c d : Bytes} {i j k l : ℕ} {o₁ o₂ o₃ o₄ : Bytes}
-    → Prints o w a i o₁ → Prints o₁ i b j o₂ → Prints o₂ j c k o₃ → Prints o₃ k d l o₄ → Prints o w (a ++ b ++ c ++ d) l o₄
-prints-4 p q r s = prints-more (prints-more (prints-more p q) r) s
+use Rattle.rendering.specs.Prints.{RoomFor, Prints}
+use Rattle.rendering.proofs.Prints.{prints-as, prints-more, prints-4, room-as, room-first, room-next, room-1, room-2, room-3, room-4}
 
 -- ---- numbers
-
-module _ {o : Bytes} {w n k : ℕ} {digits : Bytes} (d : Decimal n k digits) where
-  pub decimal-room : RoomFor o w (decimal n) → RoomFor o w (part digits 0 k)
-  decimal-room h = room-as (sym (d .is)) h
-
-  pub decimal-prints : {r : ℕ} {o′ : Bytes} → Prints o w (part digits 0 k) r o′ → Prints o w (decimal n) r o′
-  decimal-prints p = prints-as (d .is) p
 
 module _ {o : Bytes} {w : ℕ} (n : ℕ) where
   pub blank-room : RoomFor o w (spaced n) → RoomFor o w (32 ∷ [])

@@ -14,36 +14,32 @@ use Rattle.model.specs.Text.{Bytes, part, lines}
 use Rattle.model.specs.Machine.{rooms, Result}
 use Rattle.model.specs.Results.{checkText, fitLine, runText, ranAs}
 use Rattle.model.specs.Runs.{Runs}
-use Rattle.buffer.specs.Written.{Written}
-use Rattle.buffer.proofs.Written.{written-length}
 use Rattle.scan.specs.Lines.{LineAt}
 use Rattle.scan.proofs.Lines.{lines-none}
-use Rattle.model.specs.Printed.{spaced, endRow, expandRuns, runPrinted, expandPrints, expandWrites, checkRow, pieceRow, fitRow, fitRows, fitPrints}
-use Rattle.printed.specs.Prints.{RoomFor, Prints, Leaves}
+use Rattle.model.specs.Printed.{spaced, endRow, expandRuns, runPrinted, expandPrints, expandWrites, expandReports, checkRow, pieceRow, fitRow, fitRows, fitPrints}
 use Rattle.model.proofs.Printed.{end-row-long, check-row-long, fit-prints-long}
-use Rattle.printed.proofs.Adding.{prints-none, prints-as, prints-more, room-as, room-first, room-next}
+use Rattle.rendering.specs.Prints.{RoomFor, Prints}
+use Rattle.rendering.proofs.Prints.{prints-none, prints-as, prints-more, room-as, room-first, room-next, written-prints}
+use Rattle.printed.specs.Leaves.{Leaves}
 
 -- ---- what expand prints
 
--- what is written from the front
-written-prints : {o s : Bytes} {w : ℕ} {o′ : Bytes} → Written o s w o′ → Prints o 0 s w o′
-written-prints {o} {s} {w} {o′} h =
-    let l = h .long in
-    let z : w ≡ 0 + length s = omega arith in
-    record { adds = record { is = subst (λ (n : ℕ). Written o s n o′) z h }; ends = z; long = written-length h; fits = h .fits }
-
--- a run in the first 65,536 bytes of out, and in all of second
-module _ (text out second : Bytes) {store output′ second′ store′ : Bytes} {r : Ran}
-    (x : Runs (runText 1000000 2048 51456 (rooms (length (take 65536 out)) (length second)) (length store) text) (take 65536 out) second store r output′ second′ store′)
-    (h : 65603 ≤ length out) (s : length store ≡ 8704) where
+-- a run in the first 65,536 bytes of out, in all of second, and in a report of 2,048 bytes
+module _ (text out second : Bytes) {store report output′ second′ store′ report′ : Bytes} {r : Ran}
+    (x : Runs (runText 1000000 2048 51456 (rooms (length (take 65536 out)) (length second)) (length store) (length report) text) (take 65536 out) second store report r output′ second′ store′ report′)
+    (h : 65603 ≤ length out) (s : length store ≡ 8704) (u : length report ≡ 2048) where
   whole : Result
   whole = expandRuns (length second) text
 
-  ran : Runs whole (take 65536 out) second store r output′ second′ store′
-  unfolding whole expandRuns
-  ran = subst (λ (n : ℕ). Runs (runText 1000000 2048 51456 (rooms 65536 (length second)) n text) (take 65536 out) second store r output′ second′ store′) s
-      (subst (λ (n : ℕ). Runs (runText 1000000 2048 51456 (rooms n (length second)) (length store) text) (take 65536 out) second store r output′ second′ store′)
-      (length-take-le 65536 out (omega arith)) x)
+  -- with its rooms by their sizes
+  sized : (a b c : ℕ) → Result
+  sized a b c = runText 1000000 2048 51456 (rooms a (length second)) b c text
+
+  ran : Runs whole (take 65536 out) second store report r output′ second′ store′ report′
+  unfolding whole expandRuns sized
+  ran = subst (λ (z : Result). Runs z (take 65536 out) second store report r output′ second′ store′ report′)
+      (ap (λ (n : ℕ). sized n (length store) (length report)) (length-take-le 65536 out (omega arith))
+      ∙ ap (λ (n : ℕ). sized 65536 n (length report)) s ∙ ap (sized 65536 8704) u) x
 
   module _ (kept : length output′ ≡ length (take 65536 out)) where
     short : length (whole .output .first) ≤ 65536
@@ -78,23 +74,37 @@ module _ (text out second : Bytes) {store output′ second′ store′ : Bytes} 
           fits = omega (arith, ran .written-second);
         })
 
-    pub run-leaves : length second′ ≡ length second → Leaves (expandRuns (length second) text) out second r (output′ ++ drop 65536 out) second′
+    report-written : length report′ ≡ length report → Prints report 0 (whole .report) (r .report) report′
+    unfolding ranAs
+    report-written l =
+        let e : r .report ≡ length (whole .report) = ap (λ (y : Ran). y .report) (ran .is) in
+        written-prints (record {
+          is = ran .reports ∙ ap (λ (k : ℕ). whole .report ++ drop k report) (sym e);
+          long = sym e;
+          fits = omega (arith, ran .reported);
+        })
+
+    pub run-leaves : length second′ ≡ length second → length report′ ≡ length report → Leaves (expandRuns (length second) text) out second report r (output′ ++ drop 65536 out) second′ report′
     unfolding whole
-    run-leaves l =
+    run-leaves l m =
         let p = out-written in
         let e = end-row-long (r .number) (r .line) (r .events) in
         let d = short in
-        record { is = ran .is; prints = p; writes = second-written l; room = record { fits = omega (arith, p .ends, p .long) } }
+        record { is = ran .is; prints = p; writes = second-written l; reports = report-written m; room = record { fits = omega (arith, p .ends, p .long) } }
 
 -- the output, then the row that ends it
-pub run-prints : {out second : Bytes} (n : ℕ) (text : Bytes) {r : Ran} {o p : Bytes} → Leaves (expandRuns n text) out second r o p
+pub run-prints : {out second report : Bytes} (n : ℕ) (text : Bytes) {r : Ran} {o p u : Bytes} → Leaves (expandRuns n text) out second report r o p u
     → {k : ℕ} {o′ : Bytes} → Prints o (r .output) (endRow (r .number) (r .line) (r .events)) k o′ → Prints out 0 (expandPrints n text) k o′
 unfolding expandPrints runPrinted ranAs
 run-prints n text l p = prints-as (ap (λ (y : Ran). expandRuns n text .output .first ++ endRow (y .number) (y .line) (y .events)) (l .is)) (prints-more (l .prints) p)
 
-pub run-writes : {out second : Bytes} (n : ℕ) (text : Bytes) {r : Ran} {o p : Bytes} → Leaves (expandRuns n text) out second r o p → Prints second 0 (expandWrites n text) (r .second) p
+pub run-writes : {out second report : Bytes} (n : ℕ) (text : Bytes) {r : Ran} {o p u : Bytes} → Leaves (expandRuns n text) out second report r o p u → Prints second 0 (expandWrites n text) (r .second) p
 unfolding expandWrites
 run-writes n text l = l .writes
+
+pub run-reports : {out second report : Bytes} (n : ℕ) (text : Bytes) {r : Ran} {o p u : Bytes} → Leaves (expandRuns n text) out second report r o p u → Prints report 0 (expandReports n text) (r .report) u
+unfolding expandReports
+run-reports n text l = l .reports
 
 -- ---- a row of check_text
 

@@ -1,21 +1,22 @@
 // What the programs print, byte for byte, in a lent slice. Each function adds bytes from an offset on and answers where they end;
 // every other byte of the slice stays as it was.
-use buffer::copy;
-use buffer::write_decimal;
 use model::Checked;
 use model::FUEL_MOST;
 use model::Fitted;
 use model::Ran;
 use model::STORE_LEAST;
 use model::TEXT_MOST;
+use rendering::add_bytes;
+use rendering::add_decimal;
 use scan::read_line;
+ghost use mathlib.Core.Path.{_≡_};
 ghost use mathlib.Core.List.{[], _∷_, _++_};
 ghost use Prim.Native.Nat.{_+_, _*_, _≤_};
 ghost use lib.ListN.{length};
-ghost use Rattle.model.specs.Store.{decimal};
 ghost use Rattle.model.specs.Results.{checkText};
-ghost use Rattle.model.specs.Printed.{spaced, endRow, expandRuns, expandPrints, expandWrites, checkRow, pieceRow, fitRow, fitPrints};
-ghost use Rattle.printed.specs.Prints.{RoomFor, Prints, Leaves};
+ghost use Rattle.model.specs.Printed.{spaced, endRow, expandRuns, expandPrints, expandWrites, expandReports, checkRow, pieceRow, fitRow, fitPrints};
+ghost use Rattle.rendering.specs.Prints.{RoomFor, Prints};
+ghost use Rattle.printed.specs.Leaves.{Leaves};
 
 // The room for what expand prints: all of a run's output, and its end in at most 67 bytes.
 pub const EXPAND_ROOM: usize = 65603;
@@ -27,25 +28,6 @@ pub const CHECK_ROOM: usize = 43;
 pub const FILE_MOST: usize = 65536;
 
 pub const FIT_ROOM: usize = 3342387;
-
-// Bytes as they are.
-fn add_bytes(out: &mut [u8], at: usize, bytes: &[u8]) -> usize
-    requires { ⌜ RoomFor (now out) at (now bytes) ⌝ }
-    ensures { λ r. ⌜ Prints (now (out .entry)) at (now (bytes .entry)) r (now (out .exit)) ⌝ }
-{
-    copy(out, at, bytes);
-    at + bytes.len()
-}
-
-// A number in decimal.
-fn add_decimal(out: &mut [u8], at: usize, n: u64) -> usize
-    requires { ⌜ RoomFor (now out) at (decimal n) ⌝ }
-    ensures { λ r. ⌜ Prints (now (out .entry)) at (decimal n) r (now (out .exit)) ⌝ }
-{
-    let mut digits = [0u8; 20];
-    let k = write_decimal(n, &mut digits);
-    add_bytes(out, at, &digits[0..k])
-}
 
 // A number after a blank.
 fn add_spaced(out: &mut [u8], at: usize, n: u64) -> usize
@@ -78,31 +60,42 @@ fn add_end(out: &mut [u8], at: usize, r: Ran) -> usize
 
 // Runs a text as expand does: the output goes to the front of out, where the row that ends it has room behind it, and all of `second` is
 // channel 4's room.
-fn run_text(text: &[u8], out: &mut [u8], second: &mut [u8]) -> Ran
-    requires { ⌜ 65603 ≤ length (now out) ⌝ }
-    ensures { λ r. ⌜ Leaves (expandRuns (length (now (second .entry))) (now (text .entry))) (now (out .entry)) (now (second .entry)) r (now (out .exit)) (now (second .exit)) ⌝ }
+fn run_text(text: &[u8], out: &mut [u8], second: &mut [u8], report: &mut [u8]) -> Ran
+    requires { ⌜ (65603 ≤ length (now out)) × (length (now report) ≡ 2048) ⌝ }
+    ensures { λ r. ⌜ Leaves (expandRuns (length (now (second .entry))) (now (text .entry))) (now (out .entry)) (now (second .entry)) (now (report .entry)) r
+        (now (out .exit)) (now (second .exit)) (now (report .exit)) ⌝ }
 {
     let mut store = [0u8; STORE_LEAST];
-    with_row::run(text, FUEL_MOST, &mut out[0..TEXT_MOST], second, &mut store)
+    with_row::run(
+        text,
+        FUEL_MOST,
+        &mut out[0..TEXT_MOST],
+        second,
+        &mut store,
+        report,
+    )
 }
 
-// How many bytes expand prints, and how many it writes to channel 4's file.
+// How many bytes expand prints, how many it writes to channel 4's file, and how many to the report's.
 pub struct Shown {
     pub printed: usize,
     pub second: usize,
+    pub report: usize,
 }
 
-// What expand prints for a text, in out, and what it writes to channel 4's file, in second.
-pub fn print_run(text: &[u8], out: &mut [u8], second: &mut [u8]) -> Shown
-    requires { ⌜ 65603 ≤ length (now out) ⌝ }
+// What expand prints for a text, in out, what it writes to channel 4's file, in second, and to the report's, in report.
+pub fn print_run(text: &[u8], out: &mut [u8], second: &mut [u8], report: &mut [u8]) -> Shown
+    requires { ⌜ (65603 ≤ length (now out)) × (length (now report) ≡ 2048) ⌝ }
     ensures { λ r. ⌜ Prints (now (out .entry)) 0 (expandPrints (length (now (second .entry))) (now (text .entry))) (r .printed) (now (out .exit)) ⌝ }
     ensures { λ r. ⌜ Prints (now (second .entry)) 0 (expandWrites (length (now (second .entry))) (now (text .entry))) (r .second) (now (second .exit)) ⌝ }
+    ensures { λ r. ⌜ Prints (now (report .entry)) 0 (expandReports (length (now (second .entry))) (now (text .entry))) (r .report) (now (report .exit)) ⌝ }
 {
-    let r = run_text(text, out, second);
+    let r = run_text(text, out, second, report);
     let printed = add_end(out, r.output as usize, r);
     Shown {
         printed,
         second: r.second as usize,
+        report: r.report as usize,
     }
 }
 

@@ -50,7 +50,7 @@ lands-come : {m : Marks} {text : Bytes} {c : Head} {n : ℕ} {nums : List ℕ} {
     → Comes m text (skips n (frameOf m text (laid c nums bytes)) (sharedOf s o memory)) s o b r nums bytes o memory
 unfolding stepped
 lands-come {m} {text} {c} {n} {nums} {bytes} {s} {o} {memory} {b} {r} h q l = record {
-  same = λ fs. l .same fs nums bytes b o memory;
+  same = λ fs y. l .same fs y nums bytes b o memory;
   sound = subst (λ (x : State). Sound text x o memory) (sym (l .state)) h;
   placed = l .placed nums bytes q;
   short = unoffered-short (turn r) (l .settled);

@@ -116,6 +116,13 @@ pub fn asks_second(argument: &[u8]) -> bool
     buffer::same_bytes(argument, b"-4")
 }
 
+// Whether it is the option that the file for the usage report follows.
+pub fn asks_report(argument: &[u8]) -> bool
+    ensures { λ r. ⌜ r ≡ same (now (argument .entry)) (45 ∷ 45 ∷ 114 ∷ 101 ∷ 112 ∷ 111 ∷ 114 ∷ 116 ∷ []) ⌝ }
+{
+    buffer::same_bytes(argument, b"--report")
+}
+
 // Says of a file, after the program's name, what is wrong with it.
 pub fn tell(program: &[u8], name: &[u8], wrong: &[u8]) {
     io::write_all(STDERR_FILENO, program);

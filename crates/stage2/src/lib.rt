@@ -28,6 +28,7 @@ use model::FUEL_MOST;
 use model::Fitted;
 use model::LINE_MOST;
 use model::NODES_MOST;
+use model::REPORT_LEAST;
 use model::Ran;
 use model::STORE_LEAST;
 use nodes::Node;
@@ -164,13 +165,15 @@ pub fn fit(text: &[u8], nodes: &mut [Node], dead: &mut [u8], line: &[u8]) -> Fit
     fit_prepared(text, nodes, dead, t, line)
 }
 
-// Whether the fuel is not 1 to 1,000,000, the node row below 2,048, the row of dead places below 51,456 or the store below 8,704.
-fn is_illegal(fuel: u64, rows: usize, dead: usize, store: usize) -> bool
-    ensures { λ r. ⌜ TestsRooms fuel rows dead store r ⌝ }
+// Whether the fuel is not 1 to 1,000,000, the node row below 2,048, the row of dead places below 51,456, the store below 8,704 or the report
+// below 2,048.
+fn is_illegal(fuel: u64, rows: usize, dead: usize, store: usize, report: usize) -> bool
+    ensures { λ r. ⌜ TestsRooms fuel rows dead store report r ⌝ }
 {
     (fuel < 1)
         | ((FUEL_MOST < fuel)
-            | ((rows < NODES_MOST) | ((dead < DEAD_LEAST) | (store < STORE_LEAST))))
+            | ((rows < NODES_MOST)
+                | ((dead < DEAD_LEAST) | ((store < STORE_LEAST) | (report < REPORT_LEAST)))))
 }
 
 // The fuel as the machine counts it.
@@ -181,7 +184,7 @@ fn count_of(n: u64) -> usize
 }
 
 // Runs a text. No more than 2,048 nodes and 51,456 bytes of the lent rows are used. Channel 3 is the output, and
-// channel 4 the second one; either may have any length.
+// channel 4 the second one; either may have any length. The report says how often each template was chosen.
 pub fn run(
     text: &[u8],
     fuel: u64,
@@ -190,18 +193,30 @@ pub fn run(
     output: &mut [u8],
     second: &mut [u8],
     store: &mut [u8],
+    report: &mut [u8],
 ) -> Ran
     ensures { λ r. ⌜ Runs (runText fuel (length (now (nodes .entry))) (length (now (dead .entry)))
-        (rooms (length (now (output .entry))) (length (now (second .entry)))) (length (now (store .entry))) (now (text .entry)))
-        (now (output .entry)) (now (second .entry)) (now (store .entry)) r (now (output .exit)) (now (second .exit)) (now (store .exit)) ⌝ }
+        (rooms (length (now (output .entry))) (length (now (second .entry)))) (length (now (store .entry))) (length (now (report .entry))) (now (text .entry)))
+        (now (output .entry)) (now (second .entry)) (now (store .entry)) (now (report .entry)) r
+        (now (output .exit)) (now (second .exit)) (now (store .exit)) (now (report .exit)) ⌝ }
     ensures { λ r. ⌜ ((t : Loaded) → Load.load (now (text .entry)) ≡ loaded t
-        → illegal fuel (length (now (nodes .entry))) (length (now (dead .entry))) (length (now (store .entry))) ≡ false
-        → HoldsTree t (now (nodes .exit)) × FollowsExpansion t fuel (now (output .entry)) (now (second .entry)) (now (store .entry)) r
-        (now (output .exit)) (now (second .exit)) (now (store .exit))) ⌝ }
+        → illegal fuel (length (now (nodes .entry))) (length (now (dead .entry))) (length (now (store .entry))) (length (now (report .entry))) ≡ false
+        → HoldsTree t (now (nodes .exit)) × FollowsExpansion t fuel (now (output .entry)) (now (second .entry)) (now (store .entry)) (now (report .entry)) r
+        (now (output .exit)) (now (second .exit)) (now (store .exit)) (now (report .exit))) ⌝ }
 {
-    if is_illegal(fuel, nodes.len(), dead.len(), store.len()) {
+    if is_illegal(fuel, nodes.len(), dead.len(), store.len(), report.len()) {
         return refuse(1, 0);
     }
     let t = prepare(text, nodes);
-    run_prepared(text, nodes, dead, t, count_of(fuel), output, second, store)
+    run_prepared(
+        text,
+        nodes,
+        dead,
+        t,
+        count_of(fuel),
+        output,
+        second,
+        store,
+        report,
+    )
 }

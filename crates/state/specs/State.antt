@@ -5,6 +5,7 @@ use Prim.Native.Nat.{ℕ, _+_, _-_, _≤_}
 use lib.ListN.{length, take, drop}
 use Rattle.model.specs.Limits.{fuelMost}
 use Rattle.model.specs.Text.{Bytes, lines}
+use Rattle.model.specs.Report.{Tally}
 use Rattle.model.specs.Machine as Machine
 use Rattle.model.specs.Machine.{Frame, Outputs, outputs, Shared}
 use Rattle.store.specs.declared.Index.{Index}
@@ -15,10 +16,10 @@ use Rattle.state.specs.declared.State.{State}
 abbrev pub sharedOf : State → Outputs → (memory : Bytes) → Shared
 sharedOf s o memory = record { symbols = s .symbols; store = held (s .index .count) memory; output = outputs (take (s .written) (o .first)) (take (s .second) (o .second)) }
 
--- the expansion's state, with a line that is perhaps to be offered, and the open calls
-abbrev pub stateOf : Bytes → Option Bytes → List Frame → State → Outputs → (memory : Bytes) → Machine.State
-stateOf text pending frames s o memory =
-    record { input = lines (drop (s .at) text); line = s .line; pending = pending; frames = frames; calls = s .calls; shared = sharedOf s o memory; events = s .events }
+-- the expansion's state, with a line that is perhaps to be offered, the open calls, and what was decided of the lines offered
+abbrev pub stateOf : Bytes → Option Bytes → List Frame → Tally → State → Outputs → (memory : Bytes) → Machine.State
+stateOf text pending frames y s o memory =
+    record { input = lines (drop (s .at) text); line = s .line; pending = pending; frames = frames; calls = s .calls; shared = sharedOf s o memory; events = s .events; tally = y }
 
 -- what every function of a run asks of its state
 pub record Sound (text : Bytes) (s : State) (o : Outputs) (memory : Bytes) : Type 0 where

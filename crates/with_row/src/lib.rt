@@ -48,15 +48,32 @@ pub fn fit(text: &[u8], line: &[u8]) -> Fitted
 }
 
 // Runs a text.
-pub fn run(text: &[u8], fuel: u64, output: &mut [u8], second: &mut [u8], store: &mut [u8]) -> Ran
+pub fn run(
+    text: &[u8],
+    fuel: u64,
+    output: &mut [u8],
+    second: &mut [u8],
+    store: &mut [u8],
+    report: &mut [u8],
+) -> Ran
     ensures { λ r. ⌜ Runs (runText fuel 2048 51456
-        (rooms (length (now (output .entry))) (length (now (second .entry)))) (length (now (store .entry))) (now (text .entry)))
-        (now (output .entry)) (now (second .entry)) (now (store .entry)) r (now (output .exit)) (now (second .exit)) (now (store .exit)) ⌝ }
-    ensures { λ r. ⌜ ((t : Loaded) → load (now (text .entry)) ≡ loaded t → illegal fuel 2048 51456 (length (now (store .entry))) ≡ false
-        → FollowsExpansion t fuel (now (output .entry)) (now (second .entry)) (now (store .entry)) r
-        (now (output .exit)) (now (second .exit)) (now (store .exit))) ⌝ }
+        (rooms (length (now (output .entry))) (length (now (second .entry)))) (length (now (store .entry))) (length (now (report .entry))) (now (text .entry)))
+        (now (output .entry)) (now (second .entry)) (now (store .entry)) (now (report .entry)) r
+        (now (output .exit)) (now (second .exit)) (now (store .exit)) (now (report .exit)) ⌝ }
+    ensures { λ r. ⌜ ((t : Loaded) → load (now (text .entry)) ≡ loaded t → illegal fuel 2048 51456 (length (now (store .entry))) (length (now (report .entry))) ≡ false
+        → FollowsExpansion t fuel (now (output .entry)) (now (second .entry)) (now (store .entry)) (now (report .entry)) r
+        (now (output .exit)) (now (second .exit)) (now (store .exit)) (now (report .exit))) ⌝ }
 {
     let mut row = [make_node(); NODES_MOST];
     let mut dead = [0u8; DEAD_LEAST];
-    stage2::run(text, fuel, &mut row, &mut dead, output, second, store)
+    stage2::run(
+        text,
+        fuel,
+        &mut row,
+        &mut dead,
+        output,
+        second,
+        store,
+        report,
+    )
 }

@@ -15,11 +15,11 @@ use Rattle.model.specs.Machine.{Frame, param, field, fields}
 use Rattle.model.proofs.Choices.{when-true, when-false}
 use Rattle.model.proofs.Text.{part-length, part-long, part-empty, part-cons}
 use Rattle.buffer.specs.Pasted.{Pasted}
+use Rattle.rendering.specs.Added.{AddsAt}
+use Rattle.rendering.proofs.Added.{adds-as, adds-none, adds-copy, adds-store, adds-more, adds-length}
 use Rattle.call.specs.Call.{Laid, frameOf}
 use Rattle.call.specs.Params.{Lies}
-use Rattle.write.specs.Output.{AddsAt}
 use Rattle.write.specs.Layout.{isField, NamesField, paramOf, layoutOf, RunEnds, PutsField, PutsPart, PutsLayout}
-use Rattle.write.proofs.Adding.{adds-as, adds-none, adds-copy, adds-store, adds-more, adds-length}
 
 -- ---- one field
 

@@ -12,10 +12,13 @@ use Rattle.model.specs.declared.Marks.{Marks}
 use Rattle.model.specs.declared.Channel.{Channel}
 use Rattle.model.specs.declared.Channel.the-variants.{Nowhere, First, Second}
 use Rattle.model.specs.Text.{Bytes, part}
+use Rattle.model.specs.Report.{Tally}
 use Rattle.model.specs.Machine.{Outputs, outputs, Frame, Shared, continues, appended, withFirst, withSecond, wrote, goesWritten, writeTo, running, ended, stateWith, stepped, passed, passThrough}
 use Rattle.model.proofs.Choices.{when-true, when-false, false-not-true}
 use Rattle.model.proofs.Text.{part-front}
 use Rattle.buffer.specs.Pasted.{Pasted}
+use Rattle.rendering.specs.Added.{AddsAt}
+use Rattle.rendering.proofs.Added.{adds-as, adds-copy, adds-store, adds-more, adds-length, adds-fits, adds-long, adds-take}
 use Rattle.state.specs.declared.State.{State}
 use Rattle.state.specs.State.{sharedOf, stateOf, withWritten, Sound}
 use Rattle.call.specs.declared.Head.{Head}
@@ -26,9 +29,9 @@ use Rattle.answer.specs.Kept.{Extends, ExtendsBoth, Comes, Follows}
 use Rattle.answer.proofs.Following.{extends-none, follows-itself}
 use Rattle.answer.proofs.Coming.{comes-as, came-end}
 use Rattle.answer.proofs.Expansion.{skip-none}
-use Rattle.write.specs.Output.{AddsAt, hasRoom, Puts, PutsLine, wroteTo, AnswersWritten, hasRoomOn, Writes, WritesLine, PassesThrough}
+use Rattle.write.specs.Output.{hasRoom, Puts, PutsLine, wroteTo, AnswersWritten, hasRoomOn, Writes, WritesLine, PassesThrough}
 use Rattle.write.specs.Layout.{PutsLayout, PutsLayoutLine, WritesLayout}
-use Rattle.write.proofs.Adding.{adds-as, adds-copy, adds-store, adds-more, adds-length, adds-fits, adds-long, adds-take, adds-extends}
+use Rattle.write.proofs.Adding.{adds-extends}
 use Rattle.write.proofs.Fields.{layout-long}
 
 -- ---- one output
@@ -209,7 +212,7 @@ wrote-on {m} {text} {ch} {c} {nums} {bytes} {l} {s} {o} {memory} {b} {r} {a} {o�
         (subst (λ (x : Answer). Comes m text (continues f (sharedOf (a .state) o′ memory)) s o b x nums bytes o′ memory) (sym is)
         (comes-as (ap (λ (x : Answer). continues f (sharedOf (x .state) o′ memory)) is)
         (record {
-          same = λ fs. refl;
+          same = λ fs y. refl;
           sound = written-sound h (subst (λ (x : Answer). ExtendsBoth o s o′ (x .state)) is (v .extends));
           placed = q;
           short = omega arith;
@@ -222,21 +225,21 @@ wrote-on {m} {text} {ch} {c} {nums} {bytes} {l} {s} {o} {memory} {b} {r} {a} {o�
 
 -- a line without a reading: its caller goes on
 module _ {l : Bytes} {s : State} {o : Outputs} {a : Answer} {o′ : Outputs} (v : Writes First l (goesBack 0 s) o a o′) where
-  pub wrote-back : (m : Marks) (text : Bytes) (fs : List Frame) (nums : List ℕ) (bytes line memory : Bytes)
-      → settle (passThrough (roomsOf o) l (stateOf text none fs s o memory)) ≡ nextOf m text fs a nums bytes line o′ memory
+  pub wrote-back : (m : Marks) (text : Bytes) (fs : List Frame) (y : Tally) (nums : List ℕ) (bytes line memory : Bytes)
+      → settle (passThrough (roomsOf o) l (stateOf text none fs y s o memory)) ≡ nextOf m text fs y a nums bytes line o′ memory
   unfolding passThrough passed settle nextAt nextOf stateWith
-  wrote-back m text fs nums bytes line memory = by (hasRoomOn First l s o) refl
+  wrote-back m text fs y nums bytes line memory = by (hasRoomOn First l s o) refl
     where
-      by : (k : Bool) → hasRoomOn First l s o ≡ k → settle (passThrough (roomsOf o) l (stateOf text none fs s o memory)) ≡ nextOf m text fs a nums bytes line o′ memory
+      by : (k : Bool) → hasRoomOn First l s o ≡ k → settle (passThrough (roomsOf o) l (stateOf text none fs y s o memory)) ≡ nextOf m text fs y a nums bytes line o′ memory
       by true k =
-          ap (λ (x : Option Shared). settle (passed (stateOf text none fs s o memory) x)) (v .fits k .1 memory)
-          ∙ ap (λ (x : Answer). running (stateWith (stateOf text none fs s o memory) none fs (sharedOf (x .state) o′ memory))) (v .fits k .0)
-          ∙ sym (skip-none m text fs (withWritten s (a .state .written) (a .state .second)) o′ memory)
-          ∙ ap (λ (x : Answer). nextOf m text fs x nums bytes line o′ memory) (sym (v .fits k .0))
+          ap (λ (x : Option Shared). settle (passed (stateOf text none fs y s o memory) x)) (v .fits k .1 memory)
+          ∙ ap (λ (x : Answer). running (stateWith (stateOf text none fs y s o memory) none fs (sharedOf (x .state) o′ memory))) (v .fits k .0)
+          ∙ sym (skip-none m text fs y (withWritten s (a .state .written) (a .state .second)) o′ memory)
+          ∙ ap (λ (x : Answer). nextOf m text fs y x nums bytes line o′ memory) (sym (v .fits k .0))
       by false k =
-          ap (λ (x : Option Shared). settle (passed (stateOf text none fs s o memory) x)) (v .full k .2 memory)
-          ∙ ap (λ (x : Outputs). ended 13 (stateOf text none [] s x memory)) (sym (v .full k .1))
-          ∙ ap (λ (x : Answer). nextOf m text fs x nums bytes line o′ memory) (sym (v .full k .0))
+          ap (λ (x : Option Shared). settle (passed (stateOf text none fs y s o memory) x)) (v .full k .2 memory)
+          ∙ ap (λ (x : Outputs). ended 13 (stateOf text none [] y s x memory)) (sym (v .full k .1))
+          ∙ ap (λ (x : Answer). nextOf m text fs y x nums bytes line o′ memory) (sym (v .full k .0))
 
   pub wrote-follows : {text memory : Bytes} → Sound text s o memory → Follows text s o (a .state) o′ memory
   wrote-follows {text} {memory} h = by (hasRoomOn First l s o) refl

@@ -9,9 +9,10 @@ use Rattle.model.specs.declared.Marks.{Marks}
 use Rattle.model.specs.declared.Channel.{Channel}
 use Rattle.model.specs.Text.{Bytes, part}
 use Rattle.model.specs.Machine.{Outputs, Frame, param, field, fields}
+use Rattle.rendering.specs.Added.{AddsAt}
 use Rattle.call.specs.Call.{slots, Laid, laid, frameOf}
 use Rattle.answer.specs.declared.Answer.{Answer}
-use Rattle.write.specs.Output.{AddsAt, Puts, Writes}
+use Rattle.write.specs.Output.{Puts, Writes}
 
 -- whether a byte names a parameter
 abbrev pub isField : ℕ → Bool

@@ -10,16 +10,11 @@ use Rattle.model.specs.declared.Channel.{Channel}
 use Rattle.model.specs.declared.Channel.the-variants.{Nowhere, First, Second}
 use Rattle.model.specs.Text.{Bytes}
 use Rattle.model.specs.Machine.{Outputs, outputs, wrote}
-use Rattle.buffer.specs.Written.{Written}
 use Rattle.state.specs.declared.State.{State}
 use Rattle.state.specs.State.{withWritten, sharedOf}
 use Rattle.answer.specs.declared.Answer.{Answer}
 use Rattle.answer.specs.Answers.{goesBack, endsWith, roomsOf}
 use Rattle.answer.specs.Kept.{Extends, ExtendsBoth}
-
--- the n bytes of s come after the first w of o
-pub record AddsAt (o : Bytes) (w : ℕ) (s : Bytes) (n : ℕ) (o′ : Bytes) : Type 0 where
-  pub is : Written o (take w o ++ s) (w + n) o′
 
 -- ---- one output
 

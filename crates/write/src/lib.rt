@@ -13,9 +13,10 @@ use state::set_written;
 ghost use mathlib.Core.Path.{_≡_};
 ghost use Prim.Native.Nat.{_+_, _-_, _≤_, _<_};
 ghost use lib.ListN.{length, replicate};
-ghost use Rattle.write.specs.Output.{AddsAt, PutsLine, wroteTo, AnswersWritten, WritesLine, PassesThrough};
+ghost use Rattle.write.specs.Output.{PutsLine, wroteTo, AnswersWritten, WritesLine, PassesThrough};
 ghost use Rattle.write.specs.Layout.{bare, NamesField, RunEnds, PutsField, PutsPart, PutsLayout, PutsLayoutLine, WritesLayout};
 ghost use Rattle.call.specs.Call.{Sized};
+ghost use Rattle.rendering.specs.Added.{AddsAt};
 ghost use Rattle.model.specs.Machine.{outputs};
 
 // The first n bytes of a line, and a byte 10 after them, come after the first w bytes of an output. The answer is how many it then has: w

@@ -7,7 +7,7 @@ use std::env;
 use std::time::Instant;
 
 use stage2_reference::generate::{Generator, Size};
-use stage2_reference::{fit, looks, most_places, run, DEAD_ROW, NODE_ROW, STORE_ROOM};
+use stage2_reference::{fit, looks, most_places, run, Rooms, DEAD_ROW, NODE_ROW};
 
 fn main() {
     let argument =
@@ -17,6 +17,7 @@ fn main() {
     for size in [Size::Small, Size::Large] {
         print(&format!("{size:?}"), seed, count, |generator| generator.text(size));
         print(&format!("{size:?}, about outputs"), seed, count, |generator| generator.output_text(size));
+        print(&format!("{size:?}, about uses"), seed, count, |generator| generator.uses_text(size));
     }
     let kinds: [(&str, fn(&mut Generator, Size) -> Vec<u8>); 2] =
         [("places", Generator::places_text), ("brackets", Generator::brackets_text)];
@@ -32,14 +33,13 @@ fn main() {
 /// The numbers of the runs of texts, and how many of them wrote to each output.
 fn print(kind: &str, seed: u64, count: u64, make: impl Fn(&mut Generator) -> Vec<u8>) {
     let mut generator = Generator::new(seed);
-    let mut store = vec![0; STORE_ROOM];
     let mut numbers: BTreeMap<u64, u64> = BTreeMap::new();
     let (mut events, mut bytes, mut outputs, mut seconds) = (0, 0, 0, 0);
     let start = Instant::now();
     for _ in 0..count {
         let text = make(&mut generator);
-        let (mut output, mut second) = (vec![0; generator.room()], vec![0; generator.room()]);
-        let ran = run(&text, generator.fuel(), NODE_ROW, DEAD_ROW, &mut output, &mut second, &mut store);
+        let mut rooms = Rooms::with_outputs(generator.room(), generator.room());
+        let ran = run(&text, generator.fuel(), NODE_ROW, DEAD_ROW, &mut rooms);
         *numbers.entry(ran.number).or_default() += 1;
         events += ran.events;
         bytes += text.len() as u64;

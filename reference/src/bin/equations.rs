@@ -7,24 +7,28 @@
 //! the definitions, from which the names to unfold are read.
 
 use stage2_reference::generate::{Generator, Size};
+use stage2_reference::Rooms;
 use std::fmt::{Display, Write};
 
 const NODES: usize = 2048;
 const DEAD: usize = 51456;
 const STORE: usize = 8704;
+const REPORT: usize = 2048;
 
-/// Of so many texts one each is about characters, about outputs, about values, about
-/// places and about brackets, beside those that any text may hold.
+/// Of so many texts one each is about characters, about outputs, about uses, about
+/// values, about places and about brackets, beside those that any text may hold.
 const ROUND: u64 = 13;
 
-/// Where these five stand in a round.
+/// Where these six stand in a round.
 const CHARACTERS: u64 = 0;
 const OUTPUTS: u64 = 3;
+const USES: u64 = 4;
 const VALUES: u64 = 6;
 const PLACES: u64 = 9;
 const BRACKETS: u64 = 12;
 
-/// One text of so many has too short a row of dead places.
+/// One text of so many has too short a row of dead places, another one too short a
+/// room for the report.
 const SHORT_ROW: u64 = 41;
 
 fn main() {
@@ -66,6 +70,7 @@ struct Case {
     room: usize,
     second_room: usize,
     dead: usize,
+    report: usize,
 }
 
 /// The name of an equation and its two sides.
@@ -76,6 +81,7 @@ impl Case {
         let text = match k % ROUND {
             CHARACTERS => generator.character_text(),
             OUTPUTS => generator.output_text(Size::Small),
+            USES => generator.uses_text(Size::Small),
             VALUES => generator.value_text(),
             PLACES => generator.places_text(Size::Small),
             BRACKETS => generator.brackets_text(Size::Small),
@@ -87,6 +93,7 @@ impl Case {
             room: generator.room().min(400),
             second_room: generator.room().min(400),
             dead: if k % SHORT_ROW == 1 { DEAD - 1 } else { DEAD },
+            report: if k % SHORT_ROW == 2 { REPORT - 1 } else { REPORT },
             text,
         }
     }
@@ -113,19 +120,21 @@ impl Case {
     }
 
     fn run(&self) -> Equation {
-        let Case { fuel, room, second_room, dead, .. } = *self;
-        let (mut output, mut second, mut store) = (vec![0; room], vec![0; second_room], vec![0; STORE]);
-        let ran = stage2_reference::run(&self.text, fuel, NODES, dead, &mut output, &mut second, &mut store);
+        let Case { fuel, room, second_room, dead, report, .. } = *self;
+        let mut rooms = Rooms { report: vec![0; report], ..Rooms::with_outputs(room, second_room) };
+        let ran = stage2_reference::run(&self.text, fuel, NODES, dead, &mut rooms);
+        let written = rooms.written(&ran);
         let right = format!(
-            "record {{ number = {}; line = {}; events = {}; output = {}; store = {} }}",
+            "record {{ number = {}; line = {}; events = {}; output = {}; store = {}; report = {} }}",
             ran.number,
             ran.line,
             ran.events,
-            both(list(&output[..ran.output as usize]), list(&second[..ran.second as usize])),
-            list(&store[..ran.store as usize])
+            both(list(&written.output), list(&written.second)),
+            list(&written.store),
+            list(&written.report)
         );
-        let rooms = both(room, second_room);
-        let left = format!("runText {fuel} {NODES} {dead} {rooms} {STORE} {}", list(&self.text));
+        let outputs = both(room, second_room);
+        let left = format!("runText {fuel} {NODES} {dead} {outputs} {STORE} {report} {}", list(&self.text));
         ("run", left, right)
     }
 }
@@ -146,8 +155,10 @@ fn list<T: Copy + Into<u64>>(items: &[T]) -> String {
 }
 
 /// The modules of the definitions that the equations compute.
-const MODULES: [&str; 11] =
-    ["Text", "Utf8", "Reading", "Code", "Store", "Value", "Load", "Machine", "Parts", "Places", "Results"];
+const MODULES: [&str; 12] = [
+    "Text", "Utf8", "Reading", "Code", "Store", "Value", "Load", "Report", "Machine", "Parts", "Places",
+    "Results",
+];
 
 /// The `use` lines for all definitions, and the names that the equations unfold.
 fn names(specs: &str) -> (String, String) {

@@ -1,9 +1,10 @@
-//! Expands a text: `expand [FILE] [-4 STYLES]`.
+//! Expands a text: `expand [FILE] [-4 STYLES] [--report USES]`.
 //!
 //! Without FILE it is the text on standard input. Channel 4 is written to STYLES;
-//! without that it has no room.
+//! without that it has no room. The usage report is written to USES, which stays
+//! empty where no run began.
 
-use std::ffi::{OsStr, OsString};
+use std::ffi::OsString;
 use std::fs::File;
 use std::io::{self, Read, Write};
 use std::process::ExitCode;
@@ -22,22 +23,50 @@ fn main() -> ExitCode {
     }
 }
 
-/// Nothing is expanded before it is known that the second file can be opened, and
-/// nothing printed before it is written.
+const USAGE: &str = "give the file of a text, or nothing to expand standard input; \
+    then -4 and a file for channel 4, or nothing; then --report and a file for the usage report, or nothing";
+
+/// Nothing is expanded before it is known that the other files can be opened, and
+/// nothing printed before they are written.
 fn expand(arguments: &[OsString]) -> Result<(), String> {
-    let (files, second) = match arguments {
-        [files @ .., option, second] if option == "-4" => (files, Some(second)),
-        files => (files, None),
-    };
+    let (arguments, report) = without(arguments, "--report");
+    let (files, second) = without(arguments, "-4");
     let text = text(files)?;
-    let Some(name) = second else {
-        return print(&programs::expand(&text, 0).printed);
-    };
-    let unwritten = |_| format!("{} cannot be written", name.to_string_lossy());
-    let mut file = File::create(name).map_err(unwritten)?;
-    let expanded = programs::expand(&text, OUTPUT_ROOM);
-    file.write_all(&expanded.second).map_err(unwritten)?;
+    let second = second.map(Target::create).transpose()?;
+    let report = report.map(Target::create).transpose()?;
+    let expanded = programs::expand(&text, if second.is_some() { OUTPUT_ROOM } else { 0 });
+    second.map_or(Ok(()), |target| target.write(&expanded.second))?;
+    report.map_or(Ok(()), |target| target.write(&expanded.report))?;
     print(&expanded.printed)
+}
+
+/// The arguments before an option and its file, and that file, if they end with these.
+fn without<'a>(arguments: &'a [OsString], option: &str) -> (&'a [OsString], Option<&'a OsString>) {
+    match arguments {
+        [rest @ .., name, file] if name == option => (rest, Some(file)),
+        _ => (arguments, None),
+    }
+}
+
+/// A file that is written to.
+struct Target<'a> {
+    name: &'a OsString,
+    file: File,
+}
+
+impl<'a> Target<'a> {
+    fn create(name: &'a OsString) -> Result<Target<'a>, String> {
+        let file = File::create(name).map_err(|_| unwritten(name))?;
+        Ok(Target { name, file })
+    }
+
+    fn write(mut self, bytes: &[u8]) -> Result<(), String> {
+        self.file.write_all(bytes).map_err(|_| unwritten(self.name))
+    }
+}
+
+fn unwritten(name: &OsString) -> String {
+    format!("{} cannot be written", name.to_string_lossy())
 }
 
 /// The text of the only file, or of standard input where there is none.
@@ -49,10 +78,10 @@ fn text(files: &[OsString]) -> Result<Vec<u8>, String> {
             read.map_err(|_| "standard input cannot be read".to_string())?;
             Ok(text)
         }
-        [file] if file != OsStr::new("-4") => {
+        [file] if file != "-4" && file != "--report" => {
             fs::read(file).map_err(|_| format!("{} cannot be read", file.to_string_lossy()))
         }
-        _ => Err("give one file, or none to expand standard input; -4 and a file for channel 4".into()),
+        _ => Err(USAGE.to_string()),
     }
 }
 

@@ -1,5 +1,5 @@
-//! Writes the vectors that stand at a limit and one past it, and those whose
-//! lines would keep a search busy that takes up places again.
+//! Writes the vectors that stand at a limit and one past it, those whose lines would
+//! keep a search busy that takes up places again, and those with long reports.
 //!
 //! They are too long to write by hand. What each of them gives is worked out
 //! here from document 01 and not taken from the library, so that the library
@@ -12,12 +12,20 @@ use std::{env, fs, io};
 const FLAG: &str = "$!$!0 (+-*/)\n";
 
 /// A text and what `expand` writes for it; with room for channel 4 where that has
-/// a file too.
+/// a file too, and with the usage report where it has one.
 struct Vector {
     name: String,
     text: String,
     out: String,
     second: Option<String>,
+    report: Option<String>,
+}
+
+impl Vector {
+    /// Gives it a report with these rows, which stand here in one line.
+    fn reporting(&mut self, rows: &str) {
+        self.report = Some(format!("template,calls\n{}\n", rows.replace(' ', "\n")));
+    }
 }
 
 fn main() -> ExitCode {
@@ -38,7 +46,8 @@ fn write(folder: &Path, vector: &Vector) -> io::Result<()> {
     let file = |ending| folder.join(format!("{}.{ending}", vector.name));
     fs::write(file("text"), &vector.text)?;
     fs::write(file("out"), &vector.out)?;
-    vector.second.iter().try_for_each(|second| fs::write(file("second"), second))
+    vector.second.iter().try_for_each(|second| fs::write(file("second"), second))?;
+    vector.report.iter().try_for_each(|report| fs::write(file("report"), report))
 }
 
 fn vectors() -> Vec<Vector> {
@@ -57,17 +66,20 @@ fn vectors() -> Vec<Vector> {
     copies(&mut all);
     copies_into_full_rooms(&mut all);
     both_outputs(&mut all);
+    reports(&mut all);
     all
 }
 
 /// Adds a vector; `body` is what follows the flag line.
-fn add(all: &mut Vec<Vector>, name: &str, body: String, out: String) {
-    all.push(Vector { name: name.to_string(), text: FLAG.to_string() + &body, out, second: None });
+fn add<'a>(all: &'a mut Vec<Vector>, name: &str, body: String, out: String) -> &'a mut Vector {
+    let text = FLAG.to_string() + &body;
+    all.push(Vector { name: name.to_string(), text, out, second: None, report: None });
+    all.last_mut().expect("it was added")
 }
 
 /// Adds a vector with what is written to channel 4.
 fn add_both(all: &mut Vec<Vector>, name: &str, body: String, out: String, second: String) {
-    all.push(Vector { name: name.to_string(), text: FLAG.to_string() + &body, out, second: Some(second) });
+    add(all, name, body, out).second = Some(second);
 }
 
 /// The output's last line.
@@ -96,7 +108,9 @@ fn contents(all: &mut Vec<Vector>) {
     let input = |count| format!("T$\n$$\nfirst\n{}$ ignored\nlast\n", row("x", count));
     let written = format!("first\n{}\nlast\n", row("x", 200));
     add(all, "limit-input-200", input(200), written + &end(0, 6, 3));
-    add(all, "number-11-input-201", input(201), "first\n".to_string() + &end(11, 5, 1));
+    // The long line is not offered.
+    let too_long = "first\n".to_string() + &end(11, 5, 1);
+    add(all, "number-11-input-201", input(201), too_long).reporting("2,0 0,1");
 
     // Limits count bytes: 100 characters of two bytes are a content of 200.
     let accents = |count| format!("!$\n!15!F1\n$$\n{}\n", row("é", count));
@@ -114,7 +128,8 @@ fn texts(all: &mut Vec<Vector>) {
         start.to_string() + &"x".repeat(size - FLAG.len() - start.len())
     };
     add(all, "limit-text-65536", text(65_536), "line\n".to_string() + &end(0, 4, 1));
-    add(all, "number-02-text-65537", text(65_537), end(2, 0, 0));
+    // Without a run the report's file stays empty.
+    add(all, "number-02-text-65537", text(65_537), end(2, 0, 0)).report = Some(String::new());
 }
 
 fn counts(all: &mut Vec<Vector>) {
@@ -176,8 +191,10 @@ fn nesting(all: &mut Vec<Vector>) {
         let chain: String = (1..count).map(|n| format!("C{n}.$\nC{}.\n$\n", n + 1)).collect();
         format!("{chain}C{count}.$\nx!F1\n$$\nC1.\n")
     };
-    add(all, "limit-calls-12", calls(12), "x\n".to_string() + &end(0, 38, 24));
-    add(all, "number-14-calls-13", calls(13), end(14, 41, 25));
+    // Three lines a macro; each template is chosen once, the thirteenth too, which opens no call.
+    let chosen = |count: usize| (1..=count).map(|n| format!("{},1 ", 3 * n - 1)).collect::<String>() + "0,0";
+    add(all, "limit-calls-12", calls(12), "x\n".to_string() + &end(0, 38, 24)).reporting(&chosen(12));
+    add(all, "number-14-calls-13", calls(13), end(14, 41, 25)).reporting(&chosen(13));
 }
 
 fn built_lines(all: &mut Vec<Vector>) {
@@ -186,7 +203,7 @@ fn built_lines(all: &mut Vec<Vector>) {
     add(all, "limit-built-200", text("!10!10!F1"), row.clone() + &end(0, 5, 2));
     add(all, "limit-built-200-offered", text("!10!10"), row + &end(0, 5, 3));
     add(all, "number-12-built-201", text("!10!10x!F1"), end(12, 5, 2));
-    add(all, "number-12-built-201-offered", text("!10!10x"), end(12, 5, 2));
+    add(all, "number-12-built-201-offered", text("!10!10x"), end(12, 5, 2)).reporting("2,1 0,0");
     add(all, "number-12-before-the-functions-cause", text("!10!10/!F7\n!F8"), end(12, 6, 2));
     add(all, "number-12-before-a-later-conversion", text("!10!10x!98"), end(12, 5, 2));
     add(all, "number-15-before-bytes-that-would-give-12", text("!10!14x!10"), end(15, 5, 2));
@@ -201,7 +218,7 @@ fn names(all: &mut Vec<Vector>) {
     // Offer, two lines, four lines a pass, three lines.
     let fits = "256\n".to_string() + &end(0, 13, 3 + 4 * 256 + 3);
     add(all, "limit-names-256", stored(256), fits);
-    add(all, "number-19-names-257", stored(257), end(19, 13, 3 + 4 * 256 + 3));
+    add(all, "number-19-names-257", stored(257), end(19, 13, 3 + 4 * 256 + 3)).reporting("2,1 0,0");
 
     let numbered =
         |count: u64| format!("N:!$\n0!26\n!10!F7\n!20+1!16\n!14!26\n!12!36\n!F8\n<!32>!F1\n$$\nN:{count}\n");
@@ -233,24 +250,38 @@ fn output(all: &mut Vec<Vector>) {
     let written = (line.clone() + "\n").repeat(512);
     let events = 1 + 1 + 2 * 512 + 1;
     add(all, "limit-output-65536", text(""), written.clone() + &end(0, 8, events));
-    add(all, "number-13-no-room-for-byte-10", text("\n"), written + &end(13, 9, events + 1));
+    // The line that lacks room is decided, and counts.
+    let full = written + &end(13, 9, events + 1);
+    add(all, "number-13-no-room-for-byte-10", text("\n"), full).reporting("2,1 0,1");
 
     // 508 lines of 129 bytes leave four bytes, of which none is written.
     let long = "A".repeat(128);
     let cut = format!("T$\n512!F7\n{long}!F1\n!F8\n$$\nT\n");
-    add(all, "number-13-no-room-in-a-body", cut, (long + "\n").repeat(508) + &end(13, 7, 2 + 2 * 508 + 1));
+    // Function 1 offers nothing.
+    let full = (long + "\n").repeat(508) + &end(13, 7, 2 + 2 * 508 + 1);
+    add(all, "number-13-no-room-in-a-body", cut, full).reporting("2,1 0,0");
+
+    // A built line without a reading: its code line is begun, and then it is offered.
+    let built = format!("T$\n512!F7\n{line}!F1\n!F8\nx\n$$\nT\n");
+    let full = (line + "\n").repeat(512) + &end(13, 8, 2 + 2 * 512 + 2);
+    add(all, "number-13-no-room-for-a-built-line", built, full).reporting("2,1 0,1");
 }
 
 fn fuel(all: &mut Vec<Vector>) {
     // The offer, the opening line, and an event for each pass.
     let text = |passes: u64, rest: &str| format!("T$\n{passes}!F7\n!F8\n$$\nT\n{rest}");
-    add(all, "limit-fuel-used-exactly", text(999_998, ""), end(0, 6, 1_000_000));
-    add(all, "number-20-one-event-more", text(999_999, ""), end(20, 6, 1_000_000));
-    add(all, "number-20-at-the-next-input-line", text(999_998, "x\n"), end(20, 7, 1_000_000));
+    add(all, "limit-fuel-used-exactly", text(999_998, ""), end(0, 6, 1_000_000)).reporting("2,1 0,0");
+    add(all, "number-20-one-event-more", text(999_999, ""), end(20, 6, 1_000_000)).reporting("2,1 0,0");
+    // The line beyond the fuel is not offered, and not counted; the one before is both.
+    let beyond = end(20, 7, 1_000_000);
+    add(all, "number-20-at-the-next-input-line", text(999_998, "x\n"), beyond.clone()).reporting("2,1 0,0");
+    let last = "x\n".to_string() + &end(0, 7, 1_000_000);
+    add(all, "limit-fuel-used-exactly-by-a-passed-line", text(999_997, "x\n"), last).reporting("2,1 0,1");
     let long = "x".repeat(201) + "\n";
-    add(all, "number-11-before-number-20", text(999_998, &long), end(11, 7, 1_000_000));
+    let too_long = end(11, 7, 1_000_000);
+    add(all, "number-11-before-number-20", text(999_998, &long), too_long).reporting("2,1 0,0");
     let offered = "T$\n999997!F7\n!F8\nx\n$$\nT\n".to_string();
-    add(all, "number-20-at-a-built-line", offered, end(20, 7, 1_000_000));
+    add(all, "number-20-at-a-built-line", offered, beyond).reporting("2,1 0,0");
     // The copy is one event, whatever it copies.
     let copy = |passes: u64, rest: &str| format!("T !$\n{passes}!F7\n!F8\n!F2\n$$\nT .\na\nb\n.\n{rest}");
     let copied = |end: String| "a\nb\n".to_string() + &end;
@@ -286,7 +317,8 @@ fn copies(all: &mut Vec<Vector>) {
     add_both(all, "limit-copied-200", copied, written.clone() + &end(0, 13, 4), written);
 
     let long = |code: &str| format!("COPY !$\n{code}\nafter!F1\n$$\nCOPY END\na\n{x}x\nb\n");
-    add(all, "number-11-copied-201", long("!F2"), "a\n".to_string() + &end(11, 8, 2));
+    let too_long = "a\n".to_string() + &end(11, 8, 2);
+    add(all, "number-11-copied-201", long("!F2"), too_long).reporting("2,1 0,0");
     let name = "number-11-copied-201-to-the-second-output";
     add_both(all, name, long("!F24"), end(11, 8, 2), "a\n".to_string());
     let no_room = format!("COPY !$\n!F24\n$$\nCOPY END\n{x}x\n");
@@ -345,4 +377,36 @@ fn both_outputs(all: &mut Vec<Vector>) {
     let second = format!("T$\n512!F7\n{a}!F14\n!F8\nroom!F1\n!90!F14\n$$\nT\n");
     let out = "room\n".to_string() + &end(13, 9, 2 + 2 * 512 + 2);
     add_both(all, "number-13-second-output-no-room-for-byte-10", second, out, written(&a));
+}
+
+fn reports(all: &mut Vec<Vector>) {
+    // As many code lines and macros as there may be. The first macro calls each of the 127
+    // others eight times a pass, and passes six lines through; the next template has line
+    // 1,028, and each macro from there on two lines.
+    let names: Vec<String> = (1..128).map(|n| format!("M{n}")).collect();
+    let calls = (names.join("\n") + "\n").repeat(8) + &"p\n".repeat(6);
+    let others = names.join("$\n$\n");
+    let text = format!("GO$\n488!F7\n{calls}!F8\n$\n{others}$\n$$\nGO\n");
+    // The line offered, the opening line, two events for each of 1,022 lines, and the pass's end.
+    let out = "p\n".repeat(488 * 6) + &end(0, 1_282, 2 + 488 * (2 * 1_022 + 1));
+    let uses: String = (0..127).map(|n| format!("{},{} ", 1_028 + 2 * n, 488 * 8)).collect();
+    add(all, "limit-report-of-128-templates", text, out).reporting(&format!("2,1 {uses}0,{}", 488 * 6));
+
+    // A built line takes two events, an input line one, of which a text has fewer than 65,536.
+    // So no count is above 532,767, and this text has one near it: the empty template is
+    // chosen for 64,820 input lines, and for 683 built ones in each of 684 passes. The fuel's
+    // last 150 events are 75 more.
+    let (built, input) = (683, 64_820);
+    let text = format!("G\n999!F7\n{}!F8\n$\n\n$$\n{}G", "\n".repeat(built), "\n".repeat(input));
+    assert_eq!(FLAG.len() + text.len(), 65_536);
+    assert_eq!(input + 2 + 684 * (2 * built + 1) + 150, 1_000_000);
+    let uses = input + 684 * built + 75;
+    add(all, "number-20-greatest-count", text, end(20, 65_511, 1_000_000))
+        .reporting(&format!("2,1 689,{uses} 0,0"));
+
+    // Empty lines fill the output with a byte 10 each, and one more lacks room for its own.
+    let text = "GO$\n256!F7\n256!F7\n\n!F8\n!F8\n\n$$\nGO\n".to_string();
+    let events = 2 + 256 * (1 + 256 * 3 + 1) + 2;
+    let out = "\n".repeat(65_536) + &end(13, 10, events);
+    add(all, "number-13-after-65536-empty-lines", text, out).reporting("2,1 0,65537");
 }

@@ -7,16 +7,22 @@ mod characters;
 mod edges;
 mod mutation;
 mod outputs;
+mod pattern;
 mod places;
 mod random;
 mod style;
 mod trees;
+mod uses;
 mod values;
+
+pub use pattern::pattern;
 
 use body::Bodies;
 use places::Lines;
 use random::Random;
 use style::Style;
+
+use crate::REPORT_ROOM;
 
 /// How long texts and lines may be.
 #[derive(Clone, Copy, Debug, PartialEq, Eq)]
@@ -46,7 +52,7 @@ impl Generator {
     /// A text. About nine of ten load.
     pub fn text(&mut self, size: Size) -> Vec<u8> {
         loop {
-            let text = match self.random.weighted(&[70, 19, 11, 7, 7, 7, 6, 8]) {
+            let text = match self.random.weighted(&[70, 19, 11, 7, 7, 7, 6, 8, 7]) {
                 0 => self.plain_text(size),
                 1 => {
                     let mut text = self.plain_text(size);
@@ -58,7 +64,8 @@ impl Generator {
                 4 => self.value_text(),
                 5 => self.places_text(size),
                 6 => self.brackets_text(size),
-                _ => self.output_text(size),
+                7 => self.output_text(size),
+                _ => self.uses_text(size),
             };
             if size == Size::Large || text.len() <= SMALL_TEXT {
                 return text;
@@ -91,6 +98,11 @@ impl Generator {
     /// A text that writes to both outputs and copies input lines to them.
     pub fn output_text(&mut self, size: Size) -> Vec<u8> {
         outputs::text(&mut self.random, size)
+    }
+
+    /// A text that uses its templates often, once or never, and passes lines through.
+    pub fn uses_text(&mut self, size: Size) -> Vec<u8> {
+        uses::text(&mut self.random, size)
     }
 
     /// A text of templates alone, many of them in some, with all kinds of children.
@@ -170,6 +182,18 @@ impl Generator {
             1 => 1,
             2 => random.between(2, 60),
             _ => random.pick(&[200, 4_096, 65_536]),
+        }
+    }
+
+    /// A room for the report: mostly the least that is legal or more, now and then one
+    /// byte less, or none.
+    pub fn report_room(&mut self) -> usize {
+        let random = &mut self.random;
+        match random.weighted(&[60, 34, 4, 2]) {
+            0 => REPORT_ROOM,
+            1 => REPORT_ROOM + random.between(1, 100),
+            2 => REPORT_ROOM - 1,
+            _ => 0,
         }
     }
 

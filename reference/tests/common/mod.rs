@@ -3,9 +3,18 @@
 // No test file uses all of it.
 #![allow(dead_code)]
 
-use std::sync::LazyLock;
+use stage2_reference::generate::pattern;
+use stage2_reference::{run, Ran, Rooms, DEAD_ROW, NODE_ROW, REPORT_ROOM, STORE_ROOM};
 
-use stage2_reference::{run, Ran, DEAD_ROW, NODE_ROW, STORE_ROOM};
+/// A text in the session's marks; `rest` is what follows the flag line.
+pub fn text(rest: &str) -> String {
+    format!("$!$!0 (+-*/)\n{rest}")
+}
+
+/// The text for a message.
+pub fn shown(text: &[u8]) -> String {
+    text.escape_ascii().to_string()
+}
 
 /// A run's result with the bytes it left.
 #[derive(Debug, PartialEq, Eq)]
@@ -14,49 +23,44 @@ pub struct Left {
     pub output: Vec<u8>,
     pub second: Vec<u8>,
     pub store: Vec<u8>,
+    pub report: Vec<u8>,
 }
 
 /// How many bytes of room both outputs have.
 #[derive(Clone, Copy, Debug)]
-pub struct Rooms {
+pub struct Sizes {
     pub output: usize,
     pub second: usize,
 }
 
-impl From<usize> for Rooms {
+impl From<usize> for Sizes {
     /// As many for each.
-    fn from(room: usize) -> Rooms {
-        Rooms { output: room, second: room }
+    fn from(size: usize) -> Sizes {
+        Sizes { output: size, second: size }
+    }
+}
+
+impl Sizes {
+    /// Patterns in both outputs, and in rooms for the store and the report that are
+    /// longer than needed.
+    pub fn rooms(self) -> Rooms {
+        Rooms {
+            output: pattern(self.output),
+            second: pattern(self.second),
+            store: pattern(STORE_ROOM + 100),
+            report: pattern(REPORT_ROOM + 100),
+        }
     }
 }
 
 /// Runs a text and gives what was written, after checking that nothing else was.
-pub fn run_text(text: &[u8], fuel: u64, rooms: impl Into<Rooms>) -> Left {
-    let rooms = rooms.into();
-    let (mut output, mut second) = (pattern(rooms.output), pattern(rooms.second));
-    let mut store = pattern(STORE_ROOM + 100);
-    let ran = run(text, fuel, NODE_ROW, DEAD_ROW, &mut output, &mut second, &mut store);
-    let output = written(output, ran.output);
-    let second = written(second, ran.second);
-    let store = written(store, ran.store);
-    Left { ran, output, second, store }
+pub fn run_text(text: &[u8], fuel: u64, sizes: impl Into<Sizes>) -> Left {
+    let mut rooms = sizes.into().rooms();
+    let ran = run(text, fuel, NODE_ROW, DEAD_ROW, &mut rooms);
+    assert_eq!(rooms.changed_beyond(&ran), None, "bytes beyond the length");
+    let Rooms { output, second, store, report } = rooms.written(&ran);
+    Left { ran, output, second, store, report }
 }
-
-/// The first bytes of a room, after checking that the others are unchanged.
-fn written(mut room: Vec<u8>, length: u64) -> Vec<u8> {
-    let length = length as usize;
-    assert_eq!(room[length..], PATTERN[length..room.len()], "bytes beyond the length");
-    room.truncate(length);
-    room
-}
-
-/// Bytes that no run writes in this order by chance.
-pub fn pattern(length: usize) -> Vec<u8> {
-    PATTERN[..length].to_vec()
-}
-
-static PATTERN: LazyLock<Vec<u8>> =
-    LazyLock::new(|| (0..65_536).map(|at: usize| 128 + (at * 37 % 127) as u8).collect());
 
 /// A multiplicative generator, enough for choosing bytes and numbers.
 pub struct Dice(pub u64);

@@ -53,12 +53,12 @@ use Rattle.api.proofs.stage2_run.Statement as stated
 use Rattle.api.proofs.stage2_run.Code as code
 
 abbrev stayed-stage2-run : Stays (f-stage2-run.ended .signature .params) (f-stage2-run.ended .kept)
-stayed-stage2-run = (stay-dropped (shrSliceOf (0 ∷ []) tt (plain (λ _. (UInt w8)))) yes, (stay-dropped (plain (λ _. (UInt w64))) yes, (gave-slice (1 ∷ []) tt (plain (λ _. Node-T.the-row)), (gave-slice (2 ∷ []) tt (plain (λ _. (UInt w8))), (gave-slice (3 ∷ []) tt (plain (λ _. (UInt w8))), (gave-slice (4 ∷ []) tt (plain (λ _. (UInt w8))), (gave-slice (5 ∷ []) tt (plain (λ _. (UInt w8))), tt)))))))
+stayed-stage2-run = (stay-dropped (shrSliceOf (0 ∷ []) tt (plain (λ _. (UInt w8)))) yes, (stay-dropped (plain (λ _. (UInt w64))) yes, (gave-slice (1 ∷ []) tt (plain (λ _. Node-T.the-row)), (gave-slice (2 ∷ []) tt (plain (λ _. (UInt w8))), (gave-slice (3 ∷ []) tt (plain (λ _. (UInt w8))), (gave-slice (4 ∷ []) tt (plain (λ _. (UInt w8))), (gave-slice (5 ∷ []) tt (plain (λ _. (UInt w8))), (gave-slice (6 ∷ []) tt (plain (λ _. (UInt w8))), tt))))))))
 
 module _ {M : Type 1} (𝓤 : URA M) (H : Heap 𝓤) (A : Atoms 𝓤) (W : Given 𝓤 H A) (mem : Memory → SProp 𝓤) (run : Routine → Fun 𝓤) (κ₀ : Lft)
-    (q₀ : Share) (κ₁ : Lft) (q₁ : Share) (κ₂ : Lft) (q₂ : Share) (κ₃ : Lft) (q₃ : Share) (κ₄ : Lft) (q₄ : Share) (κ₅ : Lft) (q₅ : Share)
-    (text : RefT (List ℕ)) (fuel : ℕ) (nodes : RefT (List Node)) (dead : RefT (List ℕ)) (output : RefT (List ℕ)) (second : RefT (List ℕ))
-    (store : RefT (List ℕ)) where
+    (q₀ : Share) (κ₁ : Lft) (q₁ : Share) (κ₂ : Lft) (q₂ : Share) (κ₃ : Lft) (q₃ : Share) (κ₄ : Lft) (q₄ : Share) (κ₅ : Lft) (q₅ : Share) (κ₆ : Lft)
+    (q₆ : Share) (text : RefT (List ℕ)) (fuel : ℕ) (nodes : RefT (List Node)) (dead : RefT (List ℕ)) (output : RefT (List ℕ))
+    (second : RefT (List ℕ)) (store : RefT (List ℕ)) (report : RefT (List ℕ)) where
   abbrev T-text : RattleType
   T-text = ShrSlice (named 0) κ₀ (UInt w8)
 
@@ -113,8 +113,17 @@ module _ {M : Type 1} (𝓤 : URA M) (H : Heap 𝓤) (A : Atoms 𝓤) (W : Given
   abbrev v-store : Val
   v-store = sliceVal (store .ptr) (length (store .now))
 
+  abbrev T-report : RattleType
+  T-report = MutSlice (named 6) κ₆ (UInt w8)
+
+  abbrev Y-report : Ty
+  Y-report = sliceTy (tyRef (named 6) mut (pointee ((UInt w8) .written)))
+
+  abbrev v-report : Val
+  v-report = sliceVal (report .ptr) (length (report .now))
+
   abbrev bound : Walk.Of 𝓤 H A f-stage2-run.ended (f-stage2-run.clauses 𝓤 H A mem run) .Ghost
-  bound = (((κ₀, (κ₁, (κ₂, (κ₃, (κ₄, (κ₅, tt)))))), (q₀, (q₁, (q₂, (q₃, (q₄, (q₅, tt)))))), tt, (text, (fuel, (nodes, (dead, (output, (second, (store, tt))))))), (v-text ∷ [], ((vint w64 fuel) ∷ [], (v-nodes ∷ [], (v-dead ∷ [], (v-output ∷ [], (v-second ∷ [], (v-store ∷ [], tt)))))))), tt)
+  bound = (((κ₀, (κ₁, (κ₂, (κ₃, (κ₄, (κ₅, (κ₆, tt))))))), (q₀, (q₁, (q₂, (q₃, (q₄, (q₅, (q₆, tt))))))), tt, (text, (fuel, (nodes, (dead, (output, (second, (store, (report, tt)))))))), (v-text ∷ [], ((vint w64 fuel) ∷ [], (v-nodes ∷ [], (v-dead ∷ [], (v-output ∷ [], (v-second ∷ [], (v-store ∷ [], (v-report ∷ [], tt))))))))), tt)
 
   abbrev Post : Val → SProp 𝓤
   Post = walkOf 𝓤 H A f-stage2-run.ended stayed-stage2-run (f-stage2-run.clauses 𝓤 H A mem run) .post bound
@@ -123,42 +132,47 @@ module _ {M : Type 1} (𝓤 : URA M) (H : Heap 𝓤) (A : Atoms 𝓤) (W : Given
       (Walk.Of 𝓤 H A g-run.ended (g-run.clauses 𝓤 H A mem run))) where
     walk-stage2-run : (is-text : Is T-text text (v-text ∷ [])) → (fits-fuel : fuel < 2 ^ 64) → (is-nodes : Is T-nodes nodes (v-nodes ∷ []))
         → (is-dead : Is T-dead dead (v-dead ∷ [])) → (is-output : Is T-output output (v-output ∷ [])) → (is-second : Is T-second second (v-second ∷
-        [])) → (is-store : Is T-store store (v-store ∷ [])) → ent 𝓤 (onEntry 𝓤 H A f-stage2-run.signature (κ₀, (κ₁, (κ₂, (κ₃, (κ₄, (κ₅, tt))))))
-        (q₀, (q₁, (q₂, (q₃, (q₄, (q₅, tt)))))) (text, (fuel, (nodes, (dead, (output, (second, (store, tt)))))))
-        (v-text ∷ [], ((vint w64 fuel) ∷ [], (v-nodes ∷ [], (v-dead ∷ [], (v-output ∷ [], (v-second ∷ [], (v-store ∷ [], tt))))))))
-        (WpFn 𝓤 H C Λ code.function (v-text ∷ (vint w64 fuel) ∷ v-nodes ∷ v-dead ∷ v-output ∷ v-second ∷ v-store ∷ []) Post)
-    walk-stage2-run is-text fits-fuel is-nodes is-dead is-output is-second is-store =
-        Kit.qed W (raw (alive 𝓤 H A f-stage2-run.signature (κ₀, (κ₁, (κ₂, (κ₃, (κ₄, (κ₅, tt)))))) (q₀, (q₁, (q₂, (q₃, (q₄, (q₅, tt))))))) ∷
-        ‵ (owns (T-text ∷ (UInt w64) ∷ T-nodes ∷ T-dead ∷ T-output ∷ T-second ∷ T-store ∷ [])
-        (text, (fuel, (nodes, (dead, (output, (second, (store, tt)))))))
-        (v-text ∷ [], ((vint w64 fuel) ∷ [], (v-nodes ∷ [], (v-dead ∷ [], (v-output ∷ [], (v-second ∷ [], (v-store ∷ [], tt)))))))) ∷ []) ∵
+        [])) → (is-store : Is T-store store (v-store ∷ [])) → (is-report : Is T-report report (v-report ∷ []))
+        → ent 𝓤 (onEntry 𝓤 H A f-stage2-run.signature (κ₀, (κ₁, (κ₂, (κ₃, (κ₄, (κ₅, (κ₆, tt))))))) (q₀, (q₁, (q₂, (q₃, (q₄, (q₅, (q₆, tt)))))))
+        (text, (fuel, (nodes, (dead, (output, (second, (store, (report, tt))))))))
+        (v-text ∷ [], ((vint w64 fuel) ∷ [], (v-nodes ∷ [], (v-dead ∷ [], (v-output ∷ [], (v-second ∷ [], (v-store ∷ [], (v-report ∷ [], tt)))))))))
+        (WpFn 𝓤 H C Λ code.function (v-text ∷ (vint w64 fuel) ∷ v-nodes ∷ v-dead ∷ v-output ∷ v-second ∷ v-store ∷ v-report ∷ []) Post)
+    walk-stage2-run is-text fits-fuel is-nodes is-dead is-output is-second is-store is-report =
+        Kit.qed W (raw (alive 𝓤 H A f-stage2-run.signature (κ₀, (κ₁, (κ₂, (κ₃, (κ₄, (κ₅, (κ₆, tt)))))))
+        (q₀, (q₁, (q₂, (q₃, (q₄, (q₅, (q₆, tt)))))))) ∷ ‵ (owns (T-text ∷ (UInt w64) ∷ T-nodes ∷ T-dead ∷ T-output ∷ T-second ∷ T-store ∷ T-report ∷
+        []) (text, (fuel, (nodes, (dead, (output, (second, (store, (report, tt))))))))
+        (v-text ∷ [], ((vint w64 fuel) ∷ [], (v-nodes ∷ [], (v-dead ∷ [], (v-output ∷ [], (v-second ∷ [], (v-store ∷ [], (v-report ∷ [], tt))))))))) ∷ []) ∵
         Walk.move ! (1 ∷ []) (
         Walk.hears W (Walk.stays (T-text .own text (v-text ∷ [])) ∷ Walk.gone ((UInt w64) .own fuel ((vint w64 fuel) ∷ [])) ∷
         Walk.stays (T-nodes .own nodes (v-nodes ∷ [])) ∷ Walk.stays (T-dead .own dead (v-dead ∷ [])) ∷ Walk.stays (T-output .own output (v-output ∷
-        [])) ∷ Walk.stays (T-second .own second (v-second ∷ [])) ∷ Walk.stays (T-store .own store (v-store ∷ [])) ∷ []) ! (
-        Walk.move ! (6 ∷ []) (Walk.tokens-out W ((κ₀, q₀) ∷ (κ₁, q₁) ∷ (κ₂, q₂) ∷ (κ₃, q₃) ∷ (κ₄, q₄) ∷ (κ₅, q₅) ∷ []) ! (id⊢ 𝓤 _) (
-        Walk.enter ! C Λ code.function (v-text ∷ (vint w64 fuel) ∷ v-nodes ∷ v-dead ∷ v-output ∷ v-second ∷ v-store ∷ []) Post (
-        Run.alloc1 ! (λ l₀. Run.alloc1 ! (λ l₁. Run.alloc1 ! (λ l₂. Run.alloc1 ! (λ l₃. Run.alloc1 ! (λ l₄. Run.alloc1 ! (λ l₅. Run.alloc1 ! (λ l₆. Run.alloc1 ! (λ l₇. Run.alloc1 ! (λ l₈. Run.alloc1 ! (λ l₉. Run.alloc1 ! (λ l₁₀. Run.alloc1 ! (λ l₁₁. Run.alloc1 ! (λ l₁₂. Run.alloc1 ! (λ l₁₃. Run.alloc1 ! (λ l₁₄. Run.alloc1 ! (λ l₁₅. Run.alloc1 ! (λ l₁₆. Run.alloc1 ! (λ l₁₇.
+        [])) ∷ Walk.stays (T-second .own second (v-second ∷ [])) ∷ Walk.stays (T-store .own store (v-store ∷ [])) ∷
+        Walk.stays (T-report .own report (v-report ∷ [])) ∷ []) ! (
+        Walk.move ! (7 ∷ []) (Walk.tokens-out W ((κ₀, q₀) ∷ (κ₁, q₁) ∷ (κ₂, q₂) ∷ (κ₃, q₃) ∷ (κ₄, q₄) ∷ (κ₅, q₅) ∷ (κ₆, q₆) ∷ []) ! (id⊢ 𝓤 _) (
+        Walk.enter ! C Λ code.function (v-text ∷ (vint w64 fuel) ∷ v-nodes ∷ v-dead ∷ v-output ∷ v-second ∷ v-store ∷ v-report ∷ []) Post (
+        Run.alloc1 ! (λ l₀. Run.alloc1 ! (λ l₁. Run.alloc1 ! (λ l₂. Run.alloc1 ! (λ l₃. Run.alloc1 ! (λ l₄. Run.alloc1 ! (λ l₅. Run.alloc1 ! (λ l₆. Run.alloc1 ! (λ l₇. Run.alloc1 ! (λ l₈. Run.alloc1 ! (λ l₉. Run.alloc1 ! (λ l₁₀. Run.alloc1 ! (λ l₁₁. Run.alloc1 ! (λ l₁₂. Run.alloc1 ! (λ l₁₃. Run.alloc1 ! (λ l₁₄. Run.alloc1 ! (λ l₁₅. Run.alloc1 ! (λ l₁₆. Run.alloc1 ! (λ l₁₇. Run.alloc1 ! (λ l₁₈. Run.alloc1 ! (λ l₁₉. Run.alloc1 ! (λ l₂₀.
         let E : Env 𝓤 H = Walk.at-addresses (code.function .locals) (l₀ ∷ l₁ ∷ l₂ ∷ l₃ ∷ l₄ ∷ l₅ ∷ l₆ ∷ l₇ ∷ l₈ ∷ l₉ ∷ l₁₀ ∷ l₁₁ ∷ l₁₂ ∷ l₁₃ ∷ l₁₄ ∷
-        l₁₅ ∷ l₁₆ ∷ l₁₇ ∷ []) in
-        Walk.move ! (34 ∷ 34 ∷ 32 ∷ 32 ∷ 30 ∷ 30 ∷ 28 ∷ 28 ∷ 26 ∷ 26 ∷ 24 ∷ 24 ∷ 22 ∷ 22 ∷ 20 ∷ 20 ∷ 18 ∷ 18 ∷ 16 ∷ 16 ∷ 14 ∷ 14 ∷ 12 ∷ 12 ∷ 10 ∷
-        10 ∷ 8 ∷ 8 ∷ 6 ∷ 6 ∷ 4 ∷ 4 ∷ 2 ∷ 2 ∷ 0 ∷ 0 ∷ []) (
+        l₁₅ ∷ l₁₆ ∷ l₁₇ ∷ l₁₈ ∷ l₁₉ ∷ l₂₀ ∷ []) in
+        Walk.move ! (40 ∷ 40 ∷ 38 ∷ 38 ∷ 36 ∷ 36 ∷ 34 ∷ 34 ∷ 32 ∷ 32 ∷ 30 ∷ 30 ∷ 28 ∷ 28 ∷ 26 ∷ 26 ∷ 24 ∷ 24 ∷ 22 ∷ 22 ∷ 20 ∷ 20 ∷ 18 ∷ 18 ∷ 16 ∷
+        16 ∷ 14 ∷ 14 ∷ 12 ∷ 12 ∷ 10 ∷ 10 ∷ 8 ∷ 8 ∷ 6 ∷ 6 ∷ 4 ∷ 4 ∷ 2 ∷ 2 ∷ 0 ∷ 0 ∷ []) (
         Walk.gathers ! (Walk.bare Ran-L.mir l₀ ∷ Walk.bare Y-text l₁ ∷ Walk.bare (tyInt w64) l₂ ∷ Walk.bare Y-nodes l₃ ∷ Walk.bare Y-dead l₄ ∷
-        Walk.bare Y-output l₅ ∷ Walk.bare Y-second l₆ ∷ Walk.bare Y-store l₇ ∷ Walk.bare (tyRef erased mut (pointee (Node-T.the-row .written))) l₈ ∷
-        Walk.bare (sliceTy (tyRef erased mut (pointee (Node-T.the-row .written)))) l₉ ∷
-        Walk.bare (tyRef erased mut (pointee ((UInt w8) .written))) l₁₀ ∷
-        Walk.bare (sliceTy (tyRef erased mut (pointee ((UInt w8) .written)))) l₁₁ ∷
-        Walk.bare (tyRef erased mut (pointee ((UInt w8) .written))) l₁₂ ∷
-        Walk.bare (sliceTy (tyRef erased mut (pointee ((UInt w8) .written)))) l₁₃ ∷
-        Walk.bare (tyRef erased mut (pointee ((UInt w8) .written))) l₁₄ ∷
-        Walk.bare (sliceTy (tyRef erased mut (pointee ((UInt w8) .written)))) l₁₅ ∷
-        Walk.bare (tyRef erased mut (pointee ((UInt w8) .written))) l₁₆ ∷
-        Walk.bare (sliceTy (tyRef erased mut (pointee ((UInt w8) .written)))) l₁₇ ∷ []) (‵ (flft κ₀ q₀) ∷ ‵ (flft κ₁ q₁) ∷ ‵ (flft κ₂ q₂) ∷
-        ‵ (flft κ₃ q₃) ∷ ‵ (flft κ₄ q₄) ∷ ‵ (flft κ₅ q₅) ∷ ‵ (T-store .own store (sliceVal (store .ptr) (length (store .now)) ∷ [])) ∷
-        ‵ (T-second .own second (sliceVal (second .ptr) (length (second .now)) ∷ [])) ∷ ‵ (T-output .own output (sliceVal (output .ptr)
-        (length (output .now)) ∷ [])) ∷ ‵ (T-dead .own dead (sliceVal (dead .ptr) (length (dead .now)) ∷ [])) ∷
-        ‵ (T-nodes .own nodes (sliceVal (nodes .ptr) (length (nodes .now)) ∷ [])) ∷ ‵ (T-text .own text (sliceVal (text .ptr) (length (text .now)) ∷
-        [])) ∷ []) (λ Fd ed.
+        Walk.bare Y-output l₅ ∷ Walk.bare Y-second l₆ ∷ Walk.bare Y-store l₇ ∷ Walk.bare Y-report l₈ ∷
+        Walk.bare (tyRef erased mut (pointee (Node-T.the-row .written))) l₉ ∷
+        Walk.bare (sliceTy (tyRef erased mut (pointee (Node-T.the-row .written)))) l₁₀ ∷
+        Walk.bare (tyRef erased mut (pointee ((UInt w8) .written))) l₁₁ ∷
+        Walk.bare (sliceTy (tyRef erased mut (pointee ((UInt w8) .written)))) l₁₂ ∷
+        Walk.bare (tyRef erased mut (pointee ((UInt w8) .written))) l₁₃ ∷
+        Walk.bare (sliceTy (tyRef erased mut (pointee ((UInt w8) .written)))) l₁₄ ∷
+        Walk.bare (tyRef erased mut (pointee ((UInt w8) .written))) l₁₅ ∷
+        Walk.bare (sliceTy (tyRef erased mut (pointee ((UInt w8) .written)))) l₁₆ ∷
+        Walk.bare (tyRef erased mut (pointee ((UInt w8) .written))) l₁₇ ∷
+        Walk.bare (sliceTy (tyRef erased mut (pointee ((UInt w8) .written)))) l₁₈ ∷
+        Walk.bare (tyRef erased mut (pointee ((UInt w8) .written))) l₁₉ ∷
+        Walk.bare (sliceTy (tyRef erased mut (pointee ((UInt w8) .written)))) l₂₀ ∷ []) (‵ (flft κ₀ q₀) ∷ ‵ (flft κ₁ q₁) ∷ ‵ (flft κ₂ q₂) ∷
+        ‵ (flft κ₃ q₃) ∷ ‵ (flft κ₄ q₄) ∷ ‵ (flft κ₅ q₅) ∷ ‵ (flft κ₆ q₆) ∷ ‵ (T-report .own report (sliceVal (report .ptr) (length (report .now)) ∷
+        [])) ∷ ‵ (T-store .own store (sliceVal (store .ptr) (length (store .now)) ∷ [])) ∷ ‵ (T-second .own second (sliceVal (second .ptr)
+        (length (second .now)) ∷ [])) ∷ ‵ (T-output .own output (sliceVal (output .ptr) (length (output .now)) ∷ [])) ∷
+        ‵ (T-dead .own dead (sliceVal (dead .ptr) (length (dead .now)) ∷ [])) ∷ ‵ (T-nodes .own nodes (sliceVal (nodes .ptr) (length (nodes .now)) ∷
+        [])) ∷ ‵ (T-text .own text (sliceVal (text .ptr) (length (text .now)) ∷ [])) ∷ []) (λ Fd ed.
         Walk.allocated ! (Walk.after-result ! (
         Walk.pass ! (Run.init ! 1 refl (shr-slice-lawful 𝓤 H A W (named 0) κ₀ (UInt w8) .typed text _ is-text .0)) (
         Walk.pass ! (Run.init ! 2 refl ((tt, record { fits = fits-fuel }))) (
@@ -166,35 +180,41 @@ module _ {M : Type 1} (𝓤 : URA M) (H : Heap 𝓤) (A : Atoms 𝓤) (W : Given
         Walk.pass ! (Run.init ! 4 refl (mut-slice-lawful 𝓤 H A W (named 2) κ₂ (UInt w8) .typed dead _ is-dead .0)) (
         Walk.pass ! (Run.init ! 5 refl (mut-slice-lawful 𝓤 H A W (named 3) κ₃ (UInt w8) .typed output _ is-output .0)) (
         Walk.pass ! (Run.init ! 6 refl (mut-slice-lawful 𝓤 H A W (named 4) κ₄ (UInt w8) .typed second _ is-second .0)) (
-        Walk.pass ! (Run.init ! 7 refl (mut-slice-lawful 𝓤 H A W (named 5) κ₅ (UInt w8) .typed store _ is-store .0)) (Walk.passed ! (
+        Walk.pass ! (Run.init ! 7 refl (mut-slice-lawful 𝓤 H A W (named 5) κ₅ (UInt w8) .typed store _ is-store .0)) (
+        Walk.pass ! (Run.init ! 8 refl (mut-slice-lawful 𝓤 H A W (named 6) κ₆ (UInt w8) .typed report _ is-report .0)) (Walk.passed ! (
         Walk.sets ! (Run.addr ! (Run.from ! (Run.fld ! refl (Run.hop ! (Part.look-in ! 3 (Part.sub ! 0 refl (Part.whole !))) (Run.stop !)))))
-        (Run.init ! 8 refl ((tt, tt))) (
-        Walk.sets ! (Part.agg ! (Run.and-then ! (Walk.local ! 8 refl) (Run.and-then ! (Walk.part ! 3 refl refl refl) (Run.no-more !))))
-        (Run.init ! 9 refl ((tt, (tt, (record { fits = is-nodes .0 .1 .0 }, tt))))) (
+        (Run.init ! 9 refl ((tt, tt))) (
+        Walk.sets ! (Part.agg ! (Run.and-then ! (Walk.local ! 9 refl) (Run.and-then ! (Walk.part ! 3 refl refl refl) (Run.no-more !))))
+        (Run.init ! 10 refl ((tt, (tt, (record { fits = is-nodes .0 .1 .0 }, tt))))) (
         Walk.sets ! (Run.addr ! (Run.from ! (Run.fld ! refl (Run.hop ! (Part.look-in ! 4 (Part.sub ! 0 refl (Part.whole !))) (Run.stop !)))))
-        (Run.init ! 10 refl ((tt, tt))) (
-        Walk.sets ! (Part.agg ! (Run.and-then ! (Walk.local ! 10 refl) (Run.and-then ! (Walk.part ! 4 refl refl refl) (Run.no-more !))))
-        (Run.init ! 11 refl ((tt, (tt, (record { fits = is-dead .0 .1 .0 }, tt))))) (
+        (Run.init ! 11 refl ((tt, tt))) (
+        Walk.sets ! (Part.agg ! (Run.and-then ! (Walk.local ! 11 refl) (Run.and-then ! (Walk.part ! 4 refl refl refl) (Run.no-more !))))
+        (Run.init ! 12 refl ((tt, (tt, (record { fits = is-dead .0 .1 .0 }, tt))))) (
         Walk.sets ! (Run.addr ! (Run.from ! (Run.fld ! refl (Run.hop ! (Part.look-in ! 5 (Part.sub ! 0 refl (Part.whole !))) (Run.stop !)))))
-        (Run.init ! 12 refl ((tt, tt))) (
-        Walk.sets ! (Part.agg ! (Run.and-then ! (Walk.local ! 12 refl) (Run.and-then ! (Walk.part ! 5 refl refl refl) (Run.no-more !))))
-        (Run.init ! 13 refl ((tt, (tt, (record { fits = is-output .0 .1 .0 }, tt))))) (
+        (Run.init ! 13 refl ((tt, tt))) (
+        Walk.sets ! (Part.agg ! (Run.and-then ! (Walk.local ! 13 refl) (Run.and-then ! (Walk.part ! 5 refl refl refl) (Run.no-more !))))
+        (Run.init ! 14 refl ((tt, (tt, (record { fits = is-output .0 .1 .0 }, tt))))) (
         Walk.sets ! (Run.addr ! (Run.from ! (Run.fld ! refl (Run.hop ! (Part.look-in ! 6 (Part.sub ! 0 refl (Part.whole !))) (Run.stop !)))))
-        (Run.init ! 14 refl ((tt, tt))) (
-        Walk.sets ! (Part.agg ! (Run.and-then ! (Walk.local ! 14 refl) (Run.and-then ! (Walk.part ! 6 refl refl refl) (Run.no-more !))))
-        (Run.init ! 15 refl ((tt, (tt, (record { fits = is-second .0 .1 .0 }, tt))))) (
+        (Run.init ! 15 refl ((tt, tt))) (
+        Walk.sets ! (Part.agg ! (Run.and-then ! (Walk.local ! 15 refl) (Run.and-then ! (Walk.part ! 6 refl refl refl) (Run.no-more !))))
+        (Run.init ! 16 refl ((tt, (tt, (record { fits = is-second .0 .1 .0 }, tt))))) (
         Walk.sets ! (Run.addr ! (Run.from ! (Run.fld ! refl (Run.hop ! (Part.look-in ! 7 (Part.sub ! 0 refl (Part.whole !))) (Run.stop !)))))
-        (Run.init ! 16 refl ((tt, tt))) (
-        Walk.sets ! (Part.agg ! (Run.and-then ! (Walk.local ! 16 refl) (Run.and-then ! (Walk.part ! 7 refl refl refl) (Run.no-more !))))
-        (Run.init ! 17 refl ((tt, (tt, (record { fits = is-store .0 .1 .0 }, tt))))) (
-        -- [the locals; their ends; κ₀; κ₁; κ₂; κ₃; κ₄; κ₅; store; second; output; dead; nodes; text]
-        -- call 1: run (text, fuel, nodes, dead, output, second, store)
-        Walk.move ! (29 ∷ 20 ∷ []) (Again.lends W Node-T.the-row κ₁ q₁ nodes (named 1) (named 1) (nodes .now) ! tt (λ ν1 δ1.
-        Walk.move ! (30 ∷ 23 ∷ []) (Again.lends W (UInt w8) κ₂ q₂ dead (named 2) (named 2) (dead .now) ! tt (λ ν2 δ2.
-        Walk.move ! (31 ∷ 26 ∷ []) (Again.lends W (UInt w8) κ₃ q₃ output (named 3) (named 3) (output .now) ! tt (λ ν3 δ3.
-        Walk.move ! (32 ∷ 29 ∷ []) (Again.lends W (UInt w8) κ₄ q₄ second (named 4) (named 4) (second .now) ! tt (λ ν4 δ4.
-        Walk.move ! (33 ∷ 32 ∷ []) (Again.lends W (UInt w8) κ₅ q₅ store (named 5) (named 5) (store .now) ! tt (λ ν5 δ5.
-        Walk.move ! (35 ∷ 12 ∷ 9 ∷ 6 ∷ 3 ∷ 0 ∷ []) (
+        (Run.init ! 17 refl ((tt, tt))) (
+        Walk.sets ! (Part.agg ! (Run.and-then ! (Walk.local ! 17 refl) (Run.and-then ! (Walk.part ! 7 refl refl refl) (Run.no-more !))))
+        (Run.init ! 18 refl ((tt, (tt, (record { fits = is-store .0 .1 .0 }, tt))))) (
+        Walk.sets ! (Run.addr ! (Run.from ! (Run.fld ! refl (Run.hop ! (Part.look-in ! 8 (Part.sub ! 0 refl (Part.whole !))) (Run.stop !)))))
+        (Run.init ! 19 refl ((tt, tt))) (
+        Walk.sets ! (Part.agg ! (Run.and-then ! (Walk.local ! 19 refl) (Run.and-then ! (Walk.part ! 8 refl refl refl) (Run.no-more !))))
+        (Run.init ! 20 refl ((tt, (tt, (record { fits = is-report .0 .1 .0 }, tt))))) (
+        -- [the locals; their ends; κ₀; κ₁; κ₂; κ₃; κ₄; κ₅; κ₆; report; store; second; output; dead; nodes; text]
+        -- call 1: run (text, fuel, nodes, dead, output, second, store, report)
+        Walk.move ! (34 ∷ 23 ∷ []) (Again.lends W Node-T.the-row κ₁ q₁ nodes (named 1) (named 1) (nodes .now) ! tt (λ ν1 δ1.
+        Walk.move ! (35 ∷ 26 ∷ []) (Again.lends W (UInt w8) κ₂ q₂ dead (named 2) (named 2) (dead .now) ! tt (λ ν2 δ2.
+        Walk.move ! (36 ∷ 29 ∷ []) (Again.lends W (UInt w8) κ₃ q₃ output (named 3) (named 3) (output .now) ! tt (λ ν3 δ3.
+        Walk.move ! (37 ∷ 32 ∷ []) (Again.lends W (UInt w8) κ₄ q₄ second (named 4) (named 4) (second .now) ! tt (λ ν4 δ4.
+        Walk.move ! (38 ∷ 35 ∷ []) (Again.lends W (UInt w8) κ₅ q₅ store (named 5) (named 5) (store .now) ! tt (λ ν5 δ5.
+        Walk.move ! (39 ∷ 38 ∷ []) (Again.lends W (UInt w8) κ₆ q₆ report (named 6) (named 6) (report .now) ! tt (λ ν6 δ6.
+        Walk.move ! (41 ∷ 15 ∷ 12 ∷ 9 ∷ 6 ∷ 3 ∷ 0 ∷ []) (
         Walk.gives W (Walk.copied (T-text .own text (v-text ∷ [])) (shr-slice-copy 𝓤 H A W (named 0) κ₀ (UInt w8) .twice text _) ∷
         Walk.made ((UInt w64) .own fuel ((vint w64 fuel) ∷ [])) (uint-makes 𝓤 H A W w64 fuel _ (refl, fits-fuel)) ∷ Walk.kept (MutSlice (named 1)
         (ν1 ∷ []) Node-T.the-row .own (record { ptr = (nodes .ptr); name = δ1; now = (nodes .now) }) ((sliceVal (nodes .ptr)
@@ -204,83 +224,98 @@ module _ {M : Type 1} (𝓤 : URA M) (H : Heap 𝓤) (A : Atoms 𝓤) (W : Given
         ((sliceVal (output .ptr) (length (output .now))) ∷ [])) ∷ Walk.kept (MutSlice (named 4) (ν4 ∷ [])
         (UInt w8) .own (record { ptr = (second .ptr); name = δ4; now = (second .now) }) ((sliceVal (second .ptr) (length (second .now))) ∷ [])) ∷
         Walk.kept (MutSlice (named 5) (ν5 ∷ []) (UInt w8) .own (record { ptr = (store .ptr); name = δ5; now = (store .now) })
-        ((sliceVal (store .ptr) (length (store .now))) ∷ [])) ∷ []) _ ! (
-        Walk.move ! (31 ∷ 11 ∷ 9 ∷ 7 ∷ 5 ∷ 3 ∷ []) (
+        ((sliceVal (store .ptr) (length (store .now))) ∷ [])) ∷ Walk.kept (MutSlice (named 6) (ν6 ∷ [])
+        (UInt w8) .own (record { ptr = (report .ptr); name = δ6; now = (report .now) }) ((sliceVal (report .ptr) (length (report .now))) ∷ [])) ∷
+        []) _ ! (
+        Walk.move ! (36 ∷ 13 ∷ 11 ∷ 9 ∷ 7 ∷ 5 ∷ 3 ∷ []) (
         Walk.tokens-in W ((κ₀, q₀) ∷ ((ν1 ∷ []), fullShare) ∷ ((ν2 ∷ []), fullShare) ∷ ((ν3 ∷ []), fullShare) ∷ ((ν4 ∷ []), fullShare) ∷
-        ((ν5 ∷ []), fullShare) ∷ []) _ ! (alive 𝓤 H A g-run.signature (κ₀, ((ν1 ∷ []), ((ν2 ∷ []), ((ν3 ∷ []), ((ν4 ∷ []), ((ν5 ∷ []), tt))))))
-        (q₀, (fullShare, (fullShare, (fullShare, (fullShare, (fullShare, tt))))))) (id⊢ 𝓤 _) (
+        ((ν5 ∷ []), fullShare) ∷ ((ν6 ∷ []), fullShare) ∷
+        []) _ ! (alive 𝓤 H A g-run.signature (κ₀, ((ν1 ∷ []), ((ν2 ∷ []), ((ν3 ∷ []), ((ν4 ∷ []), ((ν5 ∷ []), ((ν6 ∷ []), tt)))))))
+        (q₀, (fullShare, (fullShare, (fullShare, (fullShare, (fullShare, (fullShare, tt)))))))) (id⊢ 𝓤 _) (
         Walk.asksˡ W ! fm g-run.ended (g-run.clauses 𝓤 H A mem run)
-        (((κ₀, ((ν1 ∷ []), ((ν2 ∷ []), ((ν3 ∷ []), ((ν4 ∷ []), ((ν5 ∷ []), tt)))))), (q₀, (fullShare, (fullShare, (fullShare, (fullShare, (fullShare, tt)))))), tt, (text, (fuel, ((record { ptr = (nodes .ptr); name = δ1; now = (nodes .now) }), ((record { ptr = (dead .ptr); name = δ2; now = (dead .now) }), ((record { ptr = (output .ptr); name = δ3; now = (output .now) }), ((record { ptr = (second .ptr); name = δ4; now = (second .now) }), ((record { ptr = (store .ptr); name = δ5; now = (store .now) }), tt))))))), (v-text ∷ [], ((vint w64 fuel) ∷ [], ((sliceVal (nodes .ptr) (length (nodes .now))) ∷ [], ((sliceVal (dead .ptr) (length (dead .now))) ∷ [], ((sliceVal (output .ptr) (length (output .now))) ∷ [], ((sliceVal (second .ptr) (length (second .now))) ∷ [], ((sliceVal (store .ptr) (length (store .now))) ∷ [], tt)))))))), tt) _ (known-run (((κ₀, ((ν1 ∷ []), ((ν2 ∷ []), ((ν3 ∷ []), ((ν4 ∷ []), ((ν5 ∷ []), tt)))))), (q₀, (fullShare, (fullShare, (fullShare, (fullShare, (fullShare, tt)))))), tt, (text, (fuel, ((record { ptr = (nodes .ptr); name = δ1; now = (nodes .now) }), ((record { ptr = (dead .ptr); name = δ2; now = (dead .now) }), ((record { ptr = (output .ptr); name = δ3; now = (output .now) }), ((record { ptr = (second .ptr); name = δ4; now = (second .now) }), ((record { ptr = (store .ptr); name = δ5; now = (store .now) }), tt))))))), (v-text ∷ [], ((vint w64 fuel) ∷ [], ((sliceVal (nodes .ptr) (length (nodes .now))) ∷ [], ((sliceVal (dead .ptr) (length (dead .now))) ∷ [], ((sliceVal (output .ptr) (length (output .now))) ∷ [], ((sliceVal (second .ptr) (length (second .now))) ∷ [], ((sliceVal (store .ptr) (length (store .now))) ∷ [], tt)))))))), tt)) (id⊢ 𝓤 (emp 𝓤)) (λ r ws. Walk.hears-both 𝓤 _ _)
-        (Run.and-then ! (Walk.local ! 8 refl) (Run.and-then ! (Walk.local ! 9 refl) (Run.and-then ! (Walk.local ! 16 refl)
-        (Run.and-then ! (Walk.local ! 18 refl) (Run.and-then ! (Walk.local ! 20 refl) (Run.and-then ! (Walk.local ! 22 refl)
-        (Run.and-then ! (Walk.local ! 24 refl) (Run.no-more !)))))))) (λ u1 r1 ws1 is1′ e1.
+        (((κ₀, ((ν1 ∷ []), ((ν2 ∷ []), ((ν3 ∷ []), ((ν4 ∷ []), ((ν5 ∷ []), ((ν6 ∷ []), tt))))))), (q₀, (fullShare, (fullShare, (fullShare, (fullShare, (fullShare, (fullShare, tt))))))), tt, (text, (fuel, ((record { ptr = (nodes .ptr); name = δ1; now = (nodes .now) }), ((record { ptr = (dead .ptr); name = δ2; now = (dead .now) }), ((record { ptr = (output .ptr); name = δ3; now = (output .now) }), ((record { ptr = (second .ptr); name = δ4; now = (second .now) }), ((record { ptr = (store .ptr); name = δ5; now = (store .now) }), ((record { ptr = (report .ptr); name = δ6; now = (report .now) }), tt)))))))), (v-text ∷ [], ((vint w64 fuel) ∷ [], ((sliceVal (nodes .ptr) (length (nodes .now))) ∷ [], ((sliceVal (dead .ptr) (length (dead .now))) ∷ [], ((sliceVal (output .ptr) (length (output .now))) ∷ [], ((sliceVal (second .ptr) (length (second .now))) ∷ [], ((sliceVal (store .ptr) (length (store .now))) ∷ [], ((sliceVal (report .ptr) (length (report .now))) ∷ [], tt))))))))), tt) _ (known-run (((κ₀, ((ν1 ∷ []), ((ν2 ∷ []), ((ν3 ∷ []), ((ν4 ∷ []), ((ν5 ∷ []), ((ν6 ∷ []), tt))))))), (q₀, (fullShare, (fullShare, (fullShare, (fullShare, (fullShare, (fullShare, tt))))))), tt, (text, (fuel, ((record { ptr = (nodes .ptr); name = δ1; now = (nodes .now) }), ((record { ptr = (dead .ptr); name = δ2; now = (dead .now) }), ((record { ptr = (output .ptr); name = δ3; now = (output .now) }), ((record { ptr = (second .ptr); name = δ4; now = (second .now) }), ((record { ptr = (store .ptr); name = δ5; now = (store .now) }), ((record { ptr = (report .ptr); name = δ6; now = (report .now) }), tt)))))))), (v-text ∷ [], ((vint w64 fuel) ∷ [], ((sliceVal (nodes .ptr) (length (nodes .now))) ∷ [], ((sliceVal (dead .ptr) (length (dead .now))) ∷ [], ((sliceVal (output .ptr) (length (output .now))) ∷ [], ((sliceVal (second .ptr) (length (second .now))) ∷ [], ((sliceVal (store .ptr) (length (store .now))) ∷ [], ((sliceVal (report .ptr) (length (report .now))) ∷ [], tt))))))))), tt)) (id⊢ 𝓤 (emp 𝓤)) (λ r ws. Walk.hears-both 𝓤 _ _)
+        (Run.and-then ! (Walk.local ! 9 refl) (Run.and-then ! (Walk.local ! 10 refl) (Run.and-then ! (Walk.local ! 18 refl)
+        (Run.and-then ! (Walk.local ! 20 refl) (Run.and-then ! (Walk.local ! 22 refl) (Run.and-then ! (Walk.local ! 24 refl)
+        (Run.and-then ! (Walk.local ! 26 refl) (Run.and-then ! (Walk.local ! 28 refl) (Run.no-more !))))))))) (λ u1 r1 ws1 is1′ e1.
         Walk.returned W ((κ₀, q₀) ∷ ((ν1 ∷ []), fullShare) ∷ ((ν2 ∷ []), fullShare) ∷ ((ν3 ∷ []), fullShare) ∷ ((ν4 ∷ []), fullShare) ∷
-        ((ν5 ∷ []), fullShare) ∷ []) (Walk.gone _ ∷ Walk.gone _ ∷ Walk.final (finally Node-T.the-row δ1 (ws1 .1 .1 .0)) (length (ws1 .1 .1 .0))
-        (length (nodes .now)) ∷ Walk.final (finally (UInt w8) δ2 (ws1 .1 .1 .1 .0)) (length (ws1 .1 .1 .1 .0)) (length (dead .now)) ∷
-        Walk.final (finally (UInt w8) δ3 (ws1 .1 .1 .1 .1 .0)) (length (ws1 .1 .1 .1 .1 .0)) (length (output .now)) ∷
+        ((ν5 ∷ []), fullShare) ∷ ((ν6 ∷ []), fullShare) ∷ []) (Walk.gone _ ∷ Walk.gone _ ∷ Walk.final (finally Node-T.the-row δ1 (ws1 .1 .1 .0))
+        (length (ws1 .1 .1 .0)) (length (nodes .now)) ∷ Walk.final (finally (UInt w8) δ2 (ws1 .1 .1 .1 .0)) (length (ws1 .1 .1 .1 .0))
+        (length (dead .now)) ∷ Walk.final (finally (UInt w8) δ3 (ws1 .1 .1 .1 .1 .0)) (length (ws1 .1 .1 .1 .1 .0)) (length (output .now)) ∷
         Walk.final (finally (UInt w8) δ4 (ws1 .1 .1 .1 .1 .1 .0)) (length (ws1 .1 .1 .1 .1 .1 .0)) (length (second .now)) ∷
-        Walk.final (finally (UInt w8) δ5 (ws1 .1 .1 .1 .1 .1 .1 .0)) (length (ws1 .1 .1 .1 .1 .1 .1 .0)) (length (store .now)) ∷ []) ! (id⊢ 𝓤 _)
-        (λ len1 len2 len3 len4 len5.
-        Walk.move ! (6 ∷ 15 ∷ 4 ∷ 17 ∷ []) (
+        Walk.final (finally (UInt w8) δ5 (ws1 .1 .1 .1 .1 .1 .1 .0)) (length (ws1 .1 .1 .1 .1 .1 .1 .0)) (length (store .now)) ∷
+        Walk.final (finally (UInt w8) δ6 (ws1 .1 .1 .1 .1 .1 .1 .1 .0)) (length (ws1 .1 .1 .1 .1 .1 .1 .1 .0)) (length (report .now)) ∷
+        []) ! (id⊢ 𝓤 _) (λ len1 len2 len3 len4 len5 len6.
+        Walk.move ! (7 ∷ 18 ∷ 5 ∷ 20 ∷ []) (
         Again.backs W Node-T.the-row κ₁ q₁ nodes (named 1) (named 1) (nodes .now) ! tt (ws1 .1 .1 .0) (is-nodes .0 .1) len1 (
-        Walk.move ! (8 ∷ 15 ∷ 6 ∷ 17 ∷ []) (
+        Walk.move ! (9 ∷ 18 ∷ 7 ∷ 20 ∷ []) (
         Again.backs W (UInt w8) κ₂ q₂ dead (named 2) (named 2) (dead .now) ! tt (ws1 .1 .1 .1 .0) (is-dead .0 .1) len2 (
-        Walk.move ! (10 ∷ 15 ∷ 8 ∷ 17 ∷ []) (
+        Walk.move ! (11 ∷ 18 ∷ 9 ∷ 20 ∷ []) (
         Again.backs W (UInt w8) κ₃ q₃ output (named 3) (named 3) (output .now) ! tt (ws1 .1 .1 .1 .1 .0) (is-output .0 .1) len3 (
-        Walk.move ! (12 ∷ 15 ∷ 10 ∷ 17 ∷ []) (
+        Walk.move ! (13 ∷ 18 ∷ 11 ∷ 20 ∷ []) (
         Again.backs W (UInt w8) κ₄ q₄ second (named 4) (named 4) (second .now) ! tt (ws1 .1 .1 .1 .1 .1 .0) (is-second .0 .1) len4 (
-        Walk.move ! (14 ∷ 15 ∷ 12 ∷ 17 ∷ []) (
+        Walk.move ! (15 ∷ 18 ∷ 13 ∷ 20 ∷ []) (
         Again.backs W (UInt w8) κ₅ q₅ store (named 5) (named 5) (store .now) ! tt (ws1 .1 .1 .1 .1 .1 .1 .0) (is-store .0 .1) len5 (
-        Walk.lands-in ! (Walk.init-as ! 17 refl (LL.lawful Ran-T.the-type Ran-L.the-laws 𝓤 H A W .typed r1 _ is1′ .0)
+        Walk.move ! (17 ∷ 18 ∷ 15 ∷ 20 ∷ []) (
+        Again.backs W (UInt w8) κ₆ q₆ report (named 6) (named 6) (report .now) ! tt (ws1 .1 .1 .1 .1 .1 .1 .1 .0) (is-report .0 .1) len6 (
+        Walk.lands-in ! (Walk.init-as ! 20 refl (LL.lawful Ran-T.the-type Ran-L.the-laws 𝓤 H A W .typed r1 _ is1′ .0)
         (ap only (LL.tells Ran-T.the-type Ran-L.the-laws r1 _ is1′))) (
         let is1 : Is Ran-T.the-row r1 ((Ran-L.lowered r1) ∷ []) = subst (λ (vs : List Val). Is Ran-T.the-row r1 vs)
         (LL.tells Ran-T.the-type Ran-L.the-laws r1 _ is1′) is1′ in
-        Walk.written-out ! (‵ (T-store .own (at-last store (ws1 .1 .1 .1 .1 .1 .1 .0)) (sliceVal (store .ptr) (length (ws1 .1 .1 .1 .1 .1 .1 .0)) ∷
-        [])) ∷ ‵ (flft κ₅ q₅) ∷ ‵ (fat fullShare Y-store l₇ 0 (sliceVal (store .ptr) (length (ws1 .1 .1 .1 .1 .1 .1 .0)))) ∷
-        ‵ (T-second .own (at-last second (ws1 .1 .1 .1 .1 .1 .0)) (sliceVal (second .ptr) (length (ws1 .1 .1 .1 .1 .1 .0)) ∷ [])) ∷ ‵ (flft κ₄ q₄) ∷
-        ‵ (fat fullShare Y-second l₆ 0 (sliceVal (second .ptr) (length (ws1 .1 .1 .1 .1 .1 .0)))) ∷
-        ‵ (T-output .own (at-last output (ws1 .1 .1 .1 .1 .0)) (sliceVal (output .ptr) (length (ws1 .1 .1 .1 .1 .0)) ∷ [])) ∷ ‵ (flft κ₃ q₃) ∷
-        ‵ (fat fullShare Y-output l₅ 0 (sliceVal (output .ptr) (length (ws1 .1 .1 .1 .1 .0)))) ∷ ‵ (T-dead .own (at-last dead (ws1 .1 .1 .1 .0))
-        (sliceVal (dead .ptr) (length (ws1 .1 .1 .1 .0)) ∷ [])) ∷ ‵ (flft κ₂ q₂) ∷ ‵ (fat fullShare Y-dead l₄ 0 (sliceVal (dead .ptr)
-        (length (ws1 .1 .1 .1 .0)))) ∷ ‵ (T-nodes .own (at-last nodes (ws1 .1 .1 .0)) (sliceVal (nodes .ptr) (length (ws1 .1 .1 .0)) ∷ [])) ∷
-        ‵ (flft κ₁ q₁) ∷ ‵ (fat fullShare Y-nodes l₃ 0 (sliceVal (nodes .ptr) (length (ws1 .1 .1 .0)))) ∷ ‵ (flft κ₀ q₀) ∷
-        ‵ (T-text .own text (sliceVal (text .ptr) (length (text .now)) ∷ [])) ∷ ‵ (fat fullShare Ran-L.mir l₀ 0 (Ran-L.lowered r1)) ∷
-        ‵ (fat fullShare Y-text l₁ 0 (sliceVal (text .ptr) (length (text .now)))) ∷ ‵ (fat fullShare (tyInt w64) l₂ 0 (vint w64 fuel)) ∷
-        ‵ (fat fullShare (tyRef erased mut (pointee (Node-T.the-row .written))) l₈ 0 (vptr (nodes .ptr .0) (nodes .ptr .1))) ∷
-        ‵ (fat fullShare (sliceTy (tyRef erased mut (pointee (Node-T.the-row .written)))) l₉ 0 (sliceVal (nodes .ptr) (length (nodes .now)))) ∷
-        ‵ (fat fullShare (tyRef erased mut (pointee ((UInt w8) .written))) l₁₀ 0 (vptr (dead .ptr .0) (dead .ptr .1))) ∷
-        ‵ (fat fullShare (sliceTy (tyRef erased mut (pointee ((UInt w8) .written)))) l₁₁ 0 (sliceVal (dead .ptr) (length (dead .now)))) ∷
-        ‵ (fat fullShare (tyRef erased mut (pointee ((UInt w8) .written))) l₁₂ 0 (vptr (output .ptr .0) (output .ptr .1))) ∷
-        ‵ (fat fullShare (sliceTy (tyRef erased mut (pointee ((UInt w8) .written)))) l₁₃ 0 (sliceVal (output .ptr) (length (output .now)))) ∷
-        ‵ (fat fullShare (tyRef erased mut (pointee ((UInt w8) .written))) l₁₄ 0 (vptr (second .ptr .0) (second .ptr .1))) ∷
-        ‵ (fat fullShare (sliceTy (tyRef erased mut (pointee ((UInt w8) .written)))) l₁₅ 0 (sliceVal (second .ptr) (length (second .now)))) ∷
-        ‵ (fat fullShare (tyRef erased mut (pointee ((UInt w8) .written))) l₁₆ 0 (vptr (store .ptr .0) (store .ptr .1))) ∷
-        ‵ (fat fullShare (sliceTy (tyRef erased mut (pointee ((UInt w8) .written)))) l₁₇ 0 (sliceVal (store .ptr) (length (store .now)))) ∷ ‵ Fd ∷
+        Walk.written-out ! (‵ (T-report .own (at-last report (ws1 .1 .1 .1 .1 .1 .1 .1 .0)) (sliceVal (report .ptr)
+        (length (ws1 .1 .1 .1 .1 .1 .1 .1 .0)) ∷ [])) ∷ ‵ (flft κ₆ q₆) ∷ ‵ (fat fullShare Y-report l₈ 0 (sliceVal (report .ptr)
+        (length (ws1 .1 .1 .1 .1 .1 .1 .1 .0)))) ∷ ‵ (T-store .own (at-last store (ws1 .1 .1 .1 .1 .1 .1 .0)) (sliceVal (store .ptr)
+        (length (ws1 .1 .1 .1 .1 .1 .1 .0)) ∷ [])) ∷ ‵ (flft κ₅ q₅) ∷ ‵ (fat fullShare Y-store l₇ 0 (sliceVal (store .ptr)
+        (length (ws1 .1 .1 .1 .1 .1 .1 .0)))) ∷ ‵ (T-second .own (at-last second (ws1 .1 .1 .1 .1 .1 .0)) (sliceVal (second .ptr)
+        (length (ws1 .1 .1 .1 .1 .1 .0)) ∷ [])) ∷ ‵ (flft κ₄ q₄) ∷ ‵ (fat fullShare Y-second l₆ 0 (sliceVal (second .ptr)
+        (length (ws1 .1 .1 .1 .1 .1 .0)))) ∷ ‵ (T-output .own (at-last output (ws1 .1 .1 .1 .1 .0)) (sliceVal (output .ptr)
+        (length (ws1 .1 .1 .1 .1 .0)) ∷ [])) ∷ ‵ (flft κ₃ q₃) ∷ ‵ (fat fullShare Y-output l₅ 0 (sliceVal (output .ptr)
+        (length (ws1 .1 .1 .1 .1 .0)))) ∷ ‵ (T-dead .own (at-last dead (ws1 .1 .1 .1 .0)) (sliceVal (dead .ptr) (length (ws1 .1 .1 .1 .0)) ∷ [])) ∷
+        ‵ (flft κ₂ q₂) ∷ ‵ (fat fullShare Y-dead l₄ 0 (sliceVal (dead .ptr) (length (ws1 .1 .1 .1 .0)))) ∷
+        ‵ (T-nodes .own (at-last nodes (ws1 .1 .1 .0)) (sliceVal (nodes .ptr) (length (ws1 .1 .1 .0)) ∷ [])) ∷ ‵ (flft κ₁ q₁) ∷
+        ‵ (fat fullShare Y-nodes l₃ 0 (sliceVal (nodes .ptr) (length (ws1 .1 .1 .0)))) ∷ ‵ (flft κ₀ q₀) ∷ ‵ (T-text .own text (sliceVal (text .ptr)
+        (length (text .now)) ∷ [])) ∷ ‵ (fat fullShare Ran-L.mir l₀ 0 (Ran-L.lowered r1)) ∷ ‵ (fat fullShare Y-text l₁ 0 (sliceVal (text .ptr)
+        (length (text .now)))) ∷ ‵ (fat fullShare (tyInt w64) l₂ 0 (vint w64 fuel)) ∷
+        ‵ (fat fullShare (tyRef erased mut (pointee (Node-T.the-row .written))) l₉ 0 (vptr (nodes .ptr .0) (nodes .ptr .1))) ∷
+        ‵ (fat fullShare (sliceTy (tyRef erased mut (pointee (Node-T.the-row .written)))) l₁₀ 0 (sliceVal (nodes .ptr) (length (nodes .now)))) ∷
+        ‵ (fat fullShare (tyRef erased mut (pointee ((UInt w8) .written))) l₁₁ 0 (vptr (dead .ptr .0) (dead .ptr .1))) ∷
+        ‵ (fat fullShare (sliceTy (tyRef erased mut (pointee ((UInt w8) .written)))) l₁₂ 0 (sliceVal (dead .ptr) (length (dead .now)))) ∷
+        ‵ (fat fullShare (tyRef erased mut (pointee ((UInt w8) .written))) l₁₃ 0 (vptr (output .ptr .0) (output .ptr .1))) ∷
+        ‵ (fat fullShare (sliceTy (tyRef erased mut (pointee ((UInt w8) .written)))) l₁₄ 0 (sliceVal (output .ptr) (length (output .now)))) ∷
+        ‵ (fat fullShare (tyRef erased mut (pointee ((UInt w8) .written))) l₁₅ 0 (vptr (second .ptr .0) (second .ptr .1))) ∷
+        ‵ (fat fullShare (sliceTy (tyRef erased mut (pointee ((UInt w8) .written)))) l₁₆ 0 (sliceVal (second .ptr) (length (second .now)))) ∷
+        ‵ (fat fullShare (tyRef erased mut (pointee ((UInt w8) .written))) l₁₇ 0 (vptr (store .ptr .0) (store .ptr .1))) ∷
+        ‵ (fat fullShare (sliceTy (tyRef erased mut (pointee ((UInt w8) .written)))) l₁₈ 0 (sliceVal (store .ptr) (length (store .now)))) ∷
+        ‵ (fat fullShare (tyRef erased mut (pointee ((UInt w8) .written))) l₁₉ 0 (vptr (report .ptr .0) (report .ptr .1))) ∷
+        ‵ (fat fullShare (sliceTy (tyRef erased mut (pointee ((UInt w8) .written)))) l₂₀ 0 (sliceVal (report .ptr) (length (report .now)))) ∷ ‵ Fd ∷
         []) refl (
-        Walk.returns-by ! Post refl (Run.look ! 17 refl) (
-        Walk.move ! (17 ∷ 17 ∷ 17 ∷ 14 ∷ 11 ∷ 8 ∷ 5 ∷ 2 ∷ 12 ∷ 12 ∷ 12 ∷ 12 ∷ 12 ∷ 12 ∷ 12 ∷ 12 ∷ 12 ∷ 12 ∷ 12 ∷ []) (
+        Walk.returns-by ! Post refl (Run.look ! 20 refl) (
+        Walk.move ! (20 ∷ 20 ∷ 20 ∷ 17 ∷ 14 ∷ 11 ∷ 8 ∷ 5 ∷ 2 ∷ 14 ∷ 14 ∷ 14 ∷ 14 ∷ 14 ∷ 14 ∷ 14 ∷ 14 ∷ 14 ∷ 14 ∷ 14 ∷ 14 ∷ 14 ∷ []) (
         Walk.frees-gathered ! (Walk.full Ran-L.mir l₀ (Ran-L.lowered r1) ∷ Walk.full Y-text l₁ (sliceVal (text .ptr) (length (text .now))) ∷
         Walk.full (tyInt w64) l₂ (vint w64 fuel) ∷ Walk.full Y-nodes l₃ (sliceVal (nodes .ptr) (length (ws1 .1 .1 .0))) ∷
         Walk.full Y-dead l₄ (sliceVal (dead .ptr) (length (ws1 .1 .1 .1 .0))) ∷ Walk.full Y-output l₅ (sliceVal (output .ptr)
         (length (ws1 .1 .1 .1 .1 .0))) ∷ Walk.full Y-second l₆ (sliceVal (second .ptr) (length (ws1 .1 .1 .1 .1 .1 .0))) ∷
-        Walk.full Y-store l₇ (sliceVal (store .ptr) (length (ws1 .1 .1 .1 .1 .1 .1 .0))) ∷
-        Walk.full (tyRef erased mut (pointee (Node-T.the-row .written))) l₈ (vptr (nodes .ptr .0) (nodes .ptr .1)) ∷
-        Walk.full (sliceTy (tyRef erased mut (pointee (Node-T.the-row .written)))) l₉ (sliceVal (nodes .ptr) (length (nodes .now))) ∷
-        Walk.full (tyRef erased mut (pointee ((UInt w8) .written))) l₁₀ (vptr (dead .ptr .0) (dead .ptr .1)) ∷
-        Walk.full (sliceTy (tyRef erased mut (pointee ((UInt w8) .written)))) l₁₁ (sliceVal (dead .ptr) (length (dead .now))) ∷
-        Walk.full (tyRef erased mut (pointee ((UInt w8) .written))) l₁₂ (vptr (output .ptr .0) (output .ptr .1)) ∷
-        Walk.full (sliceTy (tyRef erased mut (pointee ((UInt w8) .written)))) l₁₃ (sliceVal (output .ptr) (length (output .now))) ∷
-        Walk.full (tyRef erased mut (pointee ((UInt w8) .written))) l₁₄ (vptr (second .ptr .0) (second .ptr .1)) ∷
-        Walk.full (sliceTy (tyRef erased mut (pointee ((UInt w8) .written)))) l₁₅ (sliceVal (second .ptr) (length (second .now))) ∷
-        Walk.full (tyRef erased mut (pointee ((UInt w8) .written))) l₁₆ (vptr (store .ptr .0) (store .ptr .1)) ∷
-        Walk.full (sliceTy (tyRef erased mut (pointee ((UInt w8) .written)))) l₁₇ (sliceVal (store .ptr) (length (store .now))) ∷
-        []) Fd ed (‵ (T-store .own (at-last store (ws1 .1 .1 .1 .1 .1 .1 .0)) (sliceVal (store .ptr) (length (ws1 .1 .1 .1 .1 .1 .1 .0)) ∷ [])) ∷
-        ‵ (flft κ₅ q₅) ∷ ‵ (T-second .own (at-last second (ws1 .1 .1 .1 .1 .1 .0)) (sliceVal (second .ptr) (length (ws1 .1 .1 .1 .1 .1 .0)) ∷ [])) ∷
-        ‵ (flft κ₄ q₄) ∷ ‵ (T-output .own (at-last output (ws1 .1 .1 .1 .1 .0)) (sliceVal (output .ptr) (length (ws1 .1 .1 .1 .1 .0)) ∷ [])) ∷
-        ‵ (flft κ₃ q₃) ∷ ‵ (T-dead .own (at-last dead (ws1 .1 .1 .1 .0)) (sliceVal (dead .ptr) (length (ws1 .1 .1 .1 .0)) ∷ [])) ∷ ‵ (flft κ₂ q₂) ∷
-        ‵ (T-nodes .own (at-last nodes (ws1 .1 .1 .0)) (sliceVal (nodes .ptr) (length (ws1 .1 .1 .0)) ∷ [])) ∷ ‵ (flft κ₁ q₁) ∷ ‵ (flft κ₀ q₀) ∷
-        ‵ (T-text .own text (sliceVal (text .ptr) (length (text .now)) ∷ [])) ∷ []) (
-        Walk.move ! (8 ∷ 6 ∷ 4 ∷ 2 ∷ 0 ∷ []) (
+        Walk.full Y-store l₇ (sliceVal (store .ptr) (length (ws1 .1 .1 .1 .1 .1 .1 .0))) ∷ Walk.full Y-report l₈ (sliceVal (report .ptr)
+        (length (ws1 .1 .1 .1 .1 .1 .1 .1 .0))) ∷ Walk.full (tyRef erased mut (pointee (Node-T.the-row .written))) l₉ (vptr (nodes .ptr .0)
+        (nodes .ptr .1)) ∷ Walk.full (sliceTy (tyRef erased mut (pointee (Node-T.the-row .written)))) l₁₀ (sliceVal (nodes .ptr)
+        (length (nodes .now))) ∷ Walk.full (tyRef erased mut (pointee ((UInt w8) .written))) l₁₁ (vptr (dead .ptr .0) (dead .ptr .1)) ∷
+        Walk.full (sliceTy (tyRef erased mut (pointee ((UInt w8) .written)))) l₁₂ (sliceVal (dead .ptr) (length (dead .now))) ∷
+        Walk.full (tyRef erased mut (pointee ((UInt w8) .written))) l₁₃ (vptr (output .ptr .0) (output .ptr .1)) ∷
+        Walk.full (sliceTy (tyRef erased mut (pointee ((UInt w8) .written)))) l₁₄ (sliceVal (output .ptr) (length (output .now))) ∷
+        Walk.full (tyRef erased mut (pointee ((UInt w8) .written))) l₁₅ (vptr (second .ptr .0) (second .ptr .1)) ∷
+        Walk.full (sliceTy (tyRef erased mut (pointee ((UInt w8) .written)))) l₁₆ (sliceVal (second .ptr) (length (second .now))) ∷
+        Walk.full (tyRef erased mut (pointee ((UInt w8) .written))) l₁₇ (vptr (store .ptr .0) (store .ptr .1)) ∷
+        Walk.full (sliceTy (tyRef erased mut (pointee ((UInt w8) .written)))) l₁₈ (sliceVal (store .ptr) (length (store .now))) ∷
+        Walk.full (tyRef erased mut (pointee ((UInt w8) .written))) l₁₉ (vptr (report .ptr .0) (report .ptr .1)) ∷
+        Walk.full (sliceTy (tyRef erased mut (pointee ((UInt w8) .written)))) l₂₀ (sliceVal (report .ptr) (length (report .now))) ∷
+        []) Fd ed (‵ (T-report .own (at-last report (ws1 .1 .1 .1 .1 .1 .1 .1 .0)) (sliceVal (report .ptr) (length (ws1 .1 .1 .1 .1 .1 .1 .1 .0)) ∷
+        [])) ∷ ‵ (flft κ₆ q₆) ∷ ‵ (T-store .own (at-last store (ws1 .1 .1 .1 .1 .1 .1 .0)) (sliceVal (store .ptr)
+        (length (ws1 .1 .1 .1 .1 .1 .1 .0)) ∷ [])) ∷ ‵ (flft κ₅ q₅) ∷ ‵ (T-second .own (at-last second (ws1 .1 .1 .1 .1 .1 .0))
+        (sliceVal (second .ptr) (length (ws1 .1 .1 .1 .1 .1 .0)) ∷ [])) ∷ ‵ (flft κ₄ q₄) ∷ ‵ (T-output .own (at-last output (ws1 .1 .1 .1 .1 .0))
+        (sliceVal (output .ptr) (length (ws1 .1 .1 .1 .1 .0)) ∷ [])) ∷ ‵ (flft κ₃ q₃) ∷ ‵ (T-dead .own (at-last dead (ws1 .1 .1 .1 .0))
+        (sliceVal (dead .ptr) (length (ws1 .1 .1 .1 .0)) ∷ [])) ∷ ‵ (flft κ₂ q₂) ∷ ‵ (T-nodes .own (at-last nodes (ws1 .1 .1 .0))
+        (sliceVal (nodes .ptr) (length (ws1 .1 .1 .0)) ∷ [])) ∷ ‵ (flft κ₁ q₁) ∷ ‵ (flft κ₀ q₀) ∷ ‵ (T-text .own text (sliceVal (text .ptr)
+        (length (text .now)) ∷ [])) ∷ []) (
+        Walk.move ! (10 ∷ 8 ∷ 6 ∷ 4 ∷ 2 ∷ 0 ∷ []) (
         Walk.gives W (Walk.nothing ∷ Walk.nothing ∷ Walk.turned (T-nodes .own (at-last nodes (ws1 .1 .1 .0)) (sliceVal (nodes .ptr)
         (length (ws1 .1 .1 .0)) ∷ [])) (finally Node-T.the-row (nodes .name) (ws1 .1 .1 .0))
         (Walk.ended-slice 𝓤 H A W (named 1) κ₁ Node-T.the-row nodes (ws1 .1 .1 .0) _) ∷ Walk.turned (T-dead .own (at-last dead (ws1 .1 .1 .1 .0))
@@ -293,13 +328,17 @@ module _ {M : Type 1} (𝓤 : URA M) (H : Heap 𝓤) (A : Atoms 𝓤) (W : Given
         (Walk.ended-slice 𝓤 H A W (named 4) κ₄ (UInt w8) second (ws1 .1 .1 .1 .1 .1 .0) _) ∷
         Walk.turned (T-store .own (at-last store (ws1 .1 .1 .1 .1 .1 .1 .0)) (sliceVal (store .ptr) (length (ws1 .1 .1 .1 .1 .1 .1 .0)) ∷ []))
         (finally (UInt w8) (store .name) (ws1 .1 .1 .1 .1 .1 .1 .0))
-        (Walk.ended-slice 𝓤 H A W (named 5) κ₅ (UInt w8) store (ws1 .1 .1 .1 .1 .1 .1 .0) _) ∷ []) _ ! (
-        Walk.move ! (6 ∷ 5 ∷ 4 ∷ 3 ∷ 2 ∷ 1 ∷ []) (
-        Walk.tokens-in W ((κ₀, q₀) ∷ (κ₁, q₁) ∷ (κ₂, q₂) ∷ (κ₃, q₃) ∷ (κ₄, q₄) ∷ (κ₅, q₅) ∷
-        []) _ ! (alive 𝓤 H A f-stage2-run.signature (κ₀, (κ₁, (κ₂, (κ₃, (κ₄, (κ₅, tt)))))) (q₀, (q₁, (q₂, (q₃, (q₄, (q₅, tt))))))) (id⊢ 𝓤 _) (
+        (Walk.ended-slice 𝓤 H A W (named 5) κ₅ (UInt w8) store (ws1 .1 .1 .1 .1 .1 .1 .0) _) ∷
+        Walk.turned (T-report .own (at-last report (ws1 .1 .1 .1 .1 .1 .1 .1 .0)) (sliceVal (report .ptr) (length (ws1 .1 .1 .1 .1 .1 .1 .1 .0)) ∷
+        [])) (finally (UInt w8) (report .name) (ws1 .1 .1 .1 .1 .1 .1 .1 .0))
+        (Walk.ended-slice 𝓤 H A W (named 6) κ₆ (UInt w8) report (ws1 .1 .1 .1 .1 .1 .1 .1 .0) _) ∷ []) _ ! (
+        Walk.move ! (7 ∷ 6 ∷ 5 ∷ 4 ∷ 3 ∷ 2 ∷ 1 ∷ []) (
+        Walk.tokens-in W ((κ₀, q₀) ∷ (κ₁, q₁) ∷ (κ₂, q₂) ∷ (κ₃, q₃) ∷ (κ₄, q₄) ∷ (κ₅, q₅) ∷ (κ₆, q₆) ∷
+        []) _ ! (alive 𝓤 H A f-stage2-run.signature (κ₀, (κ₁, (κ₂, (κ₃, (κ₄, (κ₅, (κ₆, tt))))))) (q₀, (q₁, (q₂, (q₃, (q₄, (q₅, (q₆, tt))))))))
+        (id⊢ 𝓤 _) (
         Walk.use0 W ! (‵ (Ran-T.the-row .own r1 ((Ran-L.lowered r1) ∷ []))) (LL.makes Ran-T.the-type Ran-L.the-plain 𝓤 H A r1 _ is1) (
         Walk.keep ! (1 ∷ 1 ∷ 0 ∷ []) (
-        Kit.by ! (Walk.leave-by 𝓤 H A W f-stage2-run.ended (f-stage2-run.clauses 𝓤 H A mem run) stayed-stage2-run bound (Ran-L.lowered r1) r1 (tt, (tt, ((ws1 .1 .1 .0), ((ws1 .1 .1 .1 .0), ((ws1 .1 .1 .1 .1 .0), ((ws1 .1 .1 .1 .1 .1 .0), ((ws1 .1 .1 .1 .1 .1 .1 .0), tt))))))) (tt, (tt, ((len1 ∙ refl), ((len2 ∙ refl), ((len3 ∙ refl), ((len4 ∙ refl), ((len5 ∙ refl), tt))))))) (Walk.says-both 𝓤 _ _ (e1 .0) (e1 .1)))))))))))))))))))))))))))))))))))))))))))))))))))))))))))))))))))))))))))))))))))))
+        Kit.by ! (Walk.leave-by 𝓤 H A W f-stage2-run.ended (f-stage2-run.clauses 𝓤 H A mem run) stayed-stage2-run bound (Ran-L.lowered r1) r1 (tt, (tt, ((ws1 .1 .1 .0), ((ws1 .1 .1 .1 .0), ((ws1 .1 .1 .1 .1 .0), ((ws1 .1 .1 .1 .1 .1 .0), ((ws1 .1 .1 .1 .1 .1 .1 .0), ((ws1 .1 .1 .1 .1 .1 .1 .1 .0), tt)))))))) (tt, (tt, ((len1 ∙ refl), ((len2 ∙ refl), ((len3 ∙ refl), ((len4 ∙ refl), ((len5 ∙ refl), ((len6 ∙ refl), tt)))))))) (Walk.says-both 𝓤 _ _ (e1 .0) (e1 .1)))))))))))))))))))))))))))))))))))))))))))))))))))))))))))))))))))))))))))))))))))))))))))))))
 
 pub stage2-run-spec : {M : Type 1} → stated.statement M
 unfolding code.routine tablesOf
@@ -309,12 +348,13 @@ stage2-run-spec 𝓤 H 𝓜 𝓖 𝓡 =
     entered 𝓤 H (tripleOf 𝓤 H (𝓖 .A) f-stage2-run.signature (f-stage2-run.spec 𝓤 H (𝓖 .A) (𝓜 .mem) (𝓡 .run)))
     (tables 𝓤 H 𝓜 𝓡 code.env .C) (tables 𝓤 H 𝓜 𝓡 code.env .Λ) #stage2-run code.function (code.unfolded 𝓤 H 𝓜 𝓡)
     (Walk.thick 𝓤 H (𝓖 .A) W f-stage2-run.ended (f-stage2-run.clauses 𝓤 H (𝓖 .A) (𝓜 .mem)
-    (𝓡 .run)) stayed-stage2-run (goes-dropped 𝓤 H (𝓖 .A) W 6 (shrSliceOf (0 ∷ []) tt (plain (λ _. (UInt w8)))) yes (λ κs x f. refl), (goes-dropped 𝓤 H (𝓖 .A) W 6 (plain (λ _. (UInt w64))) yes (λ κs x f. refl), (goes-gave-slice 𝓤 H (𝓖 .A) W 6 1 tt (plain (λ _. Node-T.the-row)), (goes-gave-slice 𝓤 H (𝓖 .A) W 6 2 tt (plain (λ _. (UInt w8))), (goes-gave-slice 𝓤 H (𝓖 .A) W 6 3 tt (plain (λ _. (UInt w8))), (goes-gave-slice 𝓤 H (𝓖 .A) W 6 4 tt (plain (λ _. (UInt w8))), (goes-gave-slice 𝓤 H (𝓖 .A) W 6 5 tt (plain (λ _. (UInt w8))), tt)))))))
-    (λ κs. (slice-vals, (uint-vals w64, (slice-vals, (slice-vals, (slice-vals, (slice-vals, (slice-vals, tt))))))))
-    (λ κs. (shr-slice-tells (named 0) (κs .0) (UInt w8), (uint-tells w64, (mut-slice-tells (named 1) (κs .1 .0) Node-T.the-row, (mut-slice-tells (named 2) (κs .1 .1 .0) (UInt w8), (mut-slice-tells (named 3) (κs .1 .1 .1 .0) (UInt w8), (mut-slice-tells (named 4) (κs .1 .1 .1 .1 .0) (UInt w8), (mut-slice-tells (named 5) (κs .1 .1 .1 .1 .1 .0) (UInt w8), tt)))))))) code.function 𝓣
+    (𝓡 .run)) stayed-stage2-run (goes-dropped 𝓤 H (𝓖 .A) W 7 (shrSliceOf (0 ∷ []) tt (plain (λ _. (UInt w8)))) yes (λ κs x f. refl), (goes-dropped 𝓤 H (𝓖 .A) W 7 (plain (λ _. (UInt w64))) yes (λ κs x f. refl), (goes-gave-slice 𝓤 H (𝓖 .A) W 7 1 tt (plain (λ _. Node-T.the-row)), (goes-gave-slice 𝓤 H (𝓖 .A) W 7 2 tt (plain (λ _. (UInt w8))), (goes-gave-slice 𝓤 H (𝓖 .A) W 7 3 tt (plain (λ _. (UInt w8))), (goes-gave-slice 𝓤 H (𝓖 .A) W 7 4 tt (plain (λ _. (UInt w8))), (goes-gave-slice 𝓤 H (𝓖 .A) W 7 5 tt (plain (λ _. (UInt w8))), (goes-gave-slice 𝓤 H (𝓖 .A) W 7 6 tt (plain (λ _. (UInt w8))), tt))))))))
+    (λ κs. (slice-vals, (uint-vals w64, (slice-vals, (slice-vals, (slice-vals, (slice-vals, (slice-vals, (slice-vals, tt)))))))))
+    (λ κs. (shr-slice-tells (named 0) (κs .0) (UInt w8), (uint-tells w64, (mut-slice-tells (named 1) (κs .1 .0) Node-T.the-row, (mut-slice-tells (named 2) (κs .1 .1 .0) (UInt w8), (mut-slice-tells (named 3) (κs .1 .1 .1 .0) (UInt w8), (mut-slice-tells (named 4) (κs .1 .1 .1 .1 .0) (UInt w8), (mut-slice-tells (named 5) (κs .1 .1 .1 .1 .1 .0) (UInt w8), (mut-slice-tells (named 6) (κs .1 .1 .1 .1 .1 .1 .0) (UInt w8), tt))))))))) code.function 𝓣
     (λ κs qs bounds a g are. via 𝓤 _ (fst∗ 𝓤 _ (emp 𝓤)) (walk-stage2-run 𝓤 H (𝓖 .A) W (𝓜 .mem) (𝓡 .run) (κs .0) (qs .0) (κs .1 .0) (qs .1 .0)
     (κs .1 .1 .0) (qs .1 .1 .0) (κs .1 .1 .1 .0) (qs .1 .1 .1 .0) (κs .1 .1 .1 .1 .0) (qs .1 .1 .1 .1 .0) (κs .1 .1 .1 .1 .1 .0)
-    (qs .1 .1 .1 .1 .1 .0) (a .0) (a .1 .0) (a .1 .1 .0) (a .1 .1 .1 .0) (a .1 .1 .1 .1 .0) (a .1 .1 .1 .1 .1 .0) (a .1 .1 .1 .1 .1 .1 .0)
-    (𝓣 .C) (𝓣 .Λ) (fmOf 𝓤 H (W .laws) 𝓣) (cited 𝓤 H (Walk.Of 𝓤 H (𝓖 .A) g-run.ended (g-run.clauses 𝓤 H (𝓖 .A) (𝓜 .mem)
+    (qs .1 .1 .1 .1 .1 .0) (κs .1 .1 .1 .1 .1 .1 .0) (qs .1 .1 .1 .1 .1 .1 .0) (a .0) (a .1 .0) (a .1 .1 .0) (a .1 .1 .1 .0) (a .1 .1 .1 .1 .0)
+    (a .1 .1 .1 .1 .1 .0) (a .1 .1 .1 .1 .1 .1 .0) (a .1 .1 .1 .1 .1 .1 .1 .0) (𝓣 .C) (𝓣 .Λ) (fmOf 𝓤 H (W .laws) 𝓣)
+    (cited 𝓤 H (Walk.Of 𝓤 H (𝓖 .A) g-run.ended (g-run.clauses 𝓤 H (𝓖 .A) (𝓜 .mem)
     (𝓡 .run))) 𝓜 𝓡 code.env #g-run g-run-def.routine code.calls-stage2·run (g-run-thm.met 𝓤 H 𝓜 𝓖 𝓡)) (are .0) (are .1 .0 .1) (are .1 .1 .0)
-    (are .1 .1 .1 .0) (are .1 .1 .1 .1 .0) (are .1 .1 .1 .1 .1 .0) (are .1 .1 .1 .1 .1 .1 .0))))
+    (are .1 .1 .1 .0) (are .1 .1 .1 .1 .0) (are .1 .1 .1 .1 .1 .0) (are .1 .1 .1 .1 .1 .1 .0) (are .1 .1 .1 .1 .1 .1 .1 .0))))

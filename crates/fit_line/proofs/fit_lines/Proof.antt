@@ -1,6 +1,6 @@
 -- fit_lines hands over what is printed for the text and the lines, whole.
 use borrow.Author.Needs.{needs}
-use Rattle.printed.proofs.Adding.{shown}
+use Rattle.rendering.proofs.Prints.{shown}
 use Rattle.fit_line.proofs.fit_lines.Statement.{statement}
 use Rattle.fit_line.proofs.fit_lines.Tie as tie
 

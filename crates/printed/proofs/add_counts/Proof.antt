@@ -1,6 +1,7 @@
 -- add_counts adds the two numbers, then the byte 10.
 use borrow.Author.Needs.{needs}
-use Rattle.printed.proofs.Adding.{prints-more, counts-room, end-room}
+use Rattle.rendering.proofs.Prints.{prints-more}
+use Rattle.printed.proofs.Adding.{counts-room, end-room}
 use Rattle.printed.proofs.add_counts.Statement.{statement}
 use Rattle.printed.proofs.add_counts.Tie as tie
 

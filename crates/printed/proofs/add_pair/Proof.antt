@@ -1,6 +1,7 @@
 -- add_pair adds one number after the other.
 use borrow.Author.Needs.{needs}
-use Rattle.printed.proofs.Adding.{prints-more, first-room, second-room}
+use Rattle.rendering.proofs.Prints.{prints-more}
+use Rattle.printed.proofs.Adding.{first-room, second-room}
 use Rattle.printed.proofs.add_pair.Statement.{statement}
 use Rattle.printed.proofs.add_pair.Tie as tie
 

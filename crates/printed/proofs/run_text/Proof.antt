@@ -1,4 +1,4 @@
--- run_text runs in the first 65,536 bytes of out, and in all of second.
+-- run_text runs in the first 65,536 bytes of out, in all of second, and in the report's room.
 use borrow.Author.Needs.{needs}
 use Rattle.printed.proofs.Rows.{run-leaves}
 use Rattle.printed.proofs.run_text.Statement.{statement}
@@ -25,6 +25,9 @@ same-length c = search needs
 same-length-2 : tie.Need-same-length-2
 same-length-2 c = search needs
 
+same-length-3 : tie.Need-same-length-3
+same-length-3 c = search needs
+
 returns : tie.Need-returns
 returns c = search (run-leaves, needs)
 
@@ -39,4 +42,5 @@ run-text-spec =
     run-requires
     same-length
     same-length-2
+    same-length-3
     returns)

@@ -28,6 +28,9 @@ widen-requires-5 c κs = search needs
 widen-requires-6 : tie.Need-widen-requires-6
 widen-requires-6 c κs = search needs
 
+widen-requires-7 : tie.Need-widen-requires-7
+widen-requires-7 c κs = search needs
+
 same-length : tie.Need-same-length
 same-length c = search needs
 
@@ -46,5 +49,6 @@ end-spec =
     widen-requires-4
     widen-requires-5
     widen-requires-6
+    widen-requires-7
     same-length
     returns)
