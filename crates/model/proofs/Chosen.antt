@@ -151,7 +151,7 @@ cut_in : (q p s : List ℕ) → In (q ++ p, s) (cuts q (p ++ s))
 unfolding cuts
 cut_in q [] [] = inl (rw append-nil)
 cut_in q [] (x ∷ s) = inl (rw append-nil)
-cut_in q (x ∷ p) s = inr (rw (← append_assoc q (x ∷ []) p) (cut_in (q ++ (x ∷ [])) p s))
+cut_in q (x ∷ p) s = inr (subst (λ (l : List ℕ). In (l, s) (cuts (q ++ (x ∷ [])) (p ++ s))) (append_assoc q (x ∷ []) p) (cut_in (q ++ (x ∷ [])) p s))
 
 -- what is listed is a way to cut the line
 cut_out : (c : Cut) (q s : List ℕ) → In c (cuts q s) → (p : List ℕ) × (c.0 ≡ q ++ p) × (s ≡ p ++ c.1)
@@ -452,7 +452,8 @@ unfolding least
 least-is [] r e = let z : ◌≡◌ {A = ℕ} 0 1 = cc in absurd (omega arith)
 least-is (x ∷ xs) r e =
     let i : least_of x xs ≡ r = cc in
-    rw (← i) (least_of_in x xs, λ y h. ⊎_elim (λ k. rw k (least_of_first x xs)) (λ k. least_of-rest x xs y k) h)
+    subst (λ (s : Reading). In s (x ∷ xs) × ((y : Reading) → In y (x ∷ xs) → less y.order s.order ≡ false)) i
+    (least_of_in x xs, λ y h. ⊎_elim (λ k. rw k (least_of_first x xs)) (λ k. least_of-rest x xs y k) h)
 
 -- where there is no least, there is no reading
 least-none : (l : List Reading) (r : Reading) → least l ≡ none → In r l → ⊥
