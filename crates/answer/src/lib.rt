@@ -1,4 +1,5 @@
 // What a code line, a body and an offered line come to: one answer, by value.
+#![tactic(auto)]
 ghost use Rattle.std.specs.Prelude.{◌≡◌};
 ghost use Rattle.answer.specs.Answers.{goes_further, offers_built, goes_back, ends_with, GoesOrEnds, turn, is_left, is_offer, is_end, offered_length, lines_back, end_number};
 
@@ -19,7 +20,7 @@ pub const BACK: usize = 2;
 pub const HALTS: usize = 3;
 
 // The call means something where it goes on, at once or after an offer.
-#[derive(Drop)]
+#[derive(Clone, Copy)]
 pub struct Answer {
     pub kind: usize,
     pub count: usize,

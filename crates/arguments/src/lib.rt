@@ -1,9 +1,10 @@
 // What the arguments of expand name: a text's file, then -4 and a file, then --report and a file, each or none.
+#![tactic(auto)]
 use source::{asks_report, asks_second, is_option};
 
 // The arguments that name a text's file, the one for channel 4 and the one for the report, 0 where there is none; and whether that is what
 // the arguments say.
-#[derive(Drop)]
+#[derive(Clone, Copy)]
 pub struct Names {
     pub right: bool,
     pub file: usize,

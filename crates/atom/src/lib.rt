@@ -1,5 +1,6 @@
 // The atoms of a line (document 01, "Fitting a line"). Of the marks they ask for the two brackets alone: whoever looks for many atoms
 // hands on two bytes, and not all marks. No public function has a `requires`.
+#![tactic(auto)]
 ghost use Rattle.std.specs.Prelude.{◌≡◌, ◌<◌, ◌^◌};
 ghost use Rattle.atom.specs.Atoms.{brackets, depth_past, AtomAt};
 
@@ -18,7 +19,7 @@ fn depth_past(left: u8, right: u8, b: u8, depth: usize) -> usize
 }
 
 // What a look for an atom comes to: where the atom ends, 0 where there is none, and how many bytes were read.
-#[derive(Drop)]
+#[derive(Clone, Copy)]
 pub struct Scanned {
     pub end: usize,
     pub read: usize,

@@ -1,11 +1,12 @@
 // Passing over code lines of a body: for a skip, and past an iteration that makes no pass.
+#![tactic(auto)]
 ghost use Rattle.std.specs.Prelude.{◌≤◌, length};
 ghost use Rattle.body.specs.Steps.{DropsFirst, StepsOver, PassesOver, Leaves};
 
 use model::{Effect, Marks};
 
 // What a skip of code lines comes to: the place of the line landed on, the lines left at the body's end, or a bad landing.
-#[derive(Drop)]
+#[derive(Clone, Copy)]
 pub enum Passed {
     Landed(usize),
     Beyond(usize),
@@ -14,7 +15,7 @@ pub enum Passed {
 
 // What one code line passed over comes to: the body's end, the end of the iteration around it with the place after it, or
 // the place of the next code line and how many iterations are then open.
-#[derive(Drop)]
+#[derive(Clone, Copy)]
 enum Stepped {
     Ended,
     Closed(usize),

@@ -1,4 +1,5 @@
 // The line that a code line builds, part by part, and how the code line ends (document 01, "A call's code").
+#![tactic(auto)]
 ghost use Rattle.std.specs.Prelude.{◌≡◌, ◌≤◌, length};
 ghost use Rattle.store.specs.Memory.{Kept};
 ghost use Rattle.code.specs.Tokens.{Parameter};
@@ -14,7 +15,7 @@ use model::{Conversion, LINE_MOST, Marks};
 use state::State;
 
 // The length of the built line and how its code line ends, where the number is 0; otherwise the number that ends the run.
-#[derive(Drop)]
+#[derive(Clone, Copy)]
 pub struct Built {
     pub number: usize,
     pub len: usize,

@@ -8,6 +8,7 @@
 // Asked is that the two slices have their lengths (`Sized`), that a parameter's number is 1 to 9, that a piece or a part lies where it is
 // taken from, that what becomes a parameter has at most 200 bytes, and that a line that is built has 200 (`HasBuilt`). What the numbers
 // say is free: a length counts as at most 200.
+#![tactic(auto)]
 ghost use Rattle.std.specs.Prelude.{cond, ◌≡◌, ◌+◌, ◌≤◌, length};
 ghost use Rattle.model.specs.Text.{part};
 ghost use Rattle.call.specs.Call.{Capped, Sized, param_bytes, call_numbers, call_bytes};
@@ -39,7 +40,7 @@ pub const CALL_NUMBERS: usize = 50;
 pub const CALL_BYTES: usize = 3400;
 
 // A call as it is opened. Each parameter has 200 of the bytes.
-#[derive(Drop)]
+#[derive(Clone, Copy)]
 pub struct Call {
     pub number: usize,
     // where its first code line starts
@@ -49,7 +50,7 @@ pub struct Call {
 }
 
 // An open call, but for its numbers and bytes.
-#[derive(Drop)]
+#[derive(Clone, Copy)]
 pub struct Head {
     pub number: usize,
     // where its next code line starts
@@ -59,7 +60,7 @@ pub struct Head {
 }
 
 // The length of a line after a part was appended, unless that would pass 200 bytes.
-#[derive(Drop)]
+#[derive(Clone, Copy)]
 pub struct Appended {
     pub ok: bool,
     pub len: usize,

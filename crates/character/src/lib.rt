@@ -1,5 +1,6 @@
 // The characters of a text in UTF-8 (RFC 3629; document 02, ticket 1): the one at a place, and how many a whole text has. No public function
 // has a `requires`.
+#![tactic(auto)]
 ghost use Rattle.std.specs.Prelude.{◌≡◌, true, ◌-◌, ◌≤◌, ◌<◌, length, get_or};
 ghost use Rattle.model.specs.Utf8.{is_tail, is_second};
 ghost use Rattle.character.specs.Decoding.{CountsBytes, JoinsTwo, JoinsThree, JoinsFour, ReadsCharacter};
@@ -8,7 +9,7 @@ ghost use Rattle.character.specs.Counting.{CountsCharacters};
 use buffer::wide;
 
 // What stands at a place of a text: a character with its code point and its length in bytes, malformed bytes, or nothing.
-#[derive(Drop)]
+#[derive(Clone, Copy)]
 pub enum Decoded {
     One { code: usize, len: usize },
     Malformed,
@@ -16,7 +17,7 @@ pub enum Decoded {
 }
 
 // The characters of a text: how many there are, and the last one's code point, 0 where there is none. Not ok: one is malformed.
-#[derive(Drop)]
+#[derive(Clone, Copy)]
 pub struct Counted {
     pub ok: bool,
     pub count: usize,

@@ -1,5 +1,6 @@
 // Prints for each file whether its text loads: the name, the number and the line. Every file is read before anything is printed. Nothing
 // else goes to standard output: a file that cannot be read, too many files, no file and a failed write have a message on standard error.
+#![tactic(auto)]
 ghost use Rattle.std.specs.Prelude.{◌-◌, ◌≤◌, length};
 ghost use Rattle.check_text.specs.Files.{AddsGot, HasFiles, HasGot};
 

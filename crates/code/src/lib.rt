@@ -1,4 +1,5 @@
 // What a code line says, read token by token: bytes and conversions that build a line, then what is done at its end.
+#![tactic(auto)]
 ghost use Rattle.std.specs.Prelude.{◌≡◌, List, ℕ, ◌≤◌, length};
 ghost use Rattle.model.specs.Text.{part};
 ghost use Rattle.model.specs.Code.{effect_of, writing, copying, text_test, value_test, line_function, function, conversion, form};
@@ -7,7 +8,7 @@ ghost use Rattle.code.specs.Tokens.{ending_of, routed_of, Parameter, NamesConver
 use model::{Channel, Comparison, Conversion, Effect, Marks};
 
 // What puts bytes into the built line: a byte, e0k, or a conversion of a parameter.
-#[derive(Drop)]
+#[derive(Clone, Copy)]
 pub enum Part {
     Byte(u8),
     Serial(usize),
@@ -15,7 +16,7 @@ pub enum Part {
 }
 
 // What is done at the end of a code line. The delimiters of an iteration start at its second number.
-#[derive(Drop)]
+#[derive(Clone, Copy)]
 pub enum Ending {
     Offer,
     Assign(usize),
@@ -35,21 +36,21 @@ pub enum Ending {
 }
 
 // What a byte names after an escape and a parameter's digit: a conversion that puts bytes into the built line, or none.
-#[derive(Drop)]
+#[derive(Clone, Copy)]
 enum Named {
     Is(Conversion),
     Nothing,
 }
 
 // Where F1 and F2 write, by what follows them: to a channel; another digit is refused.
-#[derive(Drop)]
+#[derive(Clone, Copy)]
 enum Routed {
     To(Channel),
     Refused,
 }
 
 // What stands at a place of a code line: its end, or a part and where the rest starts.
-#[derive(Drop)]
+#[derive(Clone, Copy)]
 pub enum Token {
     Ends(Ending),
     Has(Part, usize),

@@ -1,5 +1,6 @@
 // What ed0 to ed5 and ed8 put at the end of a line that is built (document 01, "A call's code"). The parameter's text is a
 // lent slice.
+#![tactic(auto)]
 ghost use Rattle.std.specs.Prelude.{◌≡◌, [], ◌∷◌, ◌≤◌, ◌<◌, length};
 ghost use Rattle.model.specs.Store.{decimal};
 ghost use Rattle.model.specs.Value.{written};
@@ -19,7 +20,7 @@ use state::State;
 use store::{Index, Stored};
 
 // The length of the line with a part added, where the number is 0; otherwise the number that ends the run.
-#[derive(Drop)]
+#[derive(Clone, Copy)]
 pub struct Added {
     pub number: usize,
     pub len: usize,
@@ -27,7 +28,7 @@ pub struct Added {
 }
 
 // A part of a slice.
-#[derive(Drop)]
+#[derive(Clone, Copy)]
 struct Span {
     at: usize,
     len: usize,

@@ -1,6 +1,7 @@
 // Offering a line and running a body call each other under fuel (document 01, "Events, store and result"). The fuel falls with
 // each line that is offered and each code line that is begun. Of the lent rows, `dead` is the search's alone: it has bits for the places of the
 // tree's `count` nodes; `counts` says how often each template was chosen.
+#![tactic(auto)]
 ghost use Rattle.std.proofs.Math.Option.{none, some};
 ghost use Rattle.std.specs.Prelude.{[], ◌∷◌, ◌≤◌, ◌<◌, length, take};
 ghost use Rattle.model.specs.Machine.{outputs};

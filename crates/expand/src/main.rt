@@ -3,6 +3,7 @@
 // has no room. With --report and a name behind that, the usage report goes to the file of this name, which stays empty where no run
 // begins. Nothing else goes to standard output: a file that cannot be read or written, wrong arguments and a failed write have a message
 // on standard error.
+#![tactic(auto)]
 ghost use Rattle.std.specs.Prelude.{◌≡◌};
 ghost use Rattle.model.specs.Printed.{expand_prints, expand_writes, expand_reports};
 
@@ -22,7 +23,7 @@ fn tell_use() {
 
 // A file that is to be written: the argument that names it, or 0 where there is none; and the descriptor that is open for it. It is not
 // right where the file cannot be opened.
-#[derive(Drop)]
+#[derive(Clone, Copy)]
 struct Target {
     right: bool,
     name: usize,
@@ -153,7 +154,7 @@ fn expand_both(text: &[u8], styles: Target, uses: Target) {
 
 // The arguments that name a text's file, the one for channel 4 and the one for the report, 0 where there is none; and whether that is what
 // the arguments say.
-#[derive(Drop)]
+#[derive(Clone, Copy)]
 struct Names {
     right: bool,
     file: usize,

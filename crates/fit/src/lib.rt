@@ -2,6 +2,7 @@
 // no place twice (document 02, ticket 3). A dead place, which was found to lead nowhere, is marked by its bit in a lent row.
 // first_reading asks that a tree stands at the front of the row of nodes, that the line's first `end` bytes are there, and that the lent row has a
 // bit for each place. `&[Node]` is not covered by the checker's own account of a function: the five searches and first_reading are proved by walks.
+#![tactic(auto)]
 ghost use Rattle.std.specs.Prelude.{◌≡◌, ◌+◌, ◌*◌, ◌^◌, ◌<◌, ◌≤◌, length, take};
 ghost use Rattle.model.specs.Limits.{line_most, nodes_most};
 ghost use Rattle.model.specs.Children.{element_of};
@@ -249,7 +250,7 @@ fn search_atom(
 
 // What a line is: a call of a template, with where each piece starts and its length, or no call; how many places were taken up; and how
 // many bytes were read.
-#[derive(Drop)]
+#[derive(Clone, Copy)]
 pub struct Choice {
     pub found: bool,
     pub template: usize,

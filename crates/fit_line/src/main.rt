@@ -1,6 +1,7 @@
 // Fits each line of a file against the templates of a text: number, template's line, then start and length of nine pieces. Both files are
 // read before anything is printed. Nothing else goes to standard output: a file that cannot be read, one of lines that is too large, other
 // arguments and a failed write have a message on standard error.
+#![tactic(auto)]
 ghost use Rattle.std.specs.Prelude.{◌≡◌, ◌≤◌, length};
 ghost use Rattle.model.specs.Printed.{fit_prints};
 

@@ -2,6 +2,7 @@
 // its bytes. Asked is that what the call says lies in the text (`Placed`; start_repeat asks it of the next code line alone, and that
 // there are 50 numbers), and where an iteration is begun, that fewer than four are open; start_pass asks too that its parameter's number
 // is 1 to 9, that its line has at most 200 bytes and that its list of delimiters lies in the text.
+#![tactic(auto)]
 ghost use Rattle.std.specs.Prelude.{◌≡◌, ◌+◌, ◌≤◌, ◌<◌, length};
 ghost use Rattle.model.specs.Text.{part};
 ghost use Rattle.call.specs.Call.{iteration, laid, Placed, Sized, call_numbers, call_bytes};
@@ -38,7 +39,7 @@ const OLD: usize = 7;
 const OLD_VALUES: usize = PARAM_BYTES + LINE_MOST;
 
 // The call after a pass was begun or its iteration ended, where the number is 0; otherwise the number that ends the run.
-#[derive(Drop)]
+#[derive(Clone, Copy)]
 pub struct Passing {
     pub number: usize,
     pub call: Head,

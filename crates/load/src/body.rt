@@ -8,7 +8,7 @@ use model::{CODE_LINES_MOST, Effect, LINE_MOST, Marks, NESTING_MOST};
 use scan::{begins_with, find_byte};
 
 // How a code line stands among the iterations around it.
-#[derive(Drop)]
+#[derive(Clone, Copy)]
 struct Nested {
     // it is malformed or out of place
     wrong: bool,

@@ -5,7 +5,7 @@ use model::{Marks, TEXT_MOST};
 use scan::{Flags, has_byte, read_line, read_marks};
 
 // What a text begins with.
-#[derive(Drop)]
+#[derive(Clone, Copy)]
 pub enum TextHead {
     // 2: it is too large or holds byte 0
     BadText,

@@ -2,6 +2,7 @@
 // The head is tested first: the text's size and bytes, and its flag line. Then the section is read line by line: a macro's
 // template, its code lines, its end. A fault has document 01's number and line: 2 and 3 are the head's, 4 to 7 and 9 a line's,
 // and 8 is the section's that isn't ended.
+#![tactic(auto)]
 mod body;
 mod head;
 mod section;
@@ -18,7 +19,7 @@ use section::load_section;
 
 // What loading comes to. Number 0: the text is loaded; line is its section's last line, the input starts at `input`, the first `count` macros
 // of the table are its macros, and their tree has `nodes` nodes. Any other number is the fault at line.
-#[derive(Drop)]
+#[derive(Clone, Copy)]
 pub struct Loading {
     pub number: usize,
     pub line: usize,
@@ -29,7 +30,7 @@ pub struct Loading {
 }
 
 // How far the macros are read.
-#[derive(Drop)]
+#[derive(Clone, Copy)]
 struct Progress {
     // the macros so far, and the nodes of their tree
     count: usize,
@@ -45,7 +46,7 @@ struct Progress {
 }
 
 // The fault of a line.
-#[derive(Drop)]
+#[derive(Clone, Copy)]
 enum LineFault {
     // 4: a content of a template or a code line is too long
     Long,
@@ -60,7 +61,7 @@ enum LineFault {
 }
 
 // What a line comes to: a fault, more lines, or the section's end.
-#[derive(Drop)]
+#[derive(Clone, Copy)]
 enum Seen {
     Fault(LineFault),
     More(Progress),

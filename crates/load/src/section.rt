@@ -15,7 +15,7 @@ use model::Marks;
 use scan::{begins_with, read_line};
 
 // What a line leads to: more lines, the first of which starts at a place, or the answer.
-#[derive(Drop)]
+#[derive(Clone, Copy)]
 enum Led {
     More(Progress, usize),
     Done(Loading),

@@ -13,7 +13,7 @@ use scan::find_byte;
 use templates::find_place;
 
 // What a template comes to: its fault, or how many nodes the tree has with it and its place in the order of the templates.
-#[derive(Drop)]
+#[derive(Clone, Copy)]
 enum Weighed {
     Fault(LineFault),
     Fits(usize, usize),

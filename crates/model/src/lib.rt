@@ -1,4 +1,5 @@
 // The types that the code shares with its contracts. What document 01 says of them is in specs/.
+#![tactic(auto)]
 
 // Document 01's limits; the limit itself is legal. The bytes of a text.
 pub const TEXT_MOST: usize = 65536;
@@ -57,7 +58,7 @@ pub const LARGEST: Integer = 9223372036854775807;
 pub const DIGITS_MOST: usize = 19;
 
 // The marks of a flag line. Mark 5 is always the byte `0` and is left out.
-#[derive(Drop)]
+#[derive(Clone, Copy)]
 pub struct Marks {
     // mark 1 ends templates and input lines
     pub source: u8,
@@ -76,7 +77,7 @@ pub struct Marks {
 
 // What a code line does to the iterations around the lines after it: it is malformed, leaves them as they are, opens or
 // closes one, or owns the next line as its layout.
-#[derive(Drop)]
+#[derive(Clone, Copy)]
 pub enum Effect {
     Malformed,
     Plain,
@@ -86,7 +87,7 @@ pub enum Effect {
 }
 
 // Where a line is written: channel 0 drops it, 3 is the first output, 4 the second.
-#[derive(Drop)]
+#[derive(Clone, Copy)]
 pub enum Channel {
     Nowhere,
     First,
@@ -94,7 +95,7 @@ pub enum Channel {
 }
 
 // The comparisons of function 6.
-#[derive(Drop)]
+#[derive(Clone, Copy)]
 pub enum Comparison {
     Equal,
     Unequal,
@@ -103,7 +104,7 @@ pub enum Comparison {
 }
 
 // The conversions that put bytes into a built line, by what each brings in of its parameter.
-#[derive(Drop)]
+#[derive(Clone, Copy)]
 pub enum Conversion {
     // ed0, the parameter
     Itself,
@@ -123,7 +124,7 @@ pub enum Conversion {
 
 // What checking a text answers.
 #[repr(C)]
-#[derive(Drop)]
+#[derive(Clone, Copy)]
 pub struct Checked {
     pub number: u64,
     pub line: u64,
@@ -132,7 +133,7 @@ pub struct Checked {
 // What fitting a line answers: the template's line, where each parameter's piece starts and how long it is, how many places were
 // taken up, and how many bytes were read where the next atom was looked for.
 #[repr(C)]
-#[derive(Drop)]
+#[derive(Clone, Copy)]
 pub struct Fitted {
     pub number: u64,
     pub line: u64,
@@ -144,7 +145,7 @@ pub struct Fitted {
 
 // What a run answers: the lengths are of what was written to the output, the second output, the store and the report.
 #[repr(C)]
-#[derive(Drop)]
+#[derive(Clone, Copy)]
 pub struct Ran {
     pub number: u64,
     pub line: u64,

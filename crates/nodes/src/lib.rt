@@ -3,6 +3,7 @@
 // placeholder child is the last one. A node that is read or written has to stand in the row, and who looks for a child is asked that the
 // node's children do, and that they ascend up to the placeholder's key; nothing else is asked.
 // `&[Node]` is not covered by the checker's own account of a function: both looks are proved by walks, and so are node_at and set_node, by hand.
+#![tactic(auto)]
 ghost use Rattle.std.specs.Prelude.{◌≡◌, ◌+◌, ◌<◌, ◌^◌, eqb, length, get_or, set};
 ghost use Rattle.model.specs.Children.{placeholder_key};
 ghost use Rattle.nodes.specs.Rows.{no_node, InRun, ChildFor};
@@ -16,7 +17,7 @@ pub const ROOT_KEY: u16 = 258;
 // A node: the key of its element, its first child and how many children stand from there on, the number of its template, how many
 // elements may follow it, and how many placeholders stand up to and with it.
 #[repr(C)]
-#[derive(Drop)]
+#[derive(Clone, Copy)]
 pub struct Node {
     pub element: u16,
     pub first: u16,

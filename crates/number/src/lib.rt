@@ -1,4 +1,5 @@
 // Values as numbers. A step tests whether its result is in range before it computes it.
+#![tactic(auto)]
 ghost use Rattle.std.specs.Prelude.{◌≡◌, true, ltb, pos, nat_abs, ◌+ℤ◌, ◌-ℤ◌, ◌*ℤ◌, length, drop, ◌+◌, ◌*◌, ◌-◌, ◌≤◌};
 ghost use Rattle.std.specs.Int.Signed.{mag};
 ghost use Rattle.model.specs.Text.{is_digit};
@@ -20,14 +21,14 @@ const CAP: usize = MOST + 2;
 const SMALL: Integer = 2147483648;
 
 // A value, or the fault of an expression without one.
-#[derive(Drop)]
+#[derive(Clone, Copy)]
 pub enum Valued {
     Number(Integer),
     Fault,
 }
 
 // What joins the next value to the value so far.
-#[derive(Drop)]
+#[derive(Clone, Copy)]
 pub enum Step {
     First,
     Negated,
@@ -191,7 +192,7 @@ fn add_digit(amount: usize, b: u8) -> usize
 }
 
 // Digits: the number that they write, as far as CAP, and where they end.
-#[derive(Drop)]
+#[derive(Clone, Copy)]
 pub struct Run {
     pub amount: usize,
     pub end: usize,
@@ -216,7 +217,7 @@ fn read_digits(s: &[u8], at: usize) -> Run
 }
 
 // The number that digits write, or its fault, and where they end.
-#[derive(Drop)]
+#[derive(Clone, Copy)]
 pub struct Numeral {
     pub value: Valued,
     pub end: usize,

@@ -1,5 +1,6 @@
 // What a pass of an iteration takes from the line it goes over (document 01, "A call's code"). The pass has to start
 // in the line or at its end; nothing else is asked.
+#![tactic(auto)]
 ghost use Rattle.std.specs.Prelude.{◌≤◌, ◌<◌, length};
 ghost use Rattle.pass.specs.Pass.{Takes, TakesCharacter, ChoosesFault};
 
@@ -13,7 +14,7 @@ use scan::has_byte;
 pub const NO_DELIMITER: usize = 256;
 
 // What a pass takes: the piece ends before `end`, and the rest starts at `rest`. Not ok: it finds nothing to take.
-#[derive(Drop)]
+#[derive(Clone, Copy)]
 pub struct Taken {
     pub ok: bool,
     pub end: usize,

@@ -1,4 +1,5 @@
 // A text made ready for fitting its lines and for its expansion: loaded into the table of its macros, and its templates' tree built.
+#![tactic(auto)]
 ghost use Rattle.std.specs.Prelude.{◌≡◌, ◌≤◌, length};
 ghost use Rattle.macros.specs.Table.{HasBodies};
 ghost use Rattle.prepare.specs.Prepares.{LoadsAll, Prepares};
@@ -10,7 +11,7 @@ use nodes::Node;
 use tree::build;
 
 // What loading a text comes to, with the table of its macros.
-#[derive(Drop)]
+#[derive(Clone, Copy)]
 pub struct Tables {
     pub loading: Loading,
     pub table: [usize; TABLE_SIZE],

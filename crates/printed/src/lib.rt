@@ -1,5 +1,6 @@
 // What the programs print, byte for byte, in a lent slice. Each function adds bytes from an offset on and answers where they end;
 // every other byte of the slice stays as it was.
+#![tactic(auto)]
 ghost use Rattle.std.specs.Prelude.{◌≡◌, [], ◌∷◌, ◌++◌, ◌+◌, ◌*◌, ◌≤◌, length};
 ghost use Rattle.model.specs.Results.{check_text};
 ghost use Rattle.model.specs.Printed.{spaced, end_row, expand_runs, expand_prints, expand_writes, expand_reports, check_row, piece_row, fit_row, fit_prints};
@@ -69,7 +70,7 @@ fn run_text(text: &[u8], out: &mut [u8], second: &mut [u8], report: &mut [u8]) -
 }
 
 // How many bytes expand prints, how many it writes to channel 4's file, and how many to the report's.
-#[derive(Drop)]
+#[derive(Clone, Copy)]
 pub struct Shown {
     pub printed: usize,
     pub second: usize,

@@ -1,6 +1,7 @@
 // The run of a text that is prepared (document 01, "Events, store and result"): its input is expanded with the caller's fuel into
 // the caller's outputs, the names that were stored are listed in the caller's store, and how often each template was chosen is printed
 // in the caller's report.
+#![tactic(auto)]
 ghost use Rattle.std.specs.Prelude.{◌≡◌, [], ◌≤◌, length};
 ghost use Rattle.model.specs.Load as Load;
 ghost use Rattle.model.specs.Machine as Machine;

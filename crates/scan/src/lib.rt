@@ -1,4 +1,6 @@
 // The bytes, lines and marks of a text, as places in the lent text.
+#![tactic(auto)]
+
 ghost use Rattle.std.specs.Prelude.{◌∷◌, ◌≤◌, ◌<◌, length};
 ghost use Rattle.model.specs.Legal.{operators};
 ghost use Rattle.scan.specs.Lines.{FindsByte, Has, Begins, LineAt, FindsEnd, PassesLine, ContentAt, BeginsMarked, CodeAt, PlainByte, AllPlain, AllDiffer, LegalMarks, MarksAt};
@@ -6,14 +8,14 @@ ghost use Rattle.scan.specs.Lines.{FindsByte, Has, Begins, LineAt, FindsEnd, Pas
 use model::Marks;
 
 // A line, or its content, which starts at a known place: where it ends, and where the next line starts.
-#[derive(Drop)]
+#[derive(Clone, Copy)]
 pub struct Line {
     pub end: usize,
     pub next: usize,
 }
 
 // A body's next code line, if there is one: where its content ends, and where the next line starts.
-#[derive(Drop)]
+#[derive(Clone, Copy)]
 pub struct CodeLine {
     pub there: bool,
     pub end: usize,
@@ -21,7 +23,7 @@ pub struct CodeLine {
 }
 
 // What a flag line holds.
-#[derive(Drop)]
+#[derive(Clone, Copy)]
 pub enum Flags {
     Legal(Marks),
     Fault,

@@ -1,5 +1,6 @@
 // What a program reads: a whole descriptor or a whole file into a lent buffer, with a failed read told from the end; what its arguments
 // are; and its messages about files.
+#![tactic(auto)]
 ghost use Rattle.std.specs.Prelude.{◌≡◌, true, false, [], ◌∷◌, ◌+◌, ◌≤◌, length};
 ghost use Rattle.model.specs.Text.{same, starts_with};
 ghost use Rattle.source.specs.Answer.{got_of};
@@ -7,7 +8,7 @@ ghost use Rattle.source.specs.Answer.{got_of};
 use libc::STDERR_FILENO;
 
 // How many bytes were read, and whether no read failed. A length that is all of the buffer says that there may be more.
-#[derive(Drop)]
+#[derive(Clone, Copy)]
 pub struct Got {
     pub ok: bool,
     pub length: usize,

@@ -1,6 +1,7 @@
 // Stored names and their texts, in lent memory of 8,704 bytes: 8,192 for names and texts, and two for the lengths of each
 // of 256 entries. An entry is a byte with the name's length, one with the text's, the name and the text. Entries stand in
 // the order in which their names were first stored, with nothing between them.
+#![tactic(auto)]
 ghost use Rattle.std.specs.Prelude.{◌≡◌, [], ◌+◌, ◌≤◌, ◌<◌, length, get_or};
 ghost use Rattle.store.specs.Memory.{held, Kept, Holds};
 ghost use Rattle.store.specs.Seek.{EntryAt, Locates, SeeksName};
@@ -11,14 +12,14 @@ ghost use Rattle.model.specs.Limits.{store_least};
 use model::{MEMORY_MOST, NAMES_MOST};
 
 // How many entries there are, and how many bytes they take.
-#[derive(Drop)]
+#[derive(Clone, Copy)]
 pub struct Index {
     pub count: usize,
     pub used: usize,
 }
 
 // Whether a name is stored, and where its text lies: a part with no byte where it is not.
-#[derive(Drop)]
+#[derive(Clone, Copy)]
 pub struct Seen {
     pub there: bool,
     pub at: usize,
@@ -26,21 +27,21 @@ pub struct Seen {
 }
 
 // The index after a text was stored, or no room for it.
-#[derive(Drop)]
+#[derive(Clone, Copy)]
 pub enum Stored {
     Now(Index),
     Full,
 }
 
 // Where an entry begins.
-#[derive(Drop)]
+#[derive(Clone, Copy)]
 enum Place {
     At(usize),
     Nowhere,
 }
 
 // Where an entry's name and its text begin, and the next entry.
-#[derive(Drop)]
+#[derive(Clone, Copy)]
 struct Bounds {
     name: usize,
     text: usize,
@@ -48,7 +49,7 @@ struct Bounds {
 }
 
 // A part of memory.
-#[derive(Drop)]
+#[derive(Clone, Copy)]
 struct Part {
     from: usize,
     to: usize,

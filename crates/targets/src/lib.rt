@@ -1,11 +1,12 @@
 // Files that a program writes: each is named by an argument, opened before anything is run, and written whole.
+#![tactic(auto)]
 ghost use mathlib.Core.Path.{◌≡◌};
 
 use source::tell;
 
 // A file that is to be written: the argument that names it, or 0 where there is none; and the descriptor that is open for it. It is not
 // right where the file cannot be opened.
-#[derive(Drop)]
+#[derive(Clone, Copy)]
 pub struct Target {
     pub right: bool,
     pub name: usize,

@@ -1,5 +1,6 @@
 // The templates that the table of macros holds, in the order of their keys: where a new one goes and how many beginnings it adds, and
 // the runs of those that have one key at a place.
+#![tactic(auto)]
 ghost use Rattle.std.specs.Prelude.{◌≡◌, ◌+◌, ◌≤◌, ◌<◌, max, min, length, eqb};
 ghost use Rattle.model.specs.Text.{part};
 ghost use Rattle.model.specs.Children.{placeholder_key};
@@ -74,7 +75,7 @@ fn stands_before(mark: u8, text: &[u8], a: usize, la: usize, b: usize, lb: usize
 }
 
 // Where a template goes in the order of others, and how many beginnings it has that none of them has: 0 where it is one of them.
-#[derive(Drop)]
+#[derive(Clone, Copy)]
 pub struct Found {
     pub place: usize,
     pub new: usize,
@@ -132,7 +133,7 @@ fn key_in_order(mark: u8, text: &[u8], table: &[usize], n: usize, place: usize, 
 
 // Templates that stand next to each other in the order and have one key at a place: their key, the first of them in the text, and their
 // places in the order.
-#[derive(Drop)]
+#[derive(Clone, Copy)]
 pub struct Pick {
     pub key: u16,
     pub template: usize,

@@ -1,6 +1,7 @@
 // The value of a text as an expression. An expression, a product and an operand are each read through the next, in a cycle
 // of calls over the bytes left; sums and products are loops, so only brackets nest calls.
 // `value` asks that the index fits memory (`Kept`), and nothing of the text.
+#![tactic(auto)]
 ghost use Rattle.std.specs.Prelude.{◌≡◌, true, false, ◌+◌, ◌*◌, ◌-◌, ◌≤◌, ◌<◌, length, get_or, drop};
 ghost use Rattle.model.specs.Text.{is_digit};
 ghost use Rattle.model.specs.Store.{find};
@@ -15,14 +16,14 @@ use number::{Step, Valued};
 use store::Index;
 
 // How a sum or a product goes on: by a step with the value at an offset, or not, and the bytes after it are at an offset.
-#[derive(Drop)]
+#[derive(Clone, Copy)]
 pub enum Join {
     Go(Step, usize),
     Done(usize),
 }
 
 // What an operand begins with.
-#[derive(Drop)]
+#[derive(Clone, Copy)]
 pub enum Lead {
     Digits,
     Bracket(usize),
@@ -31,7 +32,7 @@ pub enum Lead {
 }
 
 // A value and the offset after it, or none.
-#[derive(Drop)]
+#[derive(Clone, Copy)]
 pub enum Parsed {
     Value(Integer, usize),
     Failed,

@@ -1,6 +1,7 @@
 // Writes each line of standard input with its value as an expression, or with the number of the fault. A line that holds `=`
 // stores what follows it under the name before it. The lines are the documents' examples, the readings of
 // them, and the ends of the range for each step and each kind of operand.
+#![tactic(auto)]
 ghost use Rattle.store.specs.Memory.{Kept};
 
 use libc::{STDIN_FILENO, STDOUT_FILENO};

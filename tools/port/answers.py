@@ -1,0 +1,190 @@
+#!/usr/bin/env python3
+"""Turns proofs that tie each goal by hand, proofs/F/Proof.antt, to Invariants.antt and Answers.antt, in the crates that are named.
+usage: python3 tools/port/answers.py CRATE.., at the top of the repository, where the sources of each crate are accepted.
+
+The old and the new name of each goal and step are what rt check --generated DIR --old-names says. An answer that is only `search rules` goes,
+since the check tries that itself; a path `c.before.before.f.ensures` becomes `c.f.ensures`. What is not understood is said and left."""
+
+import json
+import os
+import re
+import subprocess
+import sys
+import tempfile
+
+TRIVIAL = {"search rules", "search needs"}
+
+
+def norm(name):
+    return re.sub(r"-?(\d+)$", r"\1", name.replace("_", "-").replace("overflow-", ""))
+
+
+def names_of(crate):
+    with tempfile.TemporaryDirectory() as to:
+        r = subprocess.run(["rt", "check", "--generated", to, "--old-names"], cwd=f"crates/{crate}", capture_output=True, text=True)
+        path = os.path.join(to, "names.json")
+        if not os.path.exists(path):
+            print("\n".join(l for l in (r.stdout + r.stderr).split("\n") if "has a line that is not read" not in l)[:3000])
+            return None
+        with open(path) as f:
+            return json.load(f)
+
+
+def declarations(text):
+    """The head comment, the use lines and the declarations of a file: (name, type, other lines)."""
+    head, uses, found, comment = [], [], [], []
+    for line in text.split("\n"):
+        m = re.match(r"(?:pub )?(abbrev )?(?:pub )?([^\s:{}()]+) : (.*)$", line)
+        if line.startswith("use "):
+            uses.append(line)
+        elif m:
+            found.append({"name": m[2], "type": m[3], "body": [], "comment": comment, "abbrev": bool(m[1])})
+            comment = []
+        elif line.startswith("--"):
+            (comment if uses or found else head).append(line)
+        elif found and (line.strip() or found[-1]["body"]):
+            found[-1]["body"].append(line)
+    for d in found:
+        while d["body"] and not d["body"][-1].strip():
+            d["body"].pop()
+    return head, uses, found
+
+
+class Folder:
+    def __init__(self, crate, path, facts):
+        self.crate, self.path, self.facts, self.said = crate, path, facts, []
+        inside = os.path.relpath(path, f"crates/{crate}/proofs").split("/")
+        self.module = ".".join([f"Rattle.{crate}.proofs", *inside])
+        self.places = {p[0]: p for p in facts["places"]}
+        self.needs = {}
+        for (old, new), (at, _) in zip(facts["needs"], facts["asked_at"]):
+            self.needs.setdefault(norm(old), (new, at))
+
+    def step(self, at, field):
+        """The new name of a step that stands at a place."""
+        place = self.places.get(at)
+        if place and place[2][0] and norm(place[2][0]) == norm(field):
+            return place[2][1]
+        return None
+
+    def flat(self, text, at):
+        def one(m):
+            here, path = at, m[1].split(".")[1:]
+            while path and path[0] == "before":
+                path.pop(0)
+                if here is not None and here in self.places:
+                    here = self.places[here][1]
+            if not path:
+                return "c"
+            new = self.step(here, path[0]) if here else None
+            if new is None:
+                for place in self.places:
+                    if self.step(place, path[0]) and path[0] not in ("args", "requires", "ranges"):
+                        new = self.step(place, path[0])
+                        break
+            if new is None and path[0] not in ("args", "requires", "ranges", "invariant"):
+                self.said.append(f"step {m[0]}")
+            path[0] = new or path[0]
+            return ".".join(["c", *path])
+        return re.sub(r"(?<![\w'.-])c((?:\.[\w'-]+)+)", one, text)
+
+    def invariants(self, found):
+        out = []
+        for d in found:
+            m = re.match(r"tie\.(invariant|decreases)-(\S+)$", d["type"])
+            if not m:
+                continue
+            for ((old, new), variables), changed in zip(self.facts["loops"], self.facts["changed"]):
+                if norm(old) == norm(m[2]):
+                    break
+            else:
+                self.said.append(f"loop {m[2]}")
+                continue
+            first = d["body"][0]
+            left, right = first.split(" =", 1)
+            params = left.split()[1:]
+            to = {}
+            for v, c, p in zip(variables, changed, params):
+                to[p] = f"l.initial.{v}" if c else f"l.{v}"
+            for v, p in zip([v for v, c in zip(variables, changed) if c], params[len(variables):]):
+                to[p] = f"l.{v}"
+            body = "\n".join([right.strip(), *d["body"][1:]]).strip()
+            body = re.sub(r"(?<![\w'.\-])([A-Za-z_][\w'\-₀-₉]*)", lambda w: to.get(w[1], w[1]), body)
+            word = "invariant" if m[1] == "invariant" else "decreases"
+            out.append((d["comment"], f"abbrev pub {word}-{new} : goal.{word}-{new}\n{word}-{new} l =" + ("\n    " + body if "\n" in body else " " + body)))
+        return out
+
+    def answers(self, found):
+        kept, helpers, local = [], [], {}
+        for d in found:
+            m = re.match(r"tie\.Need-(\S+)(.*)$", d["type"])
+            if m:
+                hit = self.needs.get(norm(m[1])) or self.needs.get(norm(d["name"]))
+                if not hit:
+                    self.said.append(f"goal {m[1]}")
+                    continue
+                local[d["name"]] = (d, *hit)
+            elif not re.match(r"tie\.", d["type"]) and not d["name"].endswith("spec"):
+                helpers.append(d)
+        cited = {n for n in local for d in found if d["name"] != n and not d["name"].endswith("spec") and re.search(rf"(?<![\w'.\-]){re.escape(n)}(?![\w'\-])", "\n".join(d["body"]))}
+        for name, (d, new, at) in local.items():
+            body = [l for l in d["body"]]
+            head = [l for l in body if l.startswith("unfolding")]
+            rest = [l for l in body if not l.startswith("unfolding")]
+            text = "\n".join(rest)
+            left, right = text.split("=", 1)
+            right = right.strip("\n").strip() if "\n" not in right.strip() else right.strip()
+            if right in TRIVIAL and not head and name not in cited:
+                continue
+            right = self.flat(right, at)
+            for other, (_, o, _) in local.items():
+                right = re.sub(rf"(?<![\w'.\-]){re.escape(other)}(?= c)", o, right)
+            joint = "\n    " if "\n" in right else " "
+            lines = [f"pub {new} : goal.{new}", *head, f"{new} c ={joint}{right}"]
+            kept.append((d["comment"], "\n".join(lines)))
+        return helpers, kept
+
+
+def turn(crate):
+    names = names_of(crate)
+    if names is None:
+        return
+    for folder, dirs, files in sorted(os.walk(f"crates/{crate}/proofs")):
+        if "Proof.antt" not in files:
+            continue
+        path = os.path.join(folder, "Proof.antt")
+        with open(path, encoding="utf-8") as f:
+            text = f.read()
+        if "tie.close" not in text:
+            print(f"left: {path}: no tie")
+            continue
+        inside = os.path.relpath(folder, f"crates/{crate}/proofs").replace("/", ".")
+        facts = names.get(f"Rattle-{crate}-proofs.{inside}.Lts")
+        if facts is None:
+            print(f"left: {path}: no names ({[k for k in names if inside.split('.')[-1] in k]})")
+            continue
+        it = Folder(crate, folder, facts)
+        head, uses, found = declarations(text)
+        uses = [u for u in uses if not re.search(r"\.(Tie|Statement)(\.\{| as )", u)]
+        invariants = it.invariants(found)
+        helpers, kept = it.answers(found)
+        os.remove(path)
+        if invariants:
+            write(folder, "Invariants", head, uses, f"use {it.module}.Given as goal", invariants)
+        if kept:
+            items = [(d["comment"], "\n".join([f"{d['name']} : {d['type']}", *d["body"]])) for d in helpers]
+            write(folder, "Answers", head, uses, f"use {it.module}.Goals as goal", items + kept)
+        if not os.listdir(folder):
+            os.rmdir(folder)
+        for s in it.said:
+            print(f"look: {folder}: {s}")
+
+
+def write(folder, name, head, uses, goal, items):
+    parts = ["\n".join([*head, *uses, goal])] + ["\n".join([*comment, text]) for comment, text in items]
+    with open(os.path.join(folder, name + ".antt"), "w", encoding="utf-8") as f:
+        f.write("\n\n".join(parts) + "\n")
+
+
+for crate in sys.argv[1:]:
+    turn(crate)
