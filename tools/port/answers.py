@@ -56,6 +56,7 @@ class Folder:
         inside = os.path.relpath(path, f"crates/{crate}/proofs").split("/")
         self.module = ".".join([f"Rattle.{crate}.proofs", *inside])
         self.places = {p[0]: p for p in facts["places"]}
+        self.arms = {p[0]: a for p, a in zip(facts["places"], facts["arms"]) if a}
         self.needs = {}
         for (old, new), (at, _) in zip(facts["needs"], facts["asked_at"]):
             self.needs.setdefault(norm(old), (new, at))
@@ -67,6 +68,16 @@ class Folder:
             return place[2][1]
         return None
 
+    def arm(self, here, path):
+        """A field of an arm of a match, by the old step and the path behind it: at this place, or else at any."""
+        for at in [here, *self.arms]:
+            if at in self.arms:
+                name, _, fields = self.arms[at]
+                for new, old, rest in fields:
+                    if rest and norm(old) == norm(path[0]) and path[1:1 + len(rest)] == rest:
+                        return ".".join(["c", name, new, *path[1 + len(rest):]])
+        return None
+
     def flat(self, text, at):
         def one(m):
             here, path = at, m[1].split(".")[1:]
@@ -76,6 +87,9 @@ class Folder:
                     here = self.places[here][1]
             if not path:
                 return "c"
+            arm = self.arm(here, path)
+            if arm:
+                return arm
             new = self.step(here, path[0]) if here else None
             if new is None:
                 for place in self.places:
