@@ -51,6 +51,32 @@ def declarations(text):
     return head, uses, found
 
 
+def clauses_of(crate):
+    """For each function of a crate the names of its clauses, where a kind has two or more."""
+    found = {}
+    for folder, _, files in os.walk(f"crates/{crate}/src"):
+        for f in files:
+            if f.endswith(".rt"):
+                with open(os.path.join(folder, f), encoding="utf-8") as it:
+                    text = it.read()
+                for m in re.finditer(r"(?m)^\s*(?:pub )?fn (\w+).*?^\s*\{$", text, re.S):
+                    kinds = re.findall(r"(?m)^\s+(requires|ensures)(?: (\w+))? \{", m[0])
+                    found[m[1]] = {k: [n for kind, n in kinds if kind == k] for k in ("requires", "ensures")}
+    return found
+
+
+def by_name(path, names):
+    """A path into clauses that were a nested pair, by the clauses' names: .0 is the first, .1 the others."""
+    if len(names) < 2:
+        return path
+    left = list(names)
+    while path and path[0] in ("0", "1") and len(left) > 1:
+        if path[0] == "0":
+            return [left[0], *path[1:]]
+        left, path = left[1:], path[1:]
+    return [left[0], *path] if len(left) == 1 else None
+
+
 class Folder:
     def __init__(self, crate, path, facts):
         self.crate, self.path, self.facts, self.said = crate, path, facts, []
@@ -58,6 +84,7 @@ class Folder:
         self.module = ".".join([f"Rattle.{crate}.proofs", *inside])
         self.places = {p[0]: p for p in facts["places"]}
         self.arms = {p[0]: a for p, a in zip(facts["places"], facts["arms"]) if a}
+        self.clauses = {}
         self.needs = {}
         for (old, new), (at, _) in zip(facts["needs"], facts["asked_at"]):
             self.needs.setdefault(norm(old), (new, at))
@@ -68,6 +95,11 @@ class Folder:
         if place and place[2][0] and norm(place[2][0]) == norm(field):
             return place[2][1]
         return None
+
+    def named(self, crate, function, kind):
+        if crate not in self.clauses:
+            self.clauses[crate] = clauses_of(crate)
+        return self.clauses[crate].get(function, {}).get(kind, [])
 
     def arm(self, here, path):
         """A field of an arm of a match, by the old step and the path behind it: at this place, or else at any."""
@@ -105,6 +137,19 @@ class Folder:
             if new is None and path[0] not in ("args", "requires", "ranges", "invariant"):
                 self.said.append(f"step {m[0]}")
             path[0] = new or path[0]
+            names, rest = [], None
+            if path[0] == "requires":
+                names, rest = self.named(self.crate, inside_last(self.path), "requires"), 1
+            elif path[1:2] == ["ensures"]:
+                callee = next((p[3] for p in self.facts["places"] if p[2][1] == path[0] and p[3]), None)
+                if callee:
+                    names, rest = self.named(callee.split("::")[0], callee.split("::")[-1], "ensures"), 2
+            if names and path[rest:]:
+                to = by_name(path[rest:], names)
+                if to is None:
+                    self.said.append(f"clauses {m[0]}: {names}")
+                else:
+                    path[rest:] = to
             return ".".join(["c", *path])
         return re.sub(r"(?<![\w'.-])c((?:\.[\w'-]+)+)", one, text)
 
@@ -204,6 +249,10 @@ def write(folder, name, head, uses, goal, items):
     parts = ["\n".join([*head, *uses, goal])] + ["\n".join([*comment, text]) for comment, text in items]
     with open(os.path.join(folder, name + ".antt"), "w", encoding="utf-8") as f:
         f.write("\n\n".join(parts) + "\n")
+
+
+def inside_last(path):
+    return path.rstrip("/").split("/")[-1]
 
 
 def parts(text):
