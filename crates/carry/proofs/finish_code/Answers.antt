@@ -9,20 +9,27 @@ assign-requires c = search (assign_parameter, rules)
 
 pub begin_passes-requires : goal.begin_passes-requires
 begin_passes-requires c =
-    let pre = c.requires in
-    let ready = pre.1.1 in
+    let ready = c.requires.placed.1 in
     let e = c.in-Iterate.is in
-    ((pre.1.0, iterate_depth ready e), ((iterate_parameter ready e, (ready.short, ready.long)), (iterate_within ready e, ready.within)))
+    record {
+      placed = (c.requires.placed.0, iterate_depth ready e);
+      parameter = (iterate_parameter ready e, (ready.short, ready.long));
+      list_le_to = (iterate_within ready e, ready.within);
+    }
 
 pub copy_input-requires : goal.copy_input-requires
 copy_input-requires c =
     let pre = c.requires in
-    (pre.1.0, copy-ready pre.0)
+    (pre.placed.0, copy-ready pre.sound)
 
 pub repeat-requires : goal.repeat-requires
 repeat-requires c =
     let pre = c.requires in
-    ((pre.1.0.next, pre.1.0.nums, repeat_depth pre.1.1 (search rules)), (pre.0.kept, search rules))
+    let placed = pre.placed.0 in
+    record {
+      next_in_bounds = (placed.next, placed.nums, repeat_depth pre.placed.1 (search rules));
+      kept = (pre.sound.kept, search rules);
+    }
 
 pub returns-in-Offer : goal.returns-in-Offer
 returns-in-Offer c = search (ends_offer, rules)
@@ -33,7 +40,7 @@ returns-in-Assign c = search (ends_assign, rules)
 pub returns-in-Iterate : goal.returns-in-Iterate
 returns-in-Iterate c =
     let pre = c.requires in
-    ends_iterate pre.0 pre.1.0 c.in-Iterate.is c.begin_passes.ensures
+    ends_iterate pre.sound pre.placed.0 c.in-Iterate.is c.begin_passes.ensures
 
 pub returns-in-Stop : goal.returns-in-Stop
 returns-in-Stop c = search (ends_stop, rules)
@@ -44,49 +51,33 @@ returns-in-Write c = search (ends_write, rules)
 pub returns-in-Layout : goal.returns-in-Layout
 returns-in-Layout c =
     let pre = c.requires in
-    ends_layout pre.0 pre.1.0 c.in-Layout.is c.write_layout_line.ensures
+    ends_layout pre.sound pre.placed.0 c.in-Layout.is c.write_layout_line.ensures
 
 pub returns-in-Copy : goal.returns-in-Copy
 returns-in-Copy c =
     let pre = c.requires in
-    ends_copy pre.0 pre.1.0 c.in-Copy.is c.copy_input.ensures
+    ends_copy pre.sound pre.placed.0 c.in-Copy.is c.copy_input.ensures
 
 pub returns-in-Save : goal.returns-in-Save
-returns-in-Save c =
-    let pre = c.requires in
-    search (ends_save, rules)
+returns-in-Save c = search (ends_save, rules)
 
 pub returns-in-Skip : goal.returns-in-Skip
-returns-in-Skip c =
-    let pre = c.requires in
-    search (ends_skip, rules)
+returns-in-Skip c = search (ends_skip, rules)
 
 pub returns-in-SkipText : goal.returns-in-SkipText
-returns-in-SkipText c =
-    let pre = c.requires in
-    search (ends_text, rules)
+returns-in-SkipText c = search (ends_text, rules)
 
 pub returns-in-SkipValue : goal.returns-in-SkipValue
-returns-in-SkipValue c =
-    let pre = c.requires in
-    search (ends_value, rules)
+returns-in-SkipValue c = search (ends_value, rules)
 
 pub returns-in-Repeat : goal.returns-in-Repeat
-returns-in-Repeat c =
-    let pre = c.requires in
-    search (ends_repeat, rules)
+returns-in-Repeat c = search (ends_repeat, rules)
 
 pub returns-in-Again : goal.returns-in-Again
-returns-in-Again c =
-    let pre = c.requires in
-    search (ends_again, rules)
+returns-in-Again c = search (ends_again, rules)
 
 pub returns-in-Leave : goal.returns-in-Leave
-returns-in-Leave c =
-    let pre = c.requires in
-    search (ends_leave, rules)
+returns-in-Leave c = search (ends_leave, rules)
 
 pub returns-in-Malformed : goal.returns-in-Malformed
-returns-in-Malformed c =
-    let pre = c.requires in
-    search (ends_malformed, rules)
+returns-in-Malformed c = search (ends_malformed, rules)

@@ -1,6 +1,5 @@
 -- step leaves the call where no code line is left, ends the run where no fuel is left, and else counts the event and moves the call before its code line is
 -- carried out.
-use borrow.Author.Rules.{rules}
 use borrow.Author.Tests.{not-true, not-false}
 use native.Mathlib.Nat.{pos_of_ne-zero}
 use native.Mathlib.Omega.{arith}
@@ -22,13 +21,12 @@ carry-requires c =
     let pre = c.requires in
     let code = c.read_code-line.ensures in
     let moves = c.move_to-moved.ensures in
-    let some_fuel = pos_of_ne-zero c.if-s-eq0.false in (
-      (code.low, omega (arith, code.high, code.within), pre.2),
-      (
-        (counted_sound pre.0 some_fuel c.count_event-counted.ensures, moves.placed _ _ _ pre.1.placed code.within),
-        few_open pre.1 code (not-false _ c.if-not-line.false) moves,
-      ),
-    )
+    let some_fuel = pos_of_ne-zero c.if-s-eq0.false in
+    record {
+      at_le_to = (code.low, omega (arith, code.high, code.within), pre.2);
+      sound = (counted_sound pre.0 some_fuel c.count_event-counted.ensures, moves.placed _ _ _ pre.1.placed code.within);
+      depth_lt_nesting_most = few_open pre.1 code (not-false _ c.if-not-line.false) moves;
+    }
 
 pub returns : goal.returns
 returns c =
