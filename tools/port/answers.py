@@ -1,6 +1,7 @@
 #!/usr/bin/env python3
 """Turns proofs that tie each goal by hand, proofs/F/Proof.antt, to Invariants.antt and Answers.antt, in the crates that are named.
-usage: python3 tools/port/answers.py CRATE.., at the top of the repository, where the sources of each crate are accepted.
+usage: python3 tools/port/answers.py [mend] CRATE.., at the top of the repository, where the sources of each crate are accepted; mend, once they
+are turned, lets it mend what the check says of tuples for clauses that have names now.
 
 The old and the new name of each goal and step are what rt check --generated DIR --old-names says. An answer that is only `search rules` goes,
 since the check tries that itself; a path `c.before.before.f.ensures` becomes `c.f.ensures`. What is not understood is said and left."""
@@ -50,6 +51,32 @@ def declarations(text):
     return head, uses, found
 
 
+def clauses_of(crate):
+    """For each function of a crate the names of its clauses, where a kind has two or more."""
+    found = {}
+    for folder, _, files in os.walk(f"crates/{crate}/src"):
+        for f in files:
+            if f.endswith(".rt"):
+                with open(os.path.join(folder, f), encoding="utf-8") as it:
+                    text = it.read()
+                for m in re.finditer(r"(?m)^\s*(?:pub )?fn (\w+).*?^\s*\{$", text, re.S):
+                    kinds = re.findall(r"(?m)^\s+(requires|ensures)(?: (\w+))? \{", m[0])
+                    found[m[1]] = {k: [n for kind, n in kinds if kind == k] for k in ("requires", "ensures")}
+    return found
+
+
+def by_name(path, names):
+    """A path into clauses that were a nested pair, by the clauses' names: .0 is the first, .1 the others."""
+    if len(names) < 2:
+        return path
+    left = list(names)
+    while path and path[0] in ("0", "1") and len(left) > 1:
+        if path[0] == "0":
+            return [left[0], *path[1:]]
+        left, path = left[1:], path[1:]
+    return [left[0], *path] if len(left) == 1 else None
+
+
 class Folder:
     def __init__(self, crate, path, facts):
         self.crate, self.path, self.facts, self.said = crate, path, facts, []
@@ -57,6 +84,7 @@ class Folder:
         self.module = ".".join([f"Rattle.{crate}.proofs", *inside])
         self.places = {p[0]: p for p in facts["places"]}
         self.arms = {p[0]: a for p, a in zip(facts["places"], facts["arms"]) if a}
+        self.clauses = {}
         self.needs = {}
         for (old, new), (at, _) in zip(facts["needs"], facts["asked_at"]):
             self.needs.setdefault(norm(old), (new, at))
@@ -67,6 +95,11 @@ class Folder:
         if place and place[2][0] and norm(place[2][0]) == norm(field):
             return place[2][1]
         return None
+
+    def named(self, crate, function, kind):
+        if crate not in self.clauses:
+            self.clauses[crate] = clauses_of(crate)
+        return self.clauses[crate].get(function, {}).get(kind, [])
 
     def arm(self, here, path):
         """A field of an arm of a match, by the old step and the path behind it: at this place, or else at any."""
@@ -79,6 +112,11 @@ class Folder:
         return None
 
     def flat(self, text, at):
+        while True:
+            m = re.search(r"let (\w+) = (c(?:\.before)*) in\s*", text)
+            if not m:
+                break
+            text = text[:m.start()] + re.sub(rf"(?<![\w'.-]){m[1]}(?=\.)", m[2], text[m.end():])
         def one(m):
             here, path = at, m[1].split(".")[1:]
             while path and path[0] == "before":
@@ -99,6 +137,19 @@ class Folder:
             if new is None and path[0] not in ("args", "requires", "ranges", "invariant"):
                 self.said.append(f"step {m[0]}")
             path[0] = new or path[0]
+            names, rest = [], None
+            if path[0] == "requires":
+                names, rest = self.named(self.crate, inside_last(self.path), "requires"), 1
+            elif path[1:2] == ["ensures"]:
+                callee = next((p[3] for p in self.facts["places"] if p[2][1] == path[0] and p[3]), None)
+                if callee:
+                    names, rest = self.named(callee.split("::")[0], callee.split("::")[-1], "ensures"), 2
+            if names and path[rest:]:
+                to = by_name(path[rest:], names)
+                if to is None:
+                    self.said.append(f"clauses {m[0]}: {names}")
+                else:
+                    path[rest:] = to
             return ".".join(["c", *path])
         return re.sub(r"(?<![\w'.-])c((?:\.[\w'-]+)+)", one, text)
 
@@ -200,5 +251,71 @@ def write(folder, name, head, uses, goal, items):
         f.write("\n\n".join(parts) + "\n")
 
 
-for crate in sys.argv[1:]:
-    turn(crate)
+def inside_last(path):
+    return path.rstrip("/").split("/")[-1]
+
+
+def parts(text):
+    """The parts of a tuple, those of a last part that is a tuple too in their row; or None."""
+    text = text.strip()
+    if not (text.startswith("(") and text.endswith(")")):
+        return None
+    found, deep, start = [], 0, 1
+    for i, ch in enumerate(text):
+        deep += (ch in "([{") - (ch in ")]}")
+        if deep == 0 and i < len(text) - 1:
+            return None
+        if (ch == "," and deep == 1) or i == len(text) - 1:
+            found.append(text[start:i].strip())
+            start = i + 1
+    return found
+
+
+def named(text, fields):
+    found = parts(text)
+    while found and len(found) < len(fields) and parts(found[-1]):
+        found = found[:-1] + parts(found[-1])
+    if not found or len(found) != len(fields):
+        return None
+    return "record { " + "; ".join(f"{f} = {p}" for f, p in zip(fields, found)) + " }"
+
+
+def mend(crate):
+    """Mends what a check says of tuples where clauses have names now, and of the slices that keep their length."""
+    r = subprocess.run(["rt", "check"], cwd=f"crates/{crate}", capture_output=True, text=True)
+    lines = (r.stdout + r.stderr).split("\n")
+    for line, after in zip(lines, lines[1:] + [""]):
+        m = re.match(r"\./(proofs/\S+\.antt):(\d+):(\d+): error: `([^`]+)`: (.*)", line)
+        if not m:
+            continue
+        path = f"crates/{crate}/{m[1]}"
+        with open(path, encoding="utf-8") as f:
+            text = f.read()
+        said = m[5] + " " + after
+        tuple_ = re.search(r"is built with `record \{ (.*?) \}`", said)
+        field = re.search(r"has no field `(\d)` — the fields that can be named here are (`\w+`(?:, `\w+`)*)", said)
+        answer = re.search(rf"(?m)^{re.escape(m[4])} ((?:t )?c) =\s*", text)
+        if not answer:
+            continue
+        end = text.find("\n\n", answer.end())
+        end = len(text) if end < 0 else end
+        body = text[answer.end():end].rstrip("\n")
+        new = None
+        if tuple_:
+            new = named(body, re.findall(r"(\w+) = …", tuple_[1]))
+        elif field:
+            names = re.findall(r"`(\w+)`", field[2])
+            if int(field[1]) < len(names):
+                new = re.sub(rf"\.auto\.{field[1]}(?!\w)", f".auto.{names[int(field[1])]}", body)
+        if new and new != body:
+            with open(path, "w", encoding="utf-8") as f:
+                f.write(text[:answer.end()] + new + text[answer.end() + len(body):])
+            print(f"mended: {path}: {m[4]}")
+
+
+if sys.argv[1:2] == ["mend"]:
+    for crate in sys.argv[2:]:
+        mend(crate)
+else:
+    for crate in sys.argv[1:]:
+        turn(crate)

@@ -1,6 +1,7 @@
 // The atoms of a line (document 01, "Fitting a line"). Of the marks they ask for the two brackets alone: whoever looks for many atoms
 // hands on two bytes, and not all marks. No public function has a `requires`.
 #![tactic(auto)]
+
 ghost use Rattle.std.specs.Prelude.{◌≡◌, ◌<◌, ◌^◌};
 ghost use Rattle.atom.specs.Atoms.{brackets, depth_past, AtomAt};
 

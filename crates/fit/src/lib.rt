@@ -1,8 +1,9 @@
 // The first reading of a line by the templates (document 01, "Fitting a line"): a recursive search over node and position, which takes up
 // no place twice (document 02, ticket 3). A dead place, which was found to lead nowhere, is marked by its bit in a lent row.
 // first_reading asks that a tree stands at the front of the row of nodes, that the line's first `end` bytes are there, and that the lent row has a
-// bit for each place. `&[Node]` is not covered by the checker's own account of a function: the five searches and first_reading are proved by walks.
+// bit for each place. The five searches call one another, and are proved together.
 #![tactic(auto)]
+
 ghost use Rattle.std.specs.Prelude.{◌≡◌, ◌+◌, ◌*◌, ◌^◌, ◌<◌, ◌≤◌, length, take};
 ghost use Rattle.model.specs.Limits.{line_most, nodes_most};
 ghost use Rattle.model.specs.Children.{element_of};
@@ -100,7 +101,7 @@ fn find_atom(left: u8, right: u8, line: &[u8], end: usize, at: usize) -> Scanned
 // The place of the node and the position `at`, in the first `end` bytes of the line: it is taken up unless it is dead, and dead where it
 // leads nowhere. The node's height and what is left of the line fall from search to search. Of the marks the brackets alone go along: a
 // copy of all at each search costs a tenth of the time.
-#[cycle(search_search_atom_search_byte_search_piece_take_up)]
+#[cycle(search)]
 fn search(
     left: u8,
     right: u8,
@@ -129,7 +130,7 @@ fn search(
 }
 
 // From a place by the next byte or the line's end, else by a placeholder, else by an atom more.
-#[cycle(search_search_atom_search_byte_search_piece_take_up)]
+#[cycle(search)]
 fn take_up(
     left: u8,
     right: u8,
@@ -157,7 +158,7 @@ fn take_up(
 }
 
 // To the child for the next byte, or for the template's end.
-#[cycle(search_search_atom_search_byte_search_piece_take_up)]
+#[cycle(search)]
 fn search_byte(
     left: u8,
     right: u8,
@@ -185,7 +186,7 @@ fn search_byte(
 }
 
 // To the placeholder's child, where a piece starts.
-#[cycle(search_search_atom_search_byte_search_piece_take_up)]
+#[cycle(search)]
 fn search_piece(
     left: u8,
     right: u8,
@@ -215,7 +216,7 @@ fn search_piece(
 }
 
 // An atom more in the open piece, if the node is a placeholder's.
-#[cycle(search_search_atom_search_byte_search_piece_take_up)]
+#[cycle(search)]
 fn search_atom(
     left: u8,
     right: u8,

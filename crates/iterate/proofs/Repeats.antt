@@ -12,7 +12,7 @@ use lib.Signed.{lt_z}
 use mir.Val.{SFits}
 use Rattle.model.specs.declared.Marks.{Marks}
 use Rattle.model.specs.Text.{Bytes}
-use Rattle.model.specs.Machine.{Loop, Frame, Shared, continues, param, resume_at, start_repeat, by_count}
+use Rattle.model.specs.Machine.{Loop, Frame, Shared, continues, resume_at, start_repeat, by_count}
 use Rattle.model.proofs.Choices.{false-not-true}
 use Rattle.number.specs.Number.{width}
 use Rattle.number.proofs.Signed.{read_back, told}

@@ -3,6 +3,7 @@
 // template, its code lines, its end. A fault has document 01's number and line: 2 and 3 are the head's, 4 to 7 and 9 a line's,
 // and 8 is the section's that isn't ended.
 #![tactic(auto)]
+
 mod body;
 mod head;
 mod section;

@@ -2,6 +2,7 @@
 // have. The columns say where a macro's template starts in the text, how long the template is, the number of its line, and where
 // its body starts. The last column has the numbers of the macros in the order of their templates' keys.
 #![tactic(auto)]
+
 ghost use Rattle.std.specs.Prelude.{◌≡◌, ◌≤◌, ◌<◌, length};
 ghost use Rattle.model.specs.Limits.{macros_most};
 ghost use Rattle.macros.specs.Table.{table_size, start_in, len_in, line_in, order_in, with_macro, Within, HasBodies, PutsInOrder};

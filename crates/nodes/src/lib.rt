@@ -2,8 +2,8 @@
 // nobody's child. The children of a node stand side by side, in the order of their keys, so one is found by halving their run, and the
 // placeholder child is the last one. A node that is read or written has to stand in the row, and who looks for a child is asked that the
 // node's children do, and that they ascend up to the placeholder's key; nothing else is asked.
-// `&[Node]` is not covered by the checker's own account of a function: both looks are proved by walks, and so are node_at and set_node, by hand.
 #![tactic(auto)]
+
 ghost use Rattle.std.specs.Prelude.{◌≡◌, ◌+◌, ◌<◌, ◌^◌, eqb, length, get_or, set};
 ghost use Rattle.model.specs.Children.{placeholder_key};
 ghost use Rattle.nodes.specs.Rows.{no_node, InRun, ChildFor};

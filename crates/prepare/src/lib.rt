@@ -1,5 +1,6 @@
 // A text made ready for fitting its lines and for its expansion: loaded into the table of its macros, and its templates' tree built.
 #![tactic(auto)]
+
 ghost use Rattle.std.specs.Prelude.{◌≡◌, ◌≤◌, length};
 ghost use Rattle.macros.specs.Table.{HasBodies};
 ghost use Rattle.prepare.specs.Prepares.{LoadsAll, Prepares};

@@ -1,6 +1,7 @@
 // The templates that the table of macros holds, in the order of their keys: where a new one goes and how many beginnings it adds, and
 // the runs of those that have one key at a place.
 #![tactic(auto)]
+
 ghost use Rattle.std.specs.Prelude.{◌≡◌, ◌+◌, ◌≤◌, ◌<◌, max, min, length, eqb};
 ghost use Rattle.model.specs.Text.{part};
 ghost use Rattle.model.specs.Children.{placeholder_key};

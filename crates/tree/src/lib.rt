@@ -2,6 +2,7 @@
 // a run of their order, which the node holds in place of its children until it is given these. Each run of templates that have one key after
 // the node's beginning makes a child, so the children of a node stand side by side in the order of their keys.
 #![tactic(auto)]
+
 ghost use Rattle.std.specs.Prelude.{◌≡◌, ◌+◌, ◌-◌, ◌≤◌, ◌<◌, length, get_or, set, take};
 ghost use Rattle.nodes.specs.Rows.{no_node, elem};
 ghost use Rattle.macros.specs.Table.{templates_in, order_in};

@@ -133,35 +133,34 @@ module _ {s : List ℕ} (L : Level s) (a : ℤ) {j : Join} where
           (wider r' (at + 1) (least_of j') (length s) (omega (arith, place-least j', u.from)) c.ends))
 
 -- The invariant of both loops: what comes of the join j with the value so far comes of F, the whole from `at` on. s is the text, and L
--- the level, a sum's or a product's; every bound above μ is enough for F, and the whole ends from lo on; bits is the value so far, as
--- the code has it.
-pub record Going {s : List ℕ} (L : Level s) (μ lo : ℕ) (F : ℕ → Read) (at bits : ℕ) (j : Join) : Type 0 where
+-- the level, a sum's or a product's; every bound above μ is enough for F, and the whole ends from lo on; so_far is the value up to j.
+pub record Going {s : List ℕ} (L : Level s) (μ lo : ℕ) (F : ℕ → Read) (at : ℕ) (so_far : ℤ) (j : Join) : Type 0 where
   pub from : at ≤ place_of j
   pub upto : place_of j ≤ length s
-  pub gives : (r : Parsed) → From L r (to_z width bits) j → ReadsAbove μ lo s r F
+  pub gives : (r : Parsed) → From L r so_far j → ReadsAbove μ lo s r F
 
-module _ {s : List ℕ} {L : Level s} {μ lo : ℕ} {F : ℕ → Read} {at bits : ℕ} {j : Join} (going : Going L μ lo F at bits j) where
-  pub going_done : {e : ℕ} → j ≡ Done e → ReadsAbove μ lo s (Value (to_z width bits) e) F
-  going_done q = going.gives _ (done L (to_z width bits) q going.upto)
+module _ {s : List ℕ} {L : Level s} {μ lo : ℕ} {F : ℕ → Read} {at : ℕ} {so_far : ℤ} {j : Join} (going : Going L μ lo F at so_far j) where
+  pub going_done : {e : ℕ} → j ≡ Done e → ReadsAbove μ lo s (Value so_far e) F
+  going_done q = going.gives _ (done L so_far q going.upto)
 
   module _ {k : Step} {p : ℕ} (q : j ≡ Go k p) {r : Parsed} (b : Below L r p) where
     pub going_fails : r ≡ Failed → ReadsAbove μ lo s Failed F
-    going_fails e = going.gives _ (fails L (to_z width bits) q b e)
+    going_fails e = going.gives _ (fails L so_far q b e)
 
     module _ {v : ℤ} {e : ℕ} (w : r ≡ Value v e) where
-      pub going_faults : mag v < end → {x : Valued} → Gives x (step_value k (to_z width bits) (to_z width (of_z width v))) → x ≡ Fault → ReadsAbove μ lo s Failed F
-      going_faults in-v made p = going.gives _ (faults L (to_z width bits) q b w in-v made p)
+      pub going_faults : mag v < end → {x : Valued} → Gives x (step_value k so_far (to_z width (of_z width v))) → x ≡ Fault → ReadsAbove μ lo s Failed F
+      going_faults in-v made p = going.gives _ (faults L so_far q b w in-v made p)
 
       -- a turn goes forward
       module _ {j' : Join} (u : Joins s e j' (L.more e)) where
         pub going_less : length s - place_of j' < length s - place_of j
         going_less = omega (arith, placed q, ended_at w b, u.from, u.upto)
 
-        pub going_on : mag v < end → {x : Valued} → Gives x (step_value k (to_z width bits) (to_z width (of_z width v))) → {z : ℤ} → x ≡ Number z → mag z < end → Going L μ lo F at (of_z width z) j'
+        pub going_on : mag v < end → {x : Valued} → Gives x (step_value k so_far (to_z width (of_z width v))) → {z : ℤ} → x ≡ Number z → mag z < end → Going L μ lo F at (to_z width (of_z width z)) j'
         going_on in-v made p in-z = record {
           from = omega (arith, going.from, placed q, ended_at w b, u.from);
           upto = u.upto;
-          gives = λ r' c. going.gives r' (goes_on L (to_z width bits) q b w in-v made p in-z u c);
+          gives = λ r' c. going.gives r' (goes_on L so_far q b w in-v made p in-z u c);
         }
 
 -- ---- what is known of the text at an operand
@@ -268,10 +267,10 @@ module _ (m : Marks) (st : Store) (s : List ℕ) where
   abbrev pub Whole : Parsed → ℕ → Type 0
   Whole r at = ReadsAbove (3 * (length s - at) + 3) at s r (λ n. expression n m st (drop at s))
 
-  abbrev pub Summing : ℕ → ℕ → Join → Type 0
-  Summing at bits j = Going expression_level (3 * (length s - at) + 3) at (λ n. expression n m st (drop at s)) at bits j
+  abbrev pub Summing : ℕ → ℤ → Join → Type 0
+  Summing at so_far j = Going expression_level (3 * (length s - at) + 3) at (λ n. expression n m st (drop at s)) at so_far j
 
-  pub begins : {at : ℕ} {j : Join} → Joins s at j (start_at m s at) → Summing at 0 j
+  pub begins : {at : ℕ} {j : Join} → Joins s at j (start_at m s at) → Summing at (pos 0) j
   begins {at} {j} u = record {
     from = u.from;
     upto = u.upto;
@@ -280,10 +279,10 @@ module _ (m : Marks) (st : Store) (s : List ℕ) where
         (wider r at (least_of j) (length s) (omega (arith, place-least j, u.from)) c.ends);
   }
 
-  abbrev pub Multiplying : ℕ → ℕ → Join → Type 0
-  Multiplying at bits j = Going product_level (3 * (length s - at) + 2) (at + 1) (λ n. product n m st (drop at s)) at bits j
+  abbrev pub Multiplying : ℕ → ℤ → Join → Type 0
+  Multiplying at so_far j = Going product_level (3 * (length s - at) + 2) (at + 1) (λ n. product n m st (drop at s)) at so_far j
 
-  pub begins_product : {at : ℕ} → at ≤ length s → Multiplying at 0 (Go First at)
+  pub begins_product : {at : ℕ} → at ≤ length s → Multiplying at (pos 0) (Go First at)
   begins_product {at} h = record {
     from = le_refl _;
     upto = h;

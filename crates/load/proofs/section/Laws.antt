@@ -19,7 +19,6 @@ use Rattle.load.specs.declared.Progress.{Progress}
 use Rattle.load.specs.declared.Seen.{Seen}
 use Rattle.load.specs.declared.Seen.TheVariants.{Fault, More, Ends}
 use Rattle.load.specs.declared.section.Led.{Led}
-use Rattle.load.specs.declared.section.Led.TheVariants as Led
 use Rattle.load.specs.Answer.{refused_loading, Loads}
 use Rattle.load.specs.Head.{SectionAt}
 use Rattle.load.specs.Lines.{fault_number, progress_of, seen_of, TableSound, Left, SeesLine}

@@ -1,0 +1,13 @@
+-- land_skip passes over the lines of a skip in the call, and hands those past its end to the caller.
+use Rattle.landing.proofs.Leaves.{lands_on, lands_beyond, lands_badly}
+use borrow.Author.Rules.{rules}
+use Rattle.landing.proofs.land_skip.Goals as goal
+
+pub returns-in-Landed : goal.returns-in-Landed
+returns-in-Landed c = search (lands_on, rules)
+
+pub returns-in-Beyond : goal.returns-in-Beyond
+returns-in-Beyond c = search (lands_beyond, rules)
+
+pub returns-in-Bad : goal.returns-in-Bad
+returns-in-Bad c = search (lands_badly, rules)

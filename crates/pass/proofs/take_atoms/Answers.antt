@@ -1,0 +1,24 @@
+-- take_atoms takes atom after atom. The loop keeps `Taking`: what the pass takes from `at` on is the bytes from `at` to i and then the
+-- piece from i on. The measure is the length of the line less i.
+use borrow.Author.Rules.{rules}
+use Rattle.atom.proofs.Atoms.{atom-by-brackets}
+use Rattle.pass.proofs.Pieces.{taking_begins, taking_goes_on, taking_falls, taking_delimiter, taking_fails, taking_ends}
+use Rattle.pass.proofs.take_atoms.Goals as goal
+
+pub loop-i-init : goal.loop-i-init
+loop-i-init c = search taking_begins
+
+pub returns-then-has_byte : goal.returns-then-has_byte
+returns-then-has_byte c = search (taking_delimiter, rules)
+
+pub returns-then-next-eq0 : goal.returns-then-next-eq0
+returns-then-next-eq0 c = search (taking_fails, atom-by-brackets, rules)
+
+pub loop-i-smaller : goal.loop-i-smaller
+loop-i-smaller c = search (taking_falls, rules)
+
+pub loop-i-preserved : goal.loop-i-preserved
+loop-i-preserved c = search (taking_goes_on, atom-by-brackets, rules)
+
+pub returns : goal.returns
+returns c = search (taking_ends, rules)

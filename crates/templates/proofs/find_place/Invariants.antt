@@ -1,0 +1,11 @@
+-- find_place halves the places where the template can go until one is left. The loop's invariant: the template goes to a place from low up to
+-- high, and has `below` in common with the template before low and `above` with that at high. The measure: the places between.
+use Prim.Native.Nat.{◌-◌}
+use Rattle.templates.proofs.Finding.{Seeking}
+use Rattle.templates.proofs.find_place.Given as goal
+
+abbrev pub invariant-loop-low : goal.invariant-loop-low
+invariant-loop-low l = Seeking l.mark l.text l.table l.k l.start l.len l.low l.high l.below l.above
+
+abbrev pub decreases-loop-low : goal.decreases-loop-low
+decreases-loop-low l = l.high - l.low

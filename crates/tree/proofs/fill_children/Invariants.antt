@@ -1,0 +1,11 @@
+-- fill_children appends the children of a node. The loop's invariant: `Filling`. Its measure: the places left of the node's run.
+use Rattle.std.proofs.Common.{◌-◌}
+use Rattle.macros.specs.Table.{templates_in, order_in}
+use Rattle.tree.proofs.Filling.{Filling}
+use Rattle.tree.proofs.fill_children.Given as goal
+
+abbrev pub invariant-loop-at : goal.invariant-loop-at
+invariant-loop-at l = Filling l.mark (templates_in l.text l.table l.n) (order_in l.table) l.nodes l.i l.made l.parent l.c l.at
+
+abbrev pub decreases-loop-at : goal.decreases-loop-at
+decreases-loop-at l = l.end - l.at

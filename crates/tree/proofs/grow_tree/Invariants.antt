@@ -1,0 +1,12 @@
+-- grow_tree gives every node its children. The loop's invariant: `NodesMade`. Its measure: the nodes left that the templates can have.
+use Rattle.std.proofs.Common.{◌+◌, ◌-◌}
+use Rattle.macros.specs.Table.{templates_in, order_in}
+use Rattle.templates.specs.Count.{beginnings}
+use Rattle.tree.specs.Built.{NodesMade}
+use Rattle.tree.proofs.grow_tree.Given as goal
+
+abbrev pub invariant-loop-i : goal.invariant-loop-i
+invariant-loop-i l = NodesMade l.mark (templates_in l.text l.table l.n) (order_in l.table) l.nodes l.i l.c
+
+abbrev pub decreases-loop-i : goal.decreases-loop-i
+decreases-loop-i l = beginnings (templates_in l.text l.table l.n) + 1 - l.i

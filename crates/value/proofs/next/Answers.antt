@@ -1,0 +1,21 @@
+-- next makes the tests of join_at.
+use Rattle.value.proofs.Chain.{chain}
+use Rattle.value.specs.Place.{join_at}
+use borrow.Author.Rules.{rules}
+use Rattle.value.proofs.next.Goals as goal
+
+pub returns-then-at-text : goal.returns-then-at-text
+unfolding join_at
+returns-then-at-text c = record { is = search chain; from = search rules; upto = search rules }
+
+pub returns-then-b-one : goal.returns-then-b-one
+unfolding join_at
+returns-then-b-one c = record { is = search chain; from = search rules; upto = search rules }
+
+pub returns-then-b-two : goal.returns-then-b-two
+unfolding join_at
+returns-then-b-two c = record { is = search chain; from = search rules; upto = search rules }
+
+pub returns : goal.returns
+unfolding join_at
+returns c = record { is = search chain; from = search rules; upto = search rules }
