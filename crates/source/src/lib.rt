@@ -1,11 +1,15 @@
-// What a program reads: a whole descriptor or a whole file into a lent buffer, with a failed read told from the end; what its arguments
-// are; and its messages about files.
+// What a program reads: all that a reader gives or a whole file into a lent buffer, with a failed read told from the end; what its
+// arguments are; and its messages about files.
 #![tactic(auto)]
+
 ghost use Rattle.std.specs.Prelude.{◌≡◌, true, false, [], ◌∷◌, ◌+◌, ◌≤◌, length};
 ghost use Rattle.model.specs.Text.{same, starts_with};
-ghost use Rattle.source.specs.Answer.{got_of};
+ghost use Rattle.source.specs.Answer.{Answers, got_of};
 
-use libc::STDERR_FILENO;
+use std::env::{Env, FillError};
+use std::io::{Read, Write};
+use std::rt::Files;
+use std::{fs, str};
 
 // How many bytes were read, and whether no read failed. A length that is all of the buffer says that there may be more.
 #[derive(Clone, Copy)]
@@ -24,6 +28,16 @@ fn fail_read() -> Got
     }
 }
 
+// How many of buf's bytes a read's answer tells of: none where it is negative, and never more than there are.
+fn count(got: isize, buf: &[u8]) -> usize
+    ensures { result ≡ (got_of got (length buf.now)).length }
+{
+    match usize::try_from(got) {
+        Ok(n) => n.min(buf.len()),
+        Err(_) => 0,
+    }
+}
+
 // What a read to buf answered.
 fn take_answer(got: isize, buf: &[u8]) -> Got
     ensures value { result ≡ got_of got (length buf.now) }
@@ -37,26 +51,36 @@ fn take_answer(got: isize, buf: &[u8]) -> Got
     }
     Got {
         ok: true,
-        length: io::count(got, buf),
+        length: count(got, buf),
+    }
+}
+
+// One call of the reader: it answers -1 where that failed, or how many bytes it put at the start of buf, 0 at the end of the input.
+fn read_once<R: Read>(from: &mut R, buf: &mut [u8]) -> isize
+    ensures { Answers (length buf.new) result }
+{
+    match from.read(buf) {
+        Ok(n) => isize::try_from(n).unwrap_or(isize::MAX),
+        Err(_) => -1,
     }
 }
 
 // One read, to what follows `at` in buf.
-fn read_some(fd: i32, buf: &mut [u8], at: usize) -> Got
+fn read_some<R: Read>(from: &mut R, buf: &mut [u8], at: usize) -> Got
     requires { at ≤ length buf.old }
     ensures { at + result.length ≤ length buf.new }
 {
-    let got = libc::read(fd, &mut buf[at..]);
+    let got = read_once(from, &mut buf[at..]);
     take_answer(got, &buf[at..])
 }
 
 // Reads until buf is full or the input ends.
-pub fn read_all(fd: i32, buf: &mut [u8]) -> Got
+pub fn read_all<R: Read>(from: &mut R, buf: &mut [u8]) -> Got
     ensures { result.length ≤ length buf.new }
 {
     let mut done = 0;
     while done < buf.len() {
-        let turn = read_some(fd, buf, done);
+        let turn = read_some(from, buf, done);
         if !turn.ok {
             return fail_read();
         }
@@ -71,17 +95,47 @@ pub fn read_all(fd: i32, buf: &mut [u8]) -> Got
     }
 }
 
-// Reads a file by its name, which is opened once.
-pub fn read_file(name: &[u8], buf: &mut [u8]) -> Got
+// Reads a file by its name, which is opened once. A name that is not UTF-8 cannot be opened.
+pub fn read_file<F: Files>(files: &F, name: &[u8], buf: &mut [u8]) -> Got
     ensures { result.length ≤ length buf.new }
 {
-    let fd = os::open_read(name);
-    if fd < 0 {
+    let Ok(path) = str::from_utf8(name) else {
         return fail_read();
+    };
+    match fs::open(files, path) {
+        Ok(mut file) => read_all(&mut file, buf),
+        Err(_) => fail_read(),
     }
-    let got = read_all(fd, buf);
-    libc::close(fd);
-    got
+}
+
+// ---- arguments; on Linux none is longer than 131,071 bytes
+
+// Puts argument i at the start of buf, whatever its bytes are, and answers its length, or 0 where it is missing or longer than buf.
+pub fn arg(env: &impl Env, i: usize, buf: &mut [u8]) -> usize
+    ensures { result ≤ length buf.new }
+{
+    match env.arg(i, buf) {
+        Ok(n) => n,
+        Err(_) => 0,
+    }
+}
+
+// Whether there is an argument i.
+fn has_arg(env: &impl Env, i: usize) -> bool {
+    match env.arg(i, &mut []) {
+        Err(FillError::NotPresent) => false,
+        _ => true,
+    }
+}
+
+// How many arguments there are, the program's own name among them.
+pub fn arg_count(env: &impl Env) -> usize {
+    for i in 0..usize::MAX {
+        if !has_arg(env, i) {
+            return i;
+        }
+    }
+    usize::MAX
 }
 
 // Whether an argument asks how a program is called.
@@ -91,10 +145,10 @@ pub fn asks_help(argument: &[u8]) -> bool
     buffer::same_bytes(argument, b"--help")
 }
 
-// Whether the first argument does. On Linux no argument is longer than 131,071 bytes.
-pub fn is_help_asked() -> bool {
+// Whether the first argument does.
+pub fn is_help_asked(env: &impl Env) -> bool {
     let mut space = [0u8; 131072];
-    let n = os::arg(1, &mut space);
+    let n = arg(env, 1, &mut space);
     asks_help(&space[..n])
 }
 
@@ -122,9 +176,9 @@ pub fn asks_report(argument: &[u8]) -> bool
     buffer::same_bytes(argument, b"--report")
 }
 
-// Says of a file, after the program's name, what is wrong with it.
-pub fn tell(program: &[u8], name: &[u8], wrong: &[u8]) {
-    io::write_all(STDERR_FILENO, program);
-    io::write_all(STDERR_FILENO, name);
-    io::write_all(STDERR_FILENO, wrong);
+// Says of a file, after the program's name, what is wrong with it. Where that cannot be written, nothing can say so.
+pub fn tell(errors: &mut impl Write, program: &[u8], name: &[u8], wrong: &[u8]) {
+    let _ = errors.write_all(program);
+    let _ = errors.write_all(name);
+    let _ = errors.write_all(wrong);
 }

@@ -2,12 +2,14 @@
 // stores what follows it under the name before it. The lines are the documents' examples, the readings of
 // them, and the ends of the range for each step and each kind of operand.
 #![tactic(auto)]
+
+ghost use Rattle.std.specs.Prelude.{◌≤◌, length};
 ghost use Rattle.store.specs.Memory.{Kept};
 
-use libc::{STDIN_FILENO, STDOUT_FILENO};
 use model::{Integer, Marks, STORE_LEAST};
 use number::Valued;
 use scan::find_byte;
+use std::io::{Read, Write};
 use store::{Index, Stored};
 
 // The marks of document 01's session.
@@ -28,27 +30,27 @@ fn session() -> Marks {
 }
 
 // A value in decimal.
-fn say_number(z: Integer) {
+fn say_number(output: &mut impl Write, z: Integer) {
     let mut out = [0u8; 21];
     let n = number::write_value(session(), z, &mut out);
-    io::write_all(STDOUT_FILENO, &out[0..n]);
+    let _ = output.write_all(&out[0..n]);
 }
 
 // The text and its value.
-fn say(memory: &[u8], index: Index, text: &[u8])
+fn say(output: &mut impl Write, memory: &[u8], index: Index, text: &[u8])
     requires { Kept memory.now index }
 {
-    io::write_all(STDOUT_FILENO, text);
-    io::write_all(STDOUT_FILENO, b": ");
+    let _ = output.write_all(text);
+    let _ = output.write_all(b": ");
     match value::value(session(), memory, index, text) {
         Valued::Number(z) => {
-            say_number(z);
+            say_number(output, z);
         }
         Valued::Fault => {
-            io::write_all(STDOUT_FILENO, b"fault 15");
+            let _ = output.write_all(b"fault 15");
         }
     }
-    io::write_all(STDOUT_FILENO, b"\n");
+    let _ = output.write_all(b"\n");
 }
 
 // The index after the text was stored under the name, or as it was where either is too long or there is no room.
@@ -69,7 +71,7 @@ fn keep(memory: &mut [u8], index: Index, name: &[u8], text: &[u8]) -> Index
 }
 
 // One line.
-fn turn(memory: &mut [u8], index: Index, line: &[u8]) -> Index
+fn turn(output: &mut impl Write, memory: &mut [u8], index: Index, line: &[u8]) -> Index
     requires { Kept memory.old index }
     ensures { Kept memory.new result }
 {
@@ -78,24 +80,39 @@ fn turn(memory: &mut [u8], index: Index, line: &[u8]) -> Index
         let from = e + 1;
         return keep(memory, index, &line[0..e], &line[from..]);
     }
-    say(memory, index, line);
+    say(output, memory, index, line);
     index
 }
 
 // Each line of the text, in order.
-fn run(text: &[u8]) {
+fn run(output: &mut impl Write, text: &[u8]) {
     let mut memory = [0u8; STORE_LEAST];
     let mut index = store::empty(&memory);
     let mut at = 0;
     while at < text.len() {
         let e = find_byte(text, at, text.len(), 10);
-        index = turn(&mut memory, index, &text[at..e]);
+        index = turn(output, &mut memory, index, &text[at..e]);
         at = e + 1;
     }
 }
 
-fn main() {
-    let mut text = io::buffer();
-    let n = io::read_full(STDIN_FILENO, &mut text);
-    run(&text[0..n]);
+// Reads until buf is full, the input ends or a read fails, and answers how many bytes it put at the start of buf.
+fn read_full(input: &mut impl Read, buf: &mut [u8]) -> usize
+    ensures { result ≤ length buf.new }
+{
+    let mut done = 0;
+    while done < buf.len() {
+        let n = input.read(&mut buf[done..]).unwrap_or(0);
+        if n == 0 {
+            break;
+        }
+        done += n;
+    }
+    done
+}
+
+fn main(rt: HostRuntime) {
+    let mut text = [0u8; 4096];
+    let n = read_full(&mut rt.stdin(), &mut text);
+    run(&mut rt.stdout(), &text[0..n]);
 }
