@@ -16,7 +16,7 @@ use Rattle.character.specs.declared.Decoded.TheVariants.{One, Malformed, Nothing
 use Rattle.character.specs.declared.Counted.{Counted}
 use Rattle.character.specs.Decoding.{ReadsCharacter}
 use Rattle.character.specs.Counting.{last_of, counted_from, counted_fault, CountsCharacters}
-use Rattle.character.proofs.Decoding.{one_bounds, one-is, malformed_bounds, malformed_is, nothing_bounds}
+use Rattle.character.proofs.Decoding.{one_bounds, one_is, malformed_bounds, malformed_is, nothing_bounds}
 
 -- ---- the answer
 
@@ -65,7 +65,7 @@ module _ {s : Bytes} {at n v : ℕ} {r : Decoded} (c : Counting s at n v) (k : R
         few = omega (arith, b.1.0);
         high = b.1.1.1;
         small = b.0;
-        is = c.is ∙ ap (counted_from n v) (points-onto (drop at s) _ (one-is k e)) ∙ counted-onto n v code (points (drop (at + len) s));
+        is = c.is ∙ ap (counted_from n v) (points-onto (drop at s) _ (one_is k e)) ∙ counted-onto n v code (points (drop (at + len) s));
       }
 
   -- at malformed bytes the answer is not ok

@@ -12,7 +12,7 @@ use lib.Seq.{drop-cons, drop-drop, take_at, drop_at}
 use Rattle.model.specs.Text.{Bytes, part}
 use Rattle.model.specs.Utf8.{Character, is_tail, is_second, of_two, of_three, of_four, character, character_fault, encode}
 use Rattle.model.proofs.Choices.{both, split}
-use Rattle.model.proofs.Utf8.{between, decoded-is}
+use Rattle.model.proofs.Utf8.{between, decoded_is}
 use Rattle.character.specs.declared.Decoded.{Decoded}
 use Rattle.character.specs.declared.Decoded.TheVariants.{One, Malformed, Nothing}
 use Rattle.character.specs.Decoding.{read_of, decoded, decoded_fault, bytes_of, CountsBytes, JoinsTwo, JoinsThree, JoinsFour, InBounds, ReadsCharacter}
@@ -167,7 +167,7 @@ module _ (s : Bytes) (at : ℕ) where
       by : (o : Option Character) → character (x ∷ t) ≡ o → ReadsCharacter s at (read_of o)
       by none p = record { is = sym (ap decoded e ∙ ap read_of p); number = λ _. sym (ap character_fault (ap character e ∙ p)); bounds = let k = long in omega arith }
       by (some c) p =
-          let h = decoded-is (x ∷ t) c p in
+          let h = decoded_is (x ∷ t) c p in
           let k = long in
           let j = ap length h.joined ∙ length-append c.bytes c.rest in
           record {
@@ -255,7 +255,7 @@ found (x ∷ t) code len e = by (character (x ∷ t)) refl e
     by : (o : Option Character) → character (x ∷ t) ≡ o → One code len ≡ read_of o → o ≡ some (record { code = code; bytes = take len (x ∷ t); rest = drop len (x ∷ t) })
     by none p q = let z : ◌≡◌ {A = ℕ} 0 1 = cc in absurd (omega arith)
     by (some c) p q =
-        let h = decoded-is (x ∷ t) c p in
+        let h = decoded_is (x ∷ t) c p in
         let n : length c.bytes ≡ len = cc in
         let v : c.code ≡ code = cc in
         let front : c.bytes ≡ take len (x ∷ t) = sym (ap (take len) h.joined ∙ take_at c.bytes c.rest len n) in
@@ -278,8 +278,8 @@ module _ {s : Bytes} {at : ℕ} {r : Decoded} (k : ReadsCharacter s at r) where
     one-within = (one_bounds.1.0, one_bounds.1.1.1)
 
     -- it is the definition's character
-    pub one-is : character (drop at s) ≡ some (record { code = code; bytes = part s at (at + len); rest = drop (at + len) s })
-    one-is =
+    pub one_is : character (drop at s) ≡ some (record { code = code; bytes = part s at (at + len); rest = drop (at + len) s })
+    one_is =
         let n : at + len - at ≡ len = omega arith in
         found (drop at s) code len (sym e ∙ k.is)
         ∙ ap₂ (λ (a b : Bytes). some (record { code = code; bytes = a; rest = b })) (ap (λ (i : ℕ). take i (drop at s)) (sym n)) (drop-drop len at s)

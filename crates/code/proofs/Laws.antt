@@ -131,9 +131,9 @@ named_by b =
 
 -- what is read for it, where it is neither 6 nor 7
 module _ {b : ℕ} {n : Named} (d : ℕ) (s : Bytes) (e : NamesConversion b n) (six : b ≡ 54 → ⊥) (seven : b ≡ 55 → ⊥) where
-  pub conversion-is : {v : Conversion} → n ≡ Is v → Code.conversion d b s ≡ Code.part (Code.convert d v)
+  pub conversion_is : {v : Conversion} → n ≡ Is v → Code.conversion d b s ≡ Code.part (Code.convert d v)
   unfolding Code.converting
-  conversion-is q = conversion-by d b s ∙ search chain ∙ ap (Code.converting d) (sym e.is ∙ ap named_of q)
+  conversion_is q = conversion-by d b s ∙ search chain ∙ ap (Code.converting d) (sym e.is ∙ ap named_of q)
 
   pub conversion-none : n ≡ Nothing → Code.conversion d b s ≡ Code.ends Code.malformed
   unfolding Code.converting

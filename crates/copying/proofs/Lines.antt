@@ -185,10 +185,10 @@ module _ {m : Marks} {text : Bytes} {ch : Channel} {name : Bytes} {s : State} {o
       | false ↦ by_length frames y memory l
     ]
 
-    next-is : (frames : List Frame) (y : Tally) (memory : Bytes)
+    next_is : (frames : List Frame) (y : Tally) (memory : Bytes)
         → copy_lines m (rooms_of o) ch name (lines (drop s.at text)) (state_of text none frames y s o memory) ≡ next_line frames y memory content
     unfolding copy_lines
-    next-is frames y memory =
+    next_is frames y memory =
         v.same frames y memory
         ∙ ap (λ (ls : List Bytes). copy_lines m (rooms_of o) ch name ls (state_of text none frames y st o₁ memory)) g.is
         ∙ ap (next_line frames y memory) (sym g.content)
@@ -204,7 +204,7 @@ module _ {m : Marks} {text : Bytes} {ch : Channel} {name : Bytes} {s : State} {o
     -- it begins with the name
     pub copied_stops : {c : Head} {r : Answer} → b ≡ true → r ≡ goes_further c t → CopiesLines m text ch c name s o r o₁
     copied_stops {c} e er = goes_on (moved_read v.moved g)
-        (λ frames y memory. next-is frames y memory ∙ when_true _ _ (sym n.is ∙ e) ∙ ap (λ (x : Machine.State). running x) (past_is frames y memory)) (er ∙ ap (goes_further c) et)
+        (λ frames y memory. next_is frames y memory ∙ when_true _ _ (sym n.is ∙ e) ∙ ap (λ (x : Machine.State). running x) (past_is frames y memory)) (er ∙ ap (goes_further c) et)
 
     module _ {c : Head} {x a : Answer} {o₂ : Outputs} (e : b ≡ false) (ex : x ≡ goes_further c t) (y : CopiesContent ch text st.at end x o₁ a o₂) where
       -- the answer before is that of the line read
@@ -216,7 +216,7 @@ module _ {m : Marks} {text : Bytes} {ch : Channel} {name : Bytes} {s : State} {o
 
       not-begun : (frames : List Frame) (y : Tally) (memory : Bytes)
           → copy_lines m (rooms_of o) ch name (lines (drop s.at text)) (state_of text none frames y s o memory) ≡ by_length frames y memory content
-      not-begun frames y memory = next-is frames y memory ∙ when_false _ _ (sym n.is ∙ e)
+      not-begun frames y memory = next_is frames y memory ∙ when_false _ _ (sym n.is ∙ e)
 
       writes_as : (memory : Bytes) {w : Option Shared} → wrote (rooms_of o₁) ch content (shared_of read o₁ memory) ≡ w → wrote (rooms_of o) ch content (shared_of st o₁ memory) ≡ w
       writes_as memory f = ap (λ (k : Rooms). wrote k ch content (shared_of st o₁ memory)) (sym (rooms_kept v.moved.extends)) ∙ f

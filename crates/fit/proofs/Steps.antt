@@ -473,8 +473,8 @@ module _ {m : Marks} {row : List Node} {dead : Bytes} {notes : List ℕ} {line :
 -- ---- the atom
 
 -- whether the tree's node is a placeholder's
-holey-is : (row : List Node) (node made : ℕ) {n : Node} {b : Bool} → node < made → n ≡ get_or row node no_node → b ≡ eqb n.element placeholder_key → holey (take made row) node ≡ b
-holey-is row node made lt x y = sym (y ∙ ap (λ (n : Node). eqb n.element placeholder_key) (x ∙ sym (front_node row made node lt)))
+holey_is : (row : List Node) (node made : ℕ) {n : Node} {b : Bool} → node < made → n ≡ get_or row node no_node → b ≡ eqb n.element placeholder_key → holey (take made row) node ≡ b
+holey_is row node made lt x y = sym (y ∙ ap (λ (n : Node). eqb n.element placeholder_key) (x ∙ sym (front_node row made node lt)))
 
 module _ (m : Marks) (rows : List Node) (line : Bytes) (node at : ℕ) (r : Scanned) (t : holey rows node ≡ true) (a : AtomAt m line at r) where
   -- there is no atom, and what the look reads is counted
@@ -531,14 +531,14 @@ module _ (m : Marks) (rows : List Node) (line : Bytes) (node at : ℕ) (r : Scan
 module _ {m : Marks} {row : List Node} {line : Bytes} {node at : ℕ} {dead : Bytes} {notes : List ℕ} {n : Node} {b : Bool} (x : n ≡ get_or row node no_node) (y : b ≡ eqb n.element placeholder_key) where
   -- the node is no placeholder's
   pub atom-not : {u : ℕ} → b ≡ false → u ≡ 0 → AtomSearched m row line node at dead dead notes notes u
-  atom-not f q = record { comes = idle_comes (λ made s lt k ds h l. rw (holey-is row node made lt x y ∙ f) refl) q }
+  atom-not f q = record { comes = idle_comes (λ made s lt k ds h l. rw (holey_is row node made lt x y ∙ f) refl) q }
 
   module _ {e : Scanned} {notes1 : List ℕ} (t : b ≡ true) (g : AtomAt m line at e) (k : Counts 0 e.read notes notes1) where
     -- there is no atom
     pub atom-none : {u : ℕ} → e.end ≡ 0 → u ≡ 0 → AtomSearched m row line node at dead dead notes notes1 u
     atom-none {u} z q = record {
       comes = record {
-        each = λ made s lt. look_outcomes m (take made row) line node at e (holey-is row node made lt x y ∙ t) g dead notes notes1 u (omega (arith, lt, front_long s)) z k q;
+        each = λ made s lt. look_outcomes m (take made row) line node at e (holey_is row node made lt x y ∙ t) g dead notes notes1 u (omega (arith, lt, front_long s)) z k q;
       };
     }
 
@@ -548,7 +548,7 @@ module _ {m : Marks} {row : List Node} {line : Bytes} {node at : ℕ} {dead : By
       atom-below {notes3} f q = record {
         comes = record {
           each = λ made s lt.
-              atom_outcomes m (take made row) line node at e (holey-is row node made lt x y ∙ t) g z dead dead' notes notes1 notes2 u k (w.comes.each made s lt) notes3 f q;
+              atom_outcomes m (take made row) line node at e (holey_is row node made lt x y ∙ t) g z dead dead' notes notes1 notes2 u k (w.comes.each made s lt) notes3 f q;
         };
       }
 
@@ -557,6 +557,6 @@ module _ {m : Marks} {row : List Node} {line : Bytes} {node at : ℕ} {dead : By
       atom_nowhere f q = rw (q ∙ sym f) record {
         comes = record {
           each = λ made s lt.
-              no_atom_outcomes m (take made row) line node at e (holey-is row node made lt x y ∙ t) g z dead dead' notes notes1 notes2 u k (w.comes.each made s lt) f;
+              no_atom_outcomes m (take made row) line node at e (holey_is row node made lt x y ∙ t) g z dead dead' notes notes1 notes2 u k (w.comes.each made s lt) f;
         };
       }

@@ -25,9 +25,9 @@ module _ (room : Rooms) (m : Marks) (text : Bytes) (t : Loaded) (y : Tally) (s :
   input_over e = ap (outcome t) (Steps.input_done s.fuel room t (state_of text none [] y s o w) refl refl e)
 
   module _ (marks : t.marks ≡ m) (l c : Bytes) (at : ℕ) (e : lines (drop s.at text) ≡ l ∷ lines (drop at text)) (q : c ≡ up_to m.source l) where
-    reading-is : Steps.reading t.marks l (lines (drop at text)) (state_of text none [] y s o w) ≡ state_of text (some c) [] y (with_input s at (s.line + 1)) o w
+    reading_is : Steps.reading t.marks l (lines (drop at text)) (state_of text none [] y s o w) ≡ state_of text (some c) [] y (with_input s at (s.line + 1)) o w
     unfolding Steps.reading
-    reading-is =
+    reading_is =
         ap (λ (x : Marks). record { input = lines (drop at text); line = suc s.line; pending = some (up_to x.source l); frames = []; calls = s.calls; shared = shared_of s o w; events = s.events; tally = y }) marks
         ∙ ap (λ (x : Bytes). record { input = lines (drop at text); line = suc s.line; pending = some x; frames = []; calls = s.calls; shared = shared_of s o w; events = s.events; tally = y }) (sym q)
         ∙ ap (λ (n : ℕ). record { input = lines (drop at text); line = n; pending = some c; frames = []; calls = s.calls; shared = shared_of s o w; events = s.events; tally = y }) (sym (add-one s.line))
@@ -40,11 +40,11 @@ module _ (room : Rooms) (m : Marks) (text : Bytes) (t : Loaded) (y : Tally) (s :
         → comes_to s.fuel room t (running (state_of text none [] y s o w)) ≡ comes_to s.fuel room t (running (state_of text (some c) [] y (with_input s at (s.line + 1)) o w))
     input_read b =
         ap (outcome t) (Steps.input_line s.fuel room t (state_of text none [] y s o w) l (lines (drop at text)) refl refl e (measure_is ∙ b))
-        ∙ ap (λ (x : Machine.State). comes_to s.fuel room t (running x)) reading-is
+        ∙ ap (λ (x : Machine.State). comes_to s.fuel room t (running x)) reading_is
 
     -- it is too long
     pub input_long : leb (length c) 200 ≡ false → comes_to s.fuel room t (running (state_of text none [] y s o w)) ≡ result_after t y (ends_with 11 (with_input s at (s.line + 1))) o w
     unfolding outcome Machine.result_of
     input_long b =
         ap (outcome t) (Steps.input_long s.fuel room t (state_of text none [] y s o w) l (lines (drop at text)) refl refl e (measure_is ∙ b))
-        ∙ ap (λ (x : Machine.State). outcome t (ended 11 x)) reading-is
+        ∙ ap (λ (x : Machine.State). outcome t (ended 11 x)) reading_is

@@ -2,6 +2,7 @@
 // result"). A line is counted when its reading is decided. open_reading asks what a choice of `fit` has in a text that is loaded: its pieces
 // lie in the line's first n bytes, and its template has a body (`Opening`).
 #![tactic(auto)]
+
 ghost use Rattle.std.specs.Prelude.{◌+◌, ◌≤◌, ◌<◌, ◌≡◌, length, true};
 ghost use Rattle.model.specs.Limits.{macros_most, fuel_most};
 ghost use Rattle.state.specs.State.{with_call};

@@ -12,7 +12,7 @@ use Rattle.model.specs.Text.{Bytes}
 use Rattle.model.specs.Utf8.{Character, character, points, Point, encode, encode_all, Points, MalformedText, MalformedFront}
 use Rattle.model.specs.Store.{decimal}
 use Rattle.model.specs.Machine.{Loop, Frame, Shared, halts, param, failed, add, add_length, add_code_point, add_converted, one_pass, pass_of, take_pass}
-use Rattle.model.proofs.Utf8.{decoded-is, encoded_character, encoded_points, points_encoded}
+use Rattle.model.proofs.Utf8.{decoded_is, encoded_character, encoded_points, points_encoded}
 
 -- ---- malformed bytes decode to nothing
 
@@ -30,7 +30,7 @@ front_malformed s h = by (character s) refl
   where
     by : (o : Option Character) → character s ≡ o → character s ≡ none
     by none e = e
-    by (some c) e = let p = decoded-is s c e in absurd (h c.code c.rest p.point (p.joined ∙ ap (λ (b : Bytes). b ++ c.rest) p.encoded))
+    by (some c) e = let p = decoded_is s c e in absurd (h c.code c.rest p.point (p.joined ∙ ap (λ (b : Bytes). b ++ c.rest) p.encoded))
 
 -- ---- conversions 5 and 8 of parameter d
 

@@ -447,10 +447,10 @@ least_of-rest r (x ∷ xs) y h = by (less x.order r.order) refl h (λ s k. least
     by false e (inr k) ih = ih r k
 
 -- `least` is one of the readings, and none ranks below it
-least-is : (l : List Reading) (r : Reading) → least l ≡ some r → In r l × ((y : Reading) → In y l → less y.order r.order ≡ false)
+least_is : (l : List Reading) (r : Reading) → least l ≡ some r → In r l × ((y : Reading) → In y l → less y.order r.order ≡ false)
 unfolding least
-least-is [] r e = let z : ◌≡◌ {A = ℕ} 0 1 = cc in absurd (omega arith)
-least-is (x ∷ xs) r e =
+least_is [] r e = let z : ◌≡◌ {A = ℕ} 0 1 = cc in absurd (omega arith)
+least_is (x ∷ xs) r e =
     let i : least_of x xs ≡ r = cc in
     subst (λ (s : Reading). In s (x ∷ xs) × ((y : Reading) → In y (x ∷ xs) → less y.order s.order ≡ false)) i
     (least_of_in x xs, λ y h. ⊎_elim (λ k. rw k (least_of_first x xs)) (λ k. least_of-rest x xs y k) h)
@@ -523,7 +523,7 @@ module _ (m : Marks) (ts : List (List ℕ)) (line : List ℕ) where
   -- the chosen reading is one
   pub chosen-reads : (r : Reading) → chosen m ts line ≡ some r → Reads m ts line r.which r.pieces
   unfolding chosen
-  chosen-reads r e = (listed_reads r (least-is (all_readings m 0 ts line) r e).0).0
+  chosen-reads r e = (listed_reads r (least_is (all_readings m 0 ts line) r e).0).0
 
 module _ (m : Marks) (apart-brackets : ¬ (m.left ≡ m.right)) (ts : List (List ℕ)) (line : List ℕ) where
   -- what reads the line is listed
@@ -549,7 +549,7 @@ module _ (m : Marks) (apart-brackets : ¬ (m.left ≡ m.right)) (ts : List (List
       → Reads m ts line r.which r.pieces × (less (rank m (get_or ts j []) qs) (rank m (get_or ts r.which []) r.pieces) ≡ false)
   unfolding chosen
   chosen-least r e j qs h =
-      let l = least-is (all_readings m 0 ts line) r e in
+      let l = least_is (all_readings m 0 ts line) r e in
       let q = listed_reads m ts line r l.0 in
       (q.0, ap (less (rank m (get_or ts j []) qs)) (sym q.1) ∙ l.1 _ (reads_listed j qs h))
 

@@ -30,7 +30,7 @@ use Rattle.model.specs.Sizes.{AllShort, FramesOk, LoopsSmall, FrameSmall, Frames
 use Rattle.model.proofs.Chosen.{chosen-reads}
 use Rattle.model.proofs.Choices.{both, split, and_left, and_right}
 use Rattle.model.proofs.Copying.{input_copied}
-use Rattle.model.proofs.Utf8.{CharacterIs, character-is}
+use Rattle.model.proofs.Utf8.{CharacterIs, character_is}
 use Rattle.model.proofs.Frames.{NextOk, nested-loops, run-nested}
 use Rattle.model.proofs.Loading.{load_legal}
 
@@ -165,7 +165,7 @@ one_pass-small s (some c) h = (omega (arith, simp length-append at (ap length h.
 pub pass_of-small : (m : Marks) (ds s : Bytes) → PieceSmall (length s) (pass_of m ds s)
 unfolding pass_of
 pass_of-small m [] [] = (omega arith, omega arith)
-pass_of-small m [] (x ∷ s) = one_pass-small (x ∷ s) (character (x ∷ s)) (character-is (x ∷ s))
+pass_of-small m [] (x ∷ s) = one_pass-small (x ∷ s) (character (x ∷ s)) (character_is (x ∷ s))
 pass_of-small m (d ∷ ds) s = piece_of_small (length s + 1) m (d ∷ ds) s
 
 -- ---- the store

@@ -349,7 +349,7 @@ encoding_decodes = Utf8.encoded_character
 
 -- whatever decodes is such an encoding, at the front of the bytes
 pub decoded_is_encoding : (s : Bytes) (c : Character) → character s ≡ some c → Leads s c
-decoded_is_encoding = Utf8.decoded-is
+decoded_is_encoding = Utf8.decoded_is
 
 -- a text's code points are those of which it is the row of encodings
 pub text-points : (s : Bytes) (vs : List ℕ) → points s ≡ some vs ↔ (Points vs × (s ≡ encode_all vs))

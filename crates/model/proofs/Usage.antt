@@ -13,7 +13,7 @@ use lib.Seq.{get_or-append_seam}
 use Rattle.model.specs.declared.Marks.{Marks}
 use Rattle.model.specs.declared.Channel.{Channel}
 use Rattle.model.specs.declared.Channel.TheVariants.{First}
-use Rattle.model.specs.Text.{Bytes, up_to, lines}
+use Rattle.model.specs.Text.{Bytes, up_to}
 use Rattle.model.specs.Reading.{Reading, chosen}
 use Rattle.model.specs.Store.{decimal}
 use Rattle.model.specs.Load.{begins, templates, Macro, no_macro, Loaded, loaded, load}

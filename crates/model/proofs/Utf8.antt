@@ -1,5 +1,5 @@
 -- Decoding and encoding of UTF-8 undo each other (RFC 3629): of one character, and of a text.
--- The theorems: character-is, decoded-is, encoded_character, encoded_points, points_encoded, points_of, points_few.
+-- The theorems: character_is, decoded_is, encoded_character, encoded_points, points_encoded, points_of, points_few.
 use mathlib.Core.Path.{◌≡◌, refl, ap, sym, ◌∙◌, subst}
 use mathlib.Core.Logic.{inl, inr}
 use mathlib.Core.Bool.{Bool, true, false, ◌&&◌}
@@ -135,11 +135,11 @@ two_is a (b ∷ s) l h = split (CharacterIs (a ∷ b ∷ s)) (is_tail b) _ none 
         }
 
 -- a character of three bytes: above the overlong ones, and no surrogate
-three-is : (a : ℕ) (s : Bytes) → 224 ≤ a → a ≤ 239 → CharacterIs (a ∷ s) (of_three a s)
+three_is : (a : ℕ) (s : Bytes) → 224 ≤ a → a ≤ 239 → CharacterIs (a ∷ s) (of_three a s)
 unfolding of_three
-three-is a [] l h = tt
-three-is a (b ∷ []) l h = tt
-three-is a (b ∷ c ∷ s) l h = split (CharacterIs (a ∷ b ∷ c ∷ s)) (is_second a b && is_tail c) _ none (λ e. made (second_is a b (and_left _ _ e)) (tail_is c (and_right (is_second a b) _ e))) (λ e. tt)
+three_is a [] l h = tt
+three_is a (b ∷ []) l h = tt
+three_is a (b ∷ c ∷ s) l h = split (CharacterIs (a ∷ b ∷ c ∷ s)) (is_second a b && is_tail c) _ none (λ e. made (second_is a b (and_left _ _ e)) (tail_is c (and_right (is_second a b) _ e))) (λ e. tt)
   where
     v : ℕ
     v = (a - 224) * 4096 + (b - 128) * 64 + (c - 128)
@@ -203,18 +203,18 @@ four_is a (b ∷ c ∷ d ∷ s) l h =
         }
 
 -- the character at the front is the encoding of its code point
-pub character-is : (s : Bytes) → CharacterIs s (character s)
+pub character_is : (s : Bytes) → CharacterIs s (character s)
 unfolding character
-character-is [] = tt
-character-is (a ∷ s) =
+character_is [] = tt
+character_is (a ∷ s) =
     split (CharacterIs (a ∷ s)) (leb a 127) _ _ (λ e. let h = leb-true a 127 e in record { point = record { small = omega arith; no_surrogate = inl (omega arith) }; encoded = sym (encode_one a h); joined = refl; some_bytes = omega arith }) (λ _.
     split (CharacterIs (a ∷ s)) (leb 194 a && leb a 223) _ _ (λ e. let h = between 194 223 a e in two_is a s h.0 h.1) (λ _.
-    split (CharacterIs (a ∷ s)) (leb 224 a && leb a 239) _ _ (λ e. let h = between 224 239 a e in three-is a s h.0 h.1) (λ _.
+    split (CharacterIs (a ∷ s)) (leb 224 a && leb a 239) _ _ (λ e. let h = between 224 239 a e in three_is a s h.0 h.1) (λ _.
     split (CharacterIs (a ∷ s)) (leb 240 a && leb a 244) _ none (λ e. let h = between 240 244 a e in four_is a s h.0 h.1) (λ _. tt))))
 
 -- a decoded character is one
-pub decoded-is : (s : Bytes) (c : Character) → character s ≡ some c → Leads s c
-decoded-is s c e = subst (CharacterIs s) e (character-is s)
+pub decoded_is : (s : Bytes) (c : Character) → character s ≡ some c → Leads s c
+decoded_is s c e = subst (CharacterIs s) e (character_is s)
 
 -- ---- every encoding decodes
 
@@ -334,7 +334,7 @@ skip-bytes (b ∷ bs) s = skip-bytes bs s
 pub points-onto : (s : Bytes) (c : Character) → character s ≡ some c → points s ≡ onto_points c.code (points c.rest)
 unfolding points points_from character
 points-onto [] c e = let z : ◌≡◌ {A = ℕ} 0 1 = cc in absurd (omega arith)
-points-onto (x ∷ s) c e = let h = decoded-is (x ∷ s) c e in rw (e, points_from) (ap (onto_points c.code) (by c.bytes h.joined h.some_bytes))
+points-onto (x ∷ s) c e = let h = decoded_is (x ∷ s) c e in rw (e, points_from) (ap (onto_points c.code) (by c.bytes h.joined h.some_bytes))
   where
     by : (bs : Bytes) → x ∷ s ≡ bs ++ c.rest → 0 < length bs → points_from (length bs - 1) s ≡ points_from 0 c.rest
     by [] j k = absurd (omega arith)
@@ -372,12 +372,12 @@ pub points_encoded : (s : Bytes) (vs : List ℕ) → points s ≡ some vs → Po
 unfolding encode_all points points_from
 points_encoded [] [] e = (tt, refl)
 points_encoded [] (v ∷ vs) e = let z : ◌≡◌ {A = ℕ} 0 1 = cc in absurd (omega arith)
-points_encoded (x ∷ s) [] e = by (character (x ∷ s)) refl (character-is (x ∷ s))
+points_encoded (x ∷ s) [] e = by (character (x ∷ s)) refl (character_is (x ∷ s))
   where
     by : (o : Option Character) → character (x ∷ s) ≡ o → CharacterIs (x ∷ s) o → Points [] × (x ∷ s ≡ encode_all [])
     by none p h = let q = points_none x s p in let z : ◌≡◌ {A = ℕ} 0 1 = cc in absurd (omega arith)
     by (some c) p h = absurd (onto_empty c.code (points c.rest) (sym (points-onto (x ∷ s) c p) ∙ e))
-points_encoded (x ∷ s) (v ∷ vs) e = by (character (x ∷ s)) refl (character-is (x ∷ s)) (λ r. points_encoded r vs)
+points_encoded (x ∷ s) (v ∷ vs) e = by (character (x ∷ s)) refl (character_is (x ∷ s)) (λ r. points_encoded r vs)
   where
     by : (o : Option Character) → character (x ∷ s) ≡ o → CharacterIs (x ∷ s) o → ((r : Bytes) → points r ≡ some vs → Points vs × (r ≡ encode_all vs))
         → Points (v ∷ vs) × (x ∷ s ≡ encode_all (v ∷ vs))

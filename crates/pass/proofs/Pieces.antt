@@ -22,7 +22,7 @@ use Rattle.scan.specs.Lines.{Has}
 use Rattle.character.specs.declared.Decoded.{Decoded}
 use Rattle.character.specs.declared.Decoded.TheVariants.{One, Malformed, Nothing}
 use Rattle.character.specs.Decoding.{ReadsCharacter}
-use Rattle.character.proofs.Decoding.{one_bounds, one-is, malformed_bounds, malformed_is, nothing_bounds}
+use Rattle.character.proofs.Decoding.{one_bounds, one_is, malformed_bounds, malformed_is, nothing_bounds}
 use Rattle.pass.specs.declared.Taken.{Taken}
 use Rattle.pass.specs.Pass.{delimiter_of, piece_at, Takes, TakesCharacter, ChoosesFault}
 
@@ -181,7 +181,7 @@ module _ {line : Bytes} {at : ℕ} {d : Decoded} (k : ReadsCharacter line at d) 
       let c : Character = record { code = code; bytes = part line at (at + len); rest = drop (at + len) line } in
       record {
         takes = λ m. record {
-          is = ap (pass_of m []) n ∙ pass_one m (get_or line at 0) (drop (suc at) line) c (ap character (sym n) ∙ one-is k e)
+          is = ap (pass_of m []) n ∙ pass_one m (get_or line at 0) (drop (suc at) line) c (ap character (sym n) ∙ one_is k e)
               ∙ ap (λ (x : Bytes). some (record { piece = c.bytes; delimiter = x; rest = c.rest })) (sym (delimiter_none 256 (omega arith)));
           low = omega arith;
           high = omega arith;

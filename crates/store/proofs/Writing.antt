@@ -53,9 +53,9 @@ write_begins {o = o} {start = start} k h = record {
   room = h;
 }
 
-part-is : (m : List ℕ) {h : Bounds} (q : Bool) {p : Part} → Parts h q p → part m p.from p.to ≡ cond q (part m h.text h.next) (part m h.name h.text)
-part-is m true f = ap₂ (λ (i j : ℕ). part m i j) f.from f.to
-part-is m false f = ap₂ (λ (i j : ℕ). part m i j) f.from f.to
+part_is : (m : List ℕ) {h : Bounds} (q : Bool) {p : Part} → Parts h q p → part m p.from p.to ≡ cond q (part m h.text h.next) (part m h.name h.text)
+part_is m true f = ap₂ (λ (i j : ℕ). part m i j) f.from f.to
+part_is m false f = ap₂ (λ (i j : ℕ). part m i j) f.from f.to
 
 -- what a turn writes, and what comes after it
 record Turn (m : List ℕ) (count : ℕ) (q : Bool) (b : ℕ) (o : List ℕ) (start left w : ℕ) (front s : List ℕ) (next : ℕ) : Type 0 where
@@ -73,7 +73,7 @@ module _ {m : List ℕ} {count : ℕ} {q : Bool} {b : ℕ} {o : List ℕ} {start
       let r : List ℕ = each q b (held (left - 1) (drop h.next m)) in
       let comes : g.front ++ (s ++ (b ∷ [])) ++ r ≡ take start o ++ each q b (held count m) =
       append_assoc g.front (s ++ (b ∷ [])) r
-      ∙ ap (λ (x : List ℕ). g.front ++ x) (append_assoc s (b ∷ []) r ∙ ap (λ (x : List ℕ). x ++ (b ∷ r)) (part-is m q f))
+      ∙ ap (λ (x : List ℕ). g.front ++ x) (append_assoc s (b ∷ []) r ∙ ap (λ (x : List ℕ). x ++ (b ∷ r)) (part_is m q f))
       ∙ sym (ap (λ (es : Store). g.front ++ each q b es) c.entry)
       ∙ g.comes in
       let l1 = ap (λ (x : List ℕ). length x) comes in

@@ -20,7 +20,7 @@ use Rattle.templates.proofs.Count.{longest_upper, longest_reached, longest_most,
 use Rattle.templates.proofs.Matching.{common-same, common_other}
 use Rattle.templates.proofs.Keys.{eq_or, lt_or}
 use Rattle.templates.proofs.Order.{first_keys, precedes_trans}
-use Rattle.templates.proofs.Placed.{order_within, placed-is}
+use Rattle.templates.proofs.Placed.{order_within, placed_is}
 
 -- ---- a template between two others
 
@@ -62,9 +62,9 @@ nearer_above p (x ∷ a) (y ∷ b) (z ∷ c) u v = ⊎_elim
     (λ n. omega (arith, common_other z x c a n)) (eq_or z x)
 
 -- the most in common is an upper bound that is reached
-longest-is : (c : Bytes) (ts : List Bytes) (m : ℕ) → ((k : ℕ) → k < length ts → common c (get_or ts k []) ≤ m)
+longest_is : (c : Bytes) (ts : List Bytes) (m : ℕ) → ((k : ℕ) → k < length ts → common c (get_or ts k []) ≤ m)
     → ((m ≡ 0) ⊎ ((k : ℕ) × (k < length ts) × (common c (get_or ts k []) ≡ m))) → m ≡ longest c ts
-longest-is c ts m up got = ⊎_elim (λ z. omega (arith, below)) (λ z. let (k, v, q) = z in omega (arith, below, longest_upper c ts k v)) got
+longest_is c ts m up got = ⊎_elim (λ z. omega (arith, below)) (λ z. let (k, v, q) = z in omega (arith, below, longest_upper c ts k v)) got
   where
     below : longest c ts ≤ m
     below = ⊎_elim (λ u. let (l, v, q) = longest_reached c ts u in omega (arith, up l v)) (λ u. omega arith) (lt_or 0 (longest c ts))
@@ -82,7 +82,7 @@ pub record Narrowed (p : ℕ) (ts : List Bytes) (order : ℕ → ℕ) (c : Bytes
   pub within : high ≤ length ts
   pub lower : (i : ℕ) → i < low → precedes p (placed ts order i) c ≡ true
   pub higher : (i : ℕ) → high ≤ i → i < length ts → precedes p c (placed ts order i) ≡ true
-  pub below-is : below ≡ before ts order c low
+  pub below_is : below ≡ before ts order c low
   pub above_is : high < length ts → above ≡ common c (placed ts order high)
   pub above_none : length ts ≤ high → above ≡ 0
 
@@ -94,7 +94,7 @@ module _ {p : ℕ} {ts : List Bytes} {order : ℕ → ℕ} {c : Bytes} (so : InO
     within = omega arith;
     lower = λ i u. absurd (omega arith);
     higher = λ i u v. absurd (omega arith);
-    below-is = refl;
+    below_is = refl;
     above_is = λ u. absurd (omega arith);
     above_none = λ u. refl;
   }
@@ -116,7 +116,7 @@ module _ {p : ℕ} {ts : List Bytes} {order : ℕ → ℕ} {c : Bytes} (so : InO
         within = omega (arith, n.within);
         lower = n.lower;
         higher = λ i a b. ⊎_elim (λ e. rw (← e) w) (λ e. precedes_trans p c (placed ts order mid) (placed ts order i) w (so.ascending mid i e b)) (eq-or-lt_of_le {n = mid} {m = i} a);
-        below-is = n.below-is;
+        below_is = n.below_is;
         above_is = λ a. q;
         above_none = λ a. absurd (omega (arith, n.within));
       }
@@ -129,7 +129,7 @@ module _ {p : ℕ} {ts : List Bytes} {order : ℕ → ℕ} {c : Bytes} (so : InO
         lower = λ i a. ⊎_elim (λ e. rw e w)
             (λ e. precedes_trans p (placed ts order i) (placed ts order mid) c (so.ascending i mid e (omega (arith, n.within))) w) (eq-or-lt_of_le {n = i} {m = mid} (omega arith));
         higher = n.higher;
-        below-is = rw add-one q;
+        below_is = rw add-one q;
         above_is = n.above_is;
         above_none = n.above_none;
       }
@@ -156,7 +156,7 @@ module _ {p : ℕ} {ts : List Bytes} {order : ℕ → ℕ} {c : Bytes} (so : InO
       most k v =
           let (i, a, e) = so.every k v in
           let h : common c (placed ts order i) ≤ max below above =
-          ⊎_elim (λ z. omega (arith, n.below-is, below_most low i z (omega arith))) (λ z. omega (arith, above_most i (omega arith) a)) (lt_or i low) in
+          ⊎_elim (λ z. omega (arith, n.below_is, below_most low i z (omega arith))) (λ z. omega (arith, above_most i (omega arith) a)) (lt_or i low) in
           rw e at h
 
       -- and what these have is reached
@@ -170,12 +170,12 @@ module _ {p : ℕ} {ts : List Bytes} {order : ℕ → ℕ} {c : Bytes} (so : InO
       reached : (max below above ≡ 0) ⊎ ((k : ℕ) × (k < length ts) × (common c (get_or ts k []) ≡ max below above))
       reached = ⊎_elim
           (λ z. ⊎_elim (λ y. inl (omega arith)) (λ y. inr (y.0, y.1, omega (arith, y.2))) above_reached)
-          (λ z. ⊎_elim (λ y. inl (omega (arith, n.below-is))) (λ y. inr (y.0, y.1, omega (arith, y.2, n.below-is)))
+          (λ z. ⊎_elim (λ y. inl (omega (arith, n.below_is))) (λ y. inr (y.0, y.1, omega (arith, y.2, n.below_is)))
           (below_reached low (omega (arith, n.ascending, n.within)))) (lt_or below above)
 
       -- a neighbour has the most in common with c of all
       neighbours_most : max below above ≡ longest c ts
-      neighbours_most = longest-is c ts (max below above) most reached
+      neighbours_most = longest_is c ts (max below above) most reached
 
       -- the rest of its beginnings are new
       narrowed_done : (new : ℕ) → new ≡ suc (length c) - max below above → Finds p ts order c low new
@@ -202,7 +202,7 @@ module _ {p : ℕ} {text : Bytes} {t : Table} {k start len : ℕ} (so : InOrder 
         (e : m ≡ common (part text start (start + len)) (part text s (s + l))) where
       -- the template in the middle is the one that is read there
       middle : part text s (s + l) ≡ placed (templates_in text t k) (order_in t) ((low + high) / 2)
-      middle = placed-is text t k ((low + high) / 2) i s l (order_within text t k ((low + high) / 2) p so (omega (arith, n.few))) q a b
+      middle = placed_is text t k ((low + high) / 2) i s l (order_within text t k ((low + high) / 2) p so (omega (arith, n.few))) q a b
 
       -- and has so much in common with the new one
       middle_common : m ≡ common (part text start (start + len)) (placed (templates_in text t k) (order_in t) ((low + high) / 2))

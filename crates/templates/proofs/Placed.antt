@@ -24,8 +24,8 @@ module _ (text : Bytes) (t : Table) (n i : ℕ) where
     pub placed_inside : Entries text t n → s + l ≤ length text
     placed_inside h = entry_inside text t n k s l h (omega arith) a b
 
-    pub placed-is : part text s (s + l) ≡ placed (templates_in text t n) (order_in t) i
-    placed-is = entry_is text t k s l a b ∙ sym (templates_in_at text t n k (omega arith)) ∙ ap (λ (j : ℕ). get_or (templates_in text t n) j []) q
+    pub placed_is : part text s (s + l) ≡ placed (templates_in text t n) (order_in t) i
+    placed_is = entry_is text t k s l a b ∙ sym (templates_in_at text t n k (omega arith)) ∙ ap (λ (j : ℕ). get_or (templates_in text t n) j []) q
 
     pub placed_key : (p x r : ℕ) → Key p (part text s (s + l)) x r → r ≡ keys p (templates_in text t n) (order_in t i) x
-    placed_key p x r h = h.is ∙ ap (λ (c : Bytes). key_of p c x) placed-is
+    placed_key p x r h = h.is ∙ ap (λ (c : Bytes). key_of p c x) placed_is

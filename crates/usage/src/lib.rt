@@ -1,6 +1,7 @@
 // How often each template was chosen (document 02, request 7): the counts of a run, and the usage report that is printed from them. There is
 // a count for each macro that a text may have, in the order of the text, and a last one for the lines passed through.
 #![tactic(auto)]
+
 ghost use Rattle.std.specs.Prelude.{◌≡◌, ◌<◌, length, get_or};
 ghost use Rattle.model.specs.Limits.{fuel_most};
 ghost use Rattle.model.specs.Report.{one_more_of, row_bytes};

@@ -1,0 +1,83 @@
+-- finish_code does what the ending says: each arm is its leaf's.
+use borrow.Author.Rules.{rules}
+use Rattle.carry.proofs.Endings.{assign_parameter, iterate_parameter, iterate_within, iterate_depth, repeat_depth, copy-ready}
+use Rattle.carry.proofs.Endings.{ends_offer, ends_assign, ends_iterate, ends_stop, ends_write, ends_layout, ends_copy, ends_save, ends_skip, ends_text, ends_value, ends_repeat, ends_again, ends_leave, ends_malformed}
+use Rattle.carry.proofs.finish_code.Goals as goal
+
+pub assign-requires : goal.assign-requires
+assign-requires c = search (assign_parameter, rules)
+
+pub begin_passes-requires : goal.begin_passes-requires
+begin_passes-requires c =
+    let ready = c.requires.placed.1 in
+    let e = c.in-Iterate.is in
+    record {
+      placed = (c.requires.placed.0, iterate_depth ready e);
+      parameter = (iterate_parameter ready e, (ready.short, ready.long));
+      list_le_to = (iterate_within ready e, ready.within);
+    }
+
+pub copy_input-requires : goal.copy_input-requires
+copy_input-requires c =
+    let pre = c.requires in
+    (pre.placed.0, copy-ready pre.sound)
+
+pub repeat-requires : goal.repeat-requires
+repeat-requires c =
+    let pre = c.requires in
+    let placed = pre.placed.0 in
+    record {
+      next_in_bounds = (placed.next, placed.nums, repeat_depth pre.placed.1 (search rules));
+      kept = (pre.sound.kept, search rules);
+    }
+
+pub returns-in-Offer : goal.returns-in-Offer
+returns-in-Offer c = search (ends_offer, rules)
+
+pub returns-in-Assign : goal.returns-in-Assign
+returns-in-Assign c = search (ends_assign, rules)
+
+pub returns-in-Iterate : goal.returns-in-Iterate
+returns-in-Iterate c =
+    let pre = c.requires in
+    ends_iterate pre.sound pre.placed.0 c.in-Iterate.is c.begin_passes.ensures
+
+pub returns-in-Stop : goal.returns-in-Stop
+returns-in-Stop c = search (ends_stop, rules)
+
+pub returns-in-Write : goal.returns-in-Write
+returns-in-Write c = search (ends_write, rules)
+
+pub returns-in-Layout : goal.returns-in-Layout
+returns-in-Layout c =
+    let pre = c.requires in
+    ends_layout pre.sound pre.placed.0 c.in-Layout.is c.write_layout_line.ensures
+
+pub returns-in-Copy : goal.returns-in-Copy
+returns-in-Copy c =
+    let pre = c.requires in
+    ends_copy pre.sound pre.placed.0 c.in-Copy.is c.copy_input.ensures
+
+pub returns-in-Save : goal.returns-in-Save
+returns-in-Save c = search (ends_save, rules)
+
+pub returns-in-Skip : goal.returns-in-Skip
+returns-in-Skip c = search (ends_skip, rules)
+
+pub returns-in-SkipText : goal.returns-in-SkipText
+returns-in-SkipText c = search (ends_text, rules)
+
+pub returns-in-SkipValue : goal.returns-in-SkipValue
+returns-in-SkipValue c = search (ends_value, rules)
+
+pub returns-in-Repeat : goal.returns-in-Repeat
+returns-in-Repeat c = search (ends_repeat, rules)
+
+pub returns-in-Again : goal.returns-in-Again
+returns-in-Again c = search (ends_again, rules)
+
+pub returns-in-Leave : goal.returns-in-Leave
+returns-in-Leave c = search (ends_leave, rules)
+
+pub returns-in-Malformed : goal.returns-in-Malformed
+returns-in-Malformed c = search (ends_malformed, rules)
