@@ -1,0 +1,13 @@
+-- fit answers 1 for a short row of nodes or of dead places, else the first reading, which keeps document 01's rule.
+use Rattle.stage2.proofs.Results.{fit_short, fit_legal, no_rule, first_rule}
+use Rattle.stage2.proofs.fit.Goals as goal
+
+pub returns-then-lack_room : goal.returns-then-lack_room
+returns-then-lack_room c =
+    let is = fit_short _ _ _ _ c.lack_room.ensures c.if-lack_room.true c.no_pieces.ensures in
+    record { value = is; holds_tree = no_rule _ _ is c.lack_room.ensures c.if-lack_room.true }
+
+pub returns : goal.returns
+returns c =
+    let is = fit_legal _ _ _ _ c.lack_room.ensures c.if-lack_room.false c.fit_prepared.ensures in
+    record { value = is; holds_tree = first_rule _ _ is c.prepare-t.ensures }
