@@ -5,32 +5,35 @@ of the proof that was made for it does not hold, with a place in the function's 
 import os
 import re
 
-ERROR = re.compile(r"^(?P<path>/.+?):(?P<line>\d+):(?P<column>\d+): error: (?:`(?P<name>[^`\s]+)`: )?(?P<message>.*(?:\n  .*)*)", re.M)
-NOTE = re.compile(r"^note: (?P<path>/.+?):(?P<line>\d+):(?P<column>\d+): (?P<message>it is not proved that .*) \(`(?P<name>.+)`\)$", re.M)
+PATH = r"(?:\./)?(?P<path>\S+?):(?P<line>\d+):(?P<column>\d+): "
+ERROR = re.compile(rf"^{PATH}error(?:\[[\w-]+\])?: (?:`(?P<name>[^`\s]+)`: )?(?P<message>.*(?:\n  .*)*)", re.M)
+NOTE = re.compile(rf"^note: {PATH}(?P<message>it is not proved that .*?) \(`(?P<name>[^`]+)`\)", re.M)
 # A term that does not have its type, sides that are not equal, or a goal that does not follow. All else, as a name out of scope, a hole, a term
 # that was not admitted or a rewriting that finds nothing, tells of a proof that no longer fits.
-NOT_HAD = re.compile("expected type .* but this has type|≟ .* does not hold|`omega`: the goal does not follow|`search`: no proof of|^it is not proved that")
+NOT_HAD = re.compile("expected type .* but this has type|the two (?:types|values|sides) (?:first )?(?:differ|are)|≟ .* does not hold"
+                     "|`(?:omega|grind)`: the goal does not follow|`search`: no proof of|^it is not proved that")
 WRITTEN = "-- Written by tools/walk with the facts of its answers."  # the second line of a walk
-FOLLOWS = "so this cannot be checked"
-FUNCTION = re.compile(r"^(?:pub )?(?:extern \"C\" )?fn (\w+)", re.M)
+FOLLOWS = re.compile("so this cannot be checked|was rejected, w(?:as|ere) not checked|was not admitted, w(?:as|ere) not checked")
+FUNCTION = re.compile(r"^ *(?:pub )?(?:extern \"C\" )?fn (\w+)", re.M)
 CUT = 150
 
 
 class Failure:
-    """Where a check fails: file, line, column, the declaration's name and the message, on one line."""
+    """Where the check of a crate fails: file, line, column, the declaration's name and the message, on one line."""
 
-    def __init__(self, found, root):
-        self.file, self.line, self.column = os.path.relpath(found["path"], root), int(found["line"]), int(found["column"])
+    def __init__(self, found, crate):
+        path = os.path.join(crate, found["path"])
+        self.file, self.line, self.column = os.path.relpath(path, crate), int(found["line"]), int(found["column"])
         self.name, self.message = found["name"], " ".join(found["message"].split())
         if found.re is NOTE:
-            self.name = f"{function_at(found['path'], self.line)}.{self.name}"
-        self.in_walk = os.path.isfile(found["path"]) and WRITTEN in open(found["path"]).read()
+            self.name = f"{function_at(path, self.line)}.{self.name}"
 
     def place(self):
         return f"{self.file} {self.name}"
 
-    def stands_in(self, file, beginning):
-        return self.file == file and (self.name or "").startswith(beginning)
+    def stands_in(self, folder, beginning):
+        """Whether it stands in a folder of the crate or, in a source, in a name that begins so."""
+        return self.file.startswith(f"{folder}/") or self.file.startswith("src/") and (self.name or "").startswith(beginning)
 
     def is_fact(self):
         return bool(self.name and NOT_HAD.search(self.message))
@@ -39,10 +42,10 @@ class Failure:
         return self.message[:CUT]
 
 
-def failures(text, root):
-    """The failures in what was said of the files below root, in order. Those that only follow from another come last."""
-    found = sorted([*ERROR.finditer(text), *NOTE.finditer(text)], key=lambda match: (FOLLOWS in match["message"], match.start()))
-    return [Failure(match, os.path.abspath(root)) for match in found]
+def failures(text, crate):
+    """The failures in what was said of a crate, which is in a folder, in order. Those that only follow from another come last."""
+    found = sorted([*ERROR.finditer(text), *NOTE.finditer(text)], key=lambda match: (bool(FOLLOWS.search(match["message"])), match.start()))
+    return [Failure(match, os.path.abspath(crate)) for match in found]
 
 
 def function_at(path, line):

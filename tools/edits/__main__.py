@@ -37,8 +37,7 @@ def found(folder, crate="*", label="*"):
 def try_all(groups, attempt, write=False):
     """How many edits are as they must be, and how many are not; says of each what came of it."""
     right = other = 0
-    repository.ask_proved(sorted({edit.crate for group in groups for edit, _ in group}))
-    repository.incremental()
+    repository.ask_proved(sorted({edit.crate for group in groups for edit, _ in group}, key=list(repository.listed(".")).index))
     with ThreadPoolExecutor(repository.jobs()) as pool:
         for group, results in zip(groups, pool.map(attempt, groups)):
             for (edit, _), (as_it_must, message, place) in zip(group, results):

@@ -1,13 +1,13 @@
 """Must-fail edits: each crates/CRATE/must-fail/NAME.edit must be refused, at the fact that it denies. The edit's line
   fact: FILE NAME
-says where the check must fail: in FILE of the crate, in the declaration NAME; for a part of a proof that the checker makes by itself, FILE is the
-source, and NAME is FUNCTION.PART. As a rule that is the first failure. It may be a later one that is no consequence of another, where what
+says where the check must fail: in FILE of the crate, at the goal or lemma NAME; for a goal that the checker proves by itself, FILE is the
+source, and NAME is FUNCTION.GOAL. As a rule that is the first failure. It may be a later one that is no consequence of another, where what
 fails before it is not what the edit is about, as that there is room for the bytes that are wrong. A failure there for the shape of a proof, as
-a rewriting that finds nothing, shows nothing; and so does one in a walk, whose facts only tools/walk knows: a wrong program under a walk is a
-walked edit.
+a rewriting that finds nothing, shows nothing.
 
 A crate is tried in a repository of its own, below target/edits/CRATE (tools/common/repository.py), with edits together where that shows the same
-(together.py). One that does not come out as it must is tried alone. What the checker said of an edit stays in target/edits/CRATE/NAME.log."""
+(together.py). One that does not come out as it must is tried alone. What the checker said of an edit stays in target/edits/CRATE/NAME.log.
+`rt must-fail` tries the same edits, and asks for no more than that each is refused."""
 import shutil
 
 import repository
@@ -16,6 +16,7 @@ from edit import Edit
 from fault import Fault
 
 FOLDER = "target/edits"
+NOT_BUILT = "did not build, so nothing above it was checked"  # of a crate below
 
 
 def read(path):
@@ -47,19 +48,18 @@ def judge(status, text, crate, fact, own=None):
     if status == 0:
         return None, "PROVED"
     failures = [failure for failure in said.failures(text, crate) if own is None or failure.stands_in(*own)]
-    if status != 1 or "\nlogic=not-proved" not in f"\n{text}" or not failures:
+    if status != 1 or "\nlogic=not-proved" not in f"\n{text}" or NOT_BUILT in text or not failures:
         return None, f"NOT TRIED (status {status}): {text.strip()[-said.CUT:]}"
     first = failures[0]
     if any(failure.place() == fact and shows(failure) for failure in failures):
         return fact, first.cut() if first.place() == fact else f"behind {first.place()}: {first.cut()}"
     if shows(first):
         return first.place(), first.cut()
-    kind = "IN A WALK, so it is to be a walked edit," if first.in_walk else "FOR ITS SHAPE"
-    return None, f"REFUSED {kind} at {first.file}:{first.line}: {first.cut()}"
+    return None, f"REFUSED FOR ITS SHAPE at {first.file}:{first.line}: {first.cut()}"
 
 
 def shows(failure):
-    return failure.is_fact() and not failure.in_walk and not failure.file.startswith("..")
+    return failure.is_fact() and not failure.file.startswith("..")
 
 
 def verdict(edit, place, message):

@@ -1,14 +1,15 @@
 """Run edits: each crates/CRATE/run-edits/NAME.edit is a wrong program that is proved all the same, so that its run must tell.
 
-The contracts of the C functions that read and write say how many bytes came and went, and not which, so the proof of a program can't say that it
-reads at all, or writes. The edit's line
+No contract can say which bytes a read takes from a file or what a write gives to it, so the proof of a program can't say that it reads at all, or
+writes. The edit's line
   run: PROGRAM
 names a program over the crate. Crate and program are proved and built with the edit, in a repository of their own below target/run-edits, and
-the program is run: what it writes must differ from its file stdout. A line
+the program is run on its files args, stdin and data: what it writes must differ from its file stdout. A line
   without: PATH
 names a proof file that fits the right program alone; the checker makes the wrong one's proof by itself."""
 import os
 import shutil
+import subprocess
 
 import repository
 import said
@@ -16,6 +17,7 @@ from edit import Edit
 from fault import Fault, ask
 
 FOLDER = "target/run-edits"
+SECONDS = 120
 
 
 def read(path):
@@ -24,11 +26,7 @@ def read(path):
 
 def over(crate):
     """The crates that depend on a crate, directly or not."""
-    found = {crate}
-    for name, dependencies in repository.listed(".").items():
-        if found & set(dependencies):
-            found.add(name)
-    return found - {crate}
+    return {name for name in repository.listed(".") if crate in repository.below([name])} - {crate}
 
 
 def try_group(group):
@@ -40,25 +38,42 @@ def try_edit(edit):
     program, root = edit.says("run"), f"{FOLDER}/{edit.crate}/{edit.name}"
     try:
         ask(program in over(edit.crate) | {edit.crate}, f"{edit.path}: no program over {edit.crate} is named to be run")
-        repository.make(root, edit.crate, over(edit.crate))
+        repository.make(root, edit.crate, [program])
         edit.apply(root)
         for where, path in edit.said["without"]:
             ask(path.startswith("proofs/") and os.path.isfile(f"{root}/crates/{edit.crate}/{path}"), f"{where}: the crate has no {path}")
             os.remove(f"{root}/crates/{edit.crate}/{path}")
     except Fault as fault:
         return False, str(fault)
-    ran = repository.run(["rt", "check", program], root)
+    # a run on nothing, for what it builds
+    built = repository.run(["rt", "run"], f"{root}/crates/{program}")
     with open(f"{root}.log", "w") as log:
-        log.write(ran.stdout)
+        log.write(built.stdout)
+    told = judge(program, built.stdout, *written(f"{root}/crates/{program}", program))
     shutil.rmtree(root)
-    return judge(program, ran.returncode, ran.stdout)
+    return told
 
 
-def judge(program, status, text):
-    if status == 0:
+def written(folder, program):
+    """What a program writes, run on its crate's files, and what it is to write; None for a program that was not built or does not end."""
+    binary, files = os.path.abspath(f"{folder}/out/{program}"), {}
+    for name in ("args", "stdin", "stdout"):
+        path = f"{folder}/{name}"
+        files[name] = open(path, "rb").read() if os.path.isfile(path) else b""
+    if not os.path.isfile(binary):
+        return None, files["stdout"]
+    data = f"{folder}/data"
+    os.makedirs(data, exist_ok=True)
+    try:
+        ran = subprocess.run([binary, *files["args"].decode().splitlines()], cwd=data, input=files["stdin"], capture_output=True, timeout=SECONDS)
+    except subprocess.TimeoutExpired:
+        return None, files["stdout"]
+    return ran.stdout, files["stdout"]
+
+
+def judge(program, text, wrote, wanted):
+    if wrote is None:
+        return False, f"NOT PROVED, or not ended, so nothing was told: {text.strip()[-said.CUT:]}"
+    if wrote == wanted:
         return False, f"PROVED, AND THE RUN OF {program} DOES NOT TELL"
-    if status != 1 or f"rt: {program} proved, and its run FAILED" not in text:
-        return False, f"NOT PROVED, so nothing was run (status {status}): {text.strip()[-said.CUT:]}"
-    if f"rt: {program}: what the program wrote is not what its file 'stdout' has" not in text:
-        return False, f"{program} DID NOT END WELL: {text.strip()[-said.CUT:]}"
     return True, f"proved, and {program} writes something else"

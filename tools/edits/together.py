@@ -3,12 +3,13 @@
 A function is proved by itself, against its own contract and those of the functions that it calls. So where an edit changes one function's body
 alone, what fails in that function's own proof is this edit's doing, whatever is changed in other bodies, and fails in the same way when the edit is
 tried alone. What a contract, a definition or a constant says reaches further: such an edit is tried alone, and so is each whose fact stands
-elsewhere. Functions in a cycle of calls have one proof, and count as one here."""
+elsewhere, and each of a function in a cycle of calls: these functions have one proof."""
 import re
 
 from said import FUNCTION
 
 BODY = re.compile(r"^(?:\{|(?:pub |extern |fn |\)).*\{)$", re.M)
+CYCLE = re.compile(r"^#\[cycle\(\w+\)\]\s*\Z", re.M)
 
 
 def function_of(code, old):
@@ -22,19 +23,23 @@ def function_of(code, old):
     return heads[-1].group(1) if body and end and body.end() <= at and at + len(old) <= end.start() else None
 
 
+def is_in_cycle(code, function):
+    head = next(head for head in FUNCTION.finditer(code) if head.group(1) == function)
+    return bool(CYCLE.search(code, 0, head.start()))
+
+
 def unit(edit):
-    """The proof that alone can fail for an edit, as a file and the beginning of names in it; None for an edit that is tried alone."""
-    places = {(file, function_of(open(f"crates/{edit.crate}/{file}").read(), old)) for file, old, _ in edit.replaced if file.startswith("src/")}
-    if len(places) != 1 or any(not file.startswith("src/") for file, _, _ in edit.replaced):
+    """The proof that alone can fail for an edit, as its folder and the beginning of its names in the source; None for an edit that is tried alone."""
+    codes = {file: open(f"crates/{edit.crate}/{file}").read() for file, _, _ in edit.replaced}
+    places = {(file, function_of(codes[file], old)) for file, old, _ in edit.replaced}
+    if len(places) != 1:
         return None
     (source, function), (file, _, name) = places.pop(), edit.says("fact").partition(" ")
-    if function is None:
+    if not source.startswith("src/") or function is None or is_in_cycle(codes[source], function):
         return None
-    if file == source and name.startswith(f"{function}."):
-        return file, f"{function}."
     module = source.removeprefix("src/").removesuffix(".rt").removesuffix("lib").removesuffix("main")
-    folder = file.removeprefix("proofs/").removesuffix("/Proof.antt").removeprefix(module).removeprefix("/")
-    return (file, "") if function in folder.removeprefix("+").split("+") else None
+    own = "/".join(["proofs", *([module] if module else []), function]), f"{function}."
+    return own if file.startswith(f"{own[0]}/") or file == source and name.startswith(own[1]) else None
 
 
 def groups(edits):

@@ -1,5 +1,6 @@
 // Passing over code lines of a body: for a skip, and past an iteration that makes no pass.
 #![tactic(auto)]
+
 ghost use Rattle.std.specs.Prelude.{◌≤◌, length};
 ghost use Rattle.body.specs.Steps.{DropsFirst, StepsOver, PassesOver, Leaves};
 

@@ -2,6 +2,7 @@
 // What is copied or moved has to lie in its slice, at its old place and at the new one; move_down asks for a new place that is no higher,
 // move_up for one that is no lower. A number to be narrowed has to be below 256, and one in decimal to have 20 bytes for its digits.
 #![tactic(auto)]
+
 ghost use Rattle.std.specs.Prelude.{◌≡◌, ◌+◌, ◌≤◌, ◌<◌, ◌^◌, length, drop};
 ghost use Rattle.model.specs.Text.{same};
 ghost use Rattle.buffer.specs.Pasted.{Pasted};

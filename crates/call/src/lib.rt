@@ -9,6 +9,7 @@
 // taken from, that what becomes a parameter has at most 200 bytes, and that a line that is built has 200 (`HasBuilt`). What the numbers
 // say is free: a length counts as at most 200.
 #![tactic(auto)]
+
 ghost use Rattle.std.specs.Prelude.{cond, ◌≡◌, ◌+◌, ◌≤◌, length};
 ghost use Rattle.model.specs.Text.{part};
 ghost use Rattle.call.specs.Call.{Capped, Sized, param_bytes, call_numbers, call_bytes};

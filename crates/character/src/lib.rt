@@ -1,6 +1,7 @@
 // The characters of a text in UTF-8 (RFC 3629; document 02, ticket 1): the one at a place, and how many a whole text has. No public function
 // has a `requires`.
 #![tactic(auto)]
+
 ghost use Rattle.std.specs.Prelude.{◌≡◌, true, ◌-◌, ◌≤◌, ◌<◌, length, get_or};
 ghost use Rattle.model.specs.Utf8.{is_tail, is_second};
 ghost use Rattle.character.specs.Decoding.{CountsBytes, JoinsTwo, JoinsThree, JoinsFour, ReadsCharacter};

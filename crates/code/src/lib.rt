@@ -1,5 +1,6 @@
 // What a code line says, read token by token: bytes and conversions that build a line, then what is done at its end.
 #![tactic(auto)]
+
 ghost use Rattle.std.specs.Prelude.{◌≡◌, List, ℕ, ◌≤◌, length};
 ghost use Rattle.model.specs.Text.{part};
 ghost use Rattle.model.specs.Code.{effect_of, writing, copying, text_test, value_test, line_function, function, conversion, form};

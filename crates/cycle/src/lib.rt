@@ -2,6 +2,7 @@
 // each line that is offered and each code line that is begun. Of the lent rows, `dead` is the search's alone: it has bits for the places of the
 // tree's `count` nodes; `counts` says how often each template was chosen.
 #![tactic(auto)]
+
 ghost use Rattle.std.proofs.Math.Option.{none, some};
 ghost use Rattle.std.specs.Prelude.{[], ◌∷◌, ◌≤◌, ◌<◌, length, take};
 ghost use Rattle.model.specs.Machine.{outputs};
@@ -22,7 +23,7 @@ use nodes::Node;
 use state::State;
 
 // Offers the first n bytes of a line, with `depth` calls open. A call that it opens is laid out in two arrays.
-#[cycle(advance_body_offer)]
+#[cycle(calls)]
 pub fn offer(
     m: Marks,
     text: &[u8],
@@ -76,7 +77,7 @@ pub fn offer(
 }
 
 // Lays a call out that is opened, with `depth` callers, and runs it.
-#[cycle(advance_body_offer)]
+#[cycle(calls)]
 fn body(
     m: Marks,
     text: &[u8],
@@ -116,7 +117,7 @@ fn body(
 }
 
 // Carries out the next code line of the call of an answer, which has `depth` callers, and offers the line that it builds, which has 200 bytes of its own.
-#[cycle(advance_body_offer)]
+#[cycle(calls)]
 fn advance(
     m: Marks,
     text: &[u8],

@@ -3,7 +3,7 @@ use mathlib.Core.Path.{◌≡◌, refl, sym, ap, ◌∙◌, subst}
 use mathlib.Core.Bool.{Bool, true, false}
 use mathlib.Core.Option.{none, some}
 use mathlib.Core.List.{List, [], ◌∷◌}
-use Prim.Native.Nat.{ℕ, suc, ◌+◌, ◌-◌, ◌*◌, ◌≤◌, ◌<◌}
+use Prim.Native.Nat.{ℕ, suc, ◌+◌, ◌-◌, ◌≤◌, ◌<◌}
 use native.Mathlib.Numerals.{add-one}
 use native.Mathlib.Omega.{arith}
 use native.Mathlib.Nat.{pos_of_ne-zero}
@@ -44,17 +44,6 @@ use Rattle.matching.proofs.Matching.{reading_calls}
 use Rattle.matching.proofs.Counting.{decided_counts, passed_tally, chosen_tally}
 use Rattle.cycle_laws.specs.Meets.{Meets, Advances}
 use Rattle.cycle_laws.proofs.Events.{event_with, offer_spent, no_call, too_deep, enters}
-
--- ---- the measures: twice the fuel, and one more for a body
-
-pub below-turn : {a b : ℕ} → a < b → 2 * a < 2 * b
-below-turn h = omega arith
-
-pub below_body : {a b : ℕ} → a ≤ b → 2 * a < 2 * b + 1
-below_body h = omega arith
-
-pub below-call : {a b : ℕ} → a < b → 2 * a + 1 < 2 * b
-below-call h = omega arith
 
 -- ---- the states that follow one another
 

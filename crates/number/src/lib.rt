@@ -1,5 +1,6 @@
 // Values as numbers. A step tests whether its result is in range before it computes it.
 #![tactic(auto)]
+
 ghost use Rattle.std.specs.Prelude.{◌≡◌, true, ltb, pos, nat_abs, ◌+ℤ◌, ◌-ℤ◌, ◌*ℤ◌, length, drop, ◌+◌, ◌*◌, ◌-◌, ◌≤◌};
 ghost use Rattle.std.specs.Int.Signed.{mag};
 ghost use Rattle.model.specs.Text.{is_digit};

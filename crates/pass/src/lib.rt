@@ -1,6 +1,7 @@
 // What a pass of an iteration takes from the line it goes over (document 01, "A call's code"). The pass has to start
 // in the line or at its end; nothing else is asked.
 #![tactic(auto)]
+
 ghost use Rattle.std.specs.Prelude.{◌≤◌, ◌<◌, length};
 ghost use Rattle.pass.specs.Pass.{Takes, TakesCharacter, ChoosesFault};
 

@@ -1,6 +1,7 @@
 // The lent row of dead places (document 02, ticket 3): a bit for each place, by the place's number.
 // The row has to have the byte of a place that is asked for or set, and the bytes of all places that are cleared.
 #![tactic(auto)]
+
 ghost use Rattle.std.specs.Prelude.{◌≡◌, ◌*◌, ◌/◌, ◌≤◌, ◌<◌, length};
 ghost use Rattle.places.specs.Bits.{bit, AddsBit, ClearsBits};
 

@@ -1,6 +1,7 @@
 // Bytes and numbers added to a lent slice, one after another. Each function adds bytes from an offset on and answers where they end;
 // every other byte of the slice stays as it was. What is added has to have room.
 #![tactic(auto)]
+
 ghost use Rattle.model.specs.Store.{decimal};
 ghost use Rattle.rendering.specs.Prints.{RoomFor, Prints};
 

@@ -1,6 +1,7 @@
 // What a run carries from one event to the next, by value. The outputs and memory are lent slices beside it.
 // An event asks that fuel is left, and what is counted has to be at most 1,000,000, so that no sum is too large. Nothing else is asked.
 #![tactic(auto)]
+
 ghost use Rattle.std.specs.Prelude.{◌≡◌, ◌+◌, ◌≤◌, ◌<◌};
 ghost use Rattle.state.specs.State.{counted_event, with_index, with_symbol, with_written, with_input, with_call};
 ghost use Rattle.model.specs.Limits.{fuel_most};

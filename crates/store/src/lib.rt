@@ -2,6 +2,7 @@
 // of 256 entries. An entry is a byte with the name's length, one with the text's, the name and the text. Entries stand in
 // the order in which their names were first stored, with nothing between them.
 #![tactic(auto)]
+
 ghost use Rattle.std.specs.Prelude.{◌≡◌, [], ◌+◌, ◌≤◌, ◌<◌, length, get_or};
 ghost use Rattle.store.specs.Memory.{held, Kept, Holds};
 ghost use Rattle.store.specs.Seek.{EntryAt, Locates, SeeksName};

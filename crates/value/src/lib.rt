@@ -2,6 +2,7 @@
 // of calls over the bytes left; sums and products are loops, so only brackets nest calls.
 // `value` asks that the index fits memory (`Kept`), and nothing of the text.
 #![tactic(auto)]
+
 ghost use Rattle.std.specs.Prelude.{◌≡◌, true, false, ◌+◌, ◌*◌, ◌-◌, ◌≤◌, ◌<◌, length, get_or, drop};
 ghost use Rattle.model.specs.Text.{is_digit};
 ghost use Rattle.model.specs.Store.{find};

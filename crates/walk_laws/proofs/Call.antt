@@ -1,10 +1,10 @@
--- A call in one step: from the tokens and what the arguments own to the tokens, with the callee's `ensures` in hand and what the result is. The results that walks meet are plain data, so what they own is nothing.
---     asks, asks_last      the callee has no `&mut`; `-last`: the call is the last of its sequence
+-- A call in one step: from the tokens and what the arguments own to the tokens, with the callee's `ensures` in hand and what the result is. What the result owns is let go: the laws are for results that are plain data, which own nothing.
+--     asks, asks_last      the callee has no `&mut`; `_last`: the call is the last of its sequence
 --     asksˡ, asksˡ_last    it has one: what says the last lists is had too
 --     says_both, hears_both    two clauses of `ensures`: said by the function, and heard by its caller
 use mathlib.Core.List.{List, [], ◌∷◌}
 use seplogic.Ra.Ura.{Ura}
-use mir.Syntax.{Name, Place, Opd as Operand, Body, seq, call}
+use mir.Syntax.{Callee, Place, Opd as Operand, Body, seq, call}
 use mir.Val.{Val}
 use base.Logic.{SProp, ent, sep, emp, via, id⊢, emp∗, mono∗, fst∗, snd∗, ex_e}
 use prog.Wp.{Env, Calls, Loops}
@@ -63,7 +63,7 @@ module _ {M : Type 1} {𝓤 : Ura M} {K : Type 0} (𝓛 : Logic 𝓤) {Γ : List
       heard t (ψ r) (λ e. split t $ move t (1 ∷ []) $ peeks t (Out 𝓛 T c y) (Is (Out 𝓛 T c y)) (shows 𝓛 (Out 𝓛 T c y)) r (v ∷ []) (λ is.
       drop t $ k r is e)))
 
-  module _ {E : Env 𝓤 H} {C : Calls 𝓤 H} {Λ : Loops 𝓤 H} {q : Post 𝓤 H} {f : Name} {xs : List Operand} {d : Place} where
+  module _ {E : Env 𝓤 H} {C : Calls 𝓤 H} {Λ : Loops 𝓤 H} {q : Post 𝓤 H} {f : Callee} {xs : List Operand} {d : Place} where
     pub asks : K → FmC 𝓤 H 𝓛.laws C → {rest : Body} (T : Ended) (c : Clauses 𝓤 T) (y : (Of 𝓛 T c).Ghost) (ψ : Res T.signature y.0.0 → Type 0)
         → ent 𝓤 ((Of 𝓛 T c).pre y) (C f ((Of 𝓛 T c).args y) ((Of 𝓛 T c).post y)) → ent 𝓤 (emp 𝓤) (Req 𝓛 T c y) → Said 𝓛 T c y ψ
         → Opds K 𝓛 (Pre 𝓛 T c y ∷ Γ) E xs ((Of 𝓛 T c).args y)
@@ -102,7 +102,7 @@ module _ {M : Type 1} {𝓤 : Ura M} {K : Type 0} (𝓛 : Logic 𝓤) {Γ : List
       heard t (ψ r ws) (λ e. move t (1 ∷ []) $ split t $ move t (1 ∷ []) $ peeks t (Out 𝓛 T c y) (Is (Out 𝓛 T c y)) (shows 𝓛 (Out 𝓛 T c y)) r (v ∷ []) (λ is.
       drop t $ k r ws is e))))
 
-  module _ {E : Env 𝓤 H} {C : Calls 𝓤 H} {Λ : Loops 𝓤 H} {q : Post 𝓤 H} {f : Name} {xs : List Operand} {d : Place} where
+  module _ {E : Env 𝓤 H} {C : Calls 𝓤 H} {Λ : Loops 𝓤 H} {q : Post 𝓤 H} {f : Callee} {xs : List Operand} {d : Place} where
     pub asksˡ : K → FmC 𝓤 H 𝓛.laws C → {rest : Body} (T : Ended) (c : Clauses 𝓤 T) (y : (Of 𝓛 T c).Ghost) (ψ : Res T.signature y.0.0 → Lasts T y.0.0 y.0.3 → Type 0)
         → ent 𝓤 ((Of 𝓛 T c).pre y) (C f ((Of 𝓛 T c).args y) ((Of 𝓛 T c).post y)) → ent 𝓤 (emp 𝓤) (Req 𝓛 T c y) → Saidˡ 𝓛 T c y ψ
         → Opds K 𝓛 (Pre 𝓛 T c y ∷ Γ) E xs ((Of 𝓛 T c).args y)

@@ -1,7 +1,7 @@
--- How a walk is the contract, and how it ends.
+-- How a walk, a proof that follows a function's code, shows the function's contract, and how it ends.
 --     dropped          a function with no `&mut` has nothing of its parameters at exit: what a contract says of a `&`, or of plain data, at exit is nothing (`Silents`)
 --     leave, leave_by  the end of a walk: from the tokens and what the result owns, with the `ensures` shown; `leave_by` where there is a `&mut`
---     thin, thick      a walk is the contract, without and with a `&mut`; `-at`: at one choice of what the triple binds, for a cycle of calls
+--     thin, thick      a walk shows the contract, without and with a `&mut`; `_at`: at one choice of what the triple binds, for a cycle of calls
 --     ended_slice      what is said of a `&mut` slice at exit, in one step
 use Prim.Native.Nat.{ℕ}
 use mathlib.Core.List.{List, [], ◌∷◌}
@@ -128,8 +128,8 @@ module _ {M : Type 1} {𝓤 : Ura M} (𝓛 : Logic 𝓤) where
 
 -- what is said of a `&mut` slice at exit, in one step
 pub ended_slice : {M : Type 1} {𝓤 : Ura M} (𝓛 : Logic 𝓤) (ℓ : Lifetime) (κ : Lft) (R : RattleType) (x : MutBor (List R.Denot)) (ys : List R.Denot) (vs : List Val)
-    → ent 𝓤 (sem 𝓛 ((MutSlice ℓ κ R).own_val (at_last x ys) vs)) (sem 𝓛 (finally R x.name ys))
+    → ent 𝓤 (sem 𝓛 ((MutSlice ℓ κ R).own_val (at_last x ys) vs)) (sem 𝓛 (finally R x.ghost_name ys))
 ended_slice 𝓛 ℓ κ R x ys vs =
     qed 𝓛 (‵ ((MutSlice ℓ κ R).own_val (at_last x ys) vs) ∷ []) ∵ fsplit ! $ drop ! $ fsplit ! $
-    use1 𝓛 (‵ (fres x.name ((coded_holeys R).code (heres R ys)))) (𝓛.names.obs-res x.name ((coded_holeys R).code (heres R ys))) $
-    use1 𝓛 (‵ (finally R x.name ys)) (res-finally 𝓛 ℓ κ R x.name ys) $ keep ! (0 ∷ []) $ done !
+    use1 𝓛 (‵ (fres x.ghost_name ((coded_holeys R).code (heres R ys)))) (𝓛.names.obs-res x.ghost_name ((coded_holeys R).code (heres R ys))) $
+    use1 𝓛 (‵ (finally R x.ghost_name ys)) (res-finally 𝓛 ℓ κ R x.ghost_name ys) $ keep ! (0 ∷ []) $ done !

@@ -1,4 +1,4 @@
--- How a function that carries a slice of structs is shown to meet its contract, step by step of its code.
+-- Laws of the checker's logic for a proof by hand, a walk, which follows a function's code step by step to its contract: locals, loans of a slice of structs, calls, loops and the exit.
 pub mod Exit
 pub mod Call
 pub mod Rules

@@ -3,7 +3,7 @@ use mathlib.Core.Path.{◌≡◌, refl, sym, subst, ap}
 use Prim.Native.Nat.{ℕ}
 use mathlib.Core.List.{List, [], ◌∷◌}
 use seplogic.Ra.Ura.{Ura}
-use seplogic.Ra.TreeShare.{full_share}
+use base.Fraction.{full_share}
 use mir.Syntax.{Ty, Local, local}
 use mir.Val.{Val}
 use base.Logic.{SProp, ent, sep, emp, via, emp∗, assoc', mono_l, mono_r, snd∗, comm∗, assoc∗}

@@ -40,13 +40,13 @@ module _ {M : Type 1} {𝓤 : Ura M} (𝓛 : Logic 𝓤) (ℓ : Lifetime) (κ : 
   Kept = sep 𝓤 (sem 𝓛 Own) (A.lft κ q)
 
   abbrev Bare : Fml
-  Bare = OwnH 𝓛 (f_int w) κ q x.ref_ptr.0 x.ref_ptr.1 x.ghost_name x.now
+  Bare = OwnH 𝓛 (f_int w) κ q x.ref_ptr.0 x.ref_ptr.1 x.now
 
   pub numbers_fit : ent 𝓤 Kept (H.⇛ (guard 𝓤 AllFit Kept))
   numbers_fit =
       qed 𝓛 (‵ Own ∷ ‵ (flft κ q) ∷ []) {P = H.⇛ (guard 𝓤 AllFit Kept)} (
       updating ! $ fsplit ! $ fsplit ! $ drop ! $ fjoin ! $
-      use2 𝓛 (later (given (AllWt (f_int w) x.now) (‵ Bare ⊛ ‵ (flft κ q)))) (shs_known 𝓛 (f_int w) κ q x.ref_ptr.0 x.ref_ptr.1 x.ghost_name x.now) $ await ! tt $ learn ! (λ a. split ! $
+      use2 𝓛 (later (given (AllWt (f_int w) x.now) (‵ Bare ⊛ ‵ (flft κ q)))) (shs_known 𝓛 (f_int w) κ q x.ref_ptr.0 x.ref_ptr.1 x.now) $ await ! tt $ learn ! (λ a. split ! $
       fsplit ! $ feq_i ! (List Val) (slice_val x.ref_ptr (length x.now) ∷ []) (slice_val x.ref_ptr (length x.now) ∷ []) refl $ fjoin ! $ fjoin ! $
       at_once ! $ check ! (λ i. (fit_at (f_int w) 0 (zero_fits w) x.now a i).fits) $ done !))
 

@@ -1,11 +1,11 @@
--- The kit's rules as a walk uses them: the rest of the walk is a rule's last argument. As a `Step`, with `$`, each would spell the context and the goal twice more.
+-- The logic's rules on one step of a function's code, with the rest of the proof as a rule's last argument. As a `Step`, with `$`, each would spell the context and the goal twice more.
 use mathlib.Core.Path.{◌≡◌, subst, sym}
 use Prim.Native.Nat.{ℕ, zero, ◌+◌}
 use mathlib.Core.List.{List, [], ◌∷◌}
 use mathlib.Core.Option.{some}
 use lib.Dec.{T as Holds}
 use seplogic.Ra.Ura.{Ura}
-use seplogic.Ra.TreeShare.{full_share}
+use base.Fraction.{full_share}
 use mir.Syntax.{Ty, Sym, ty_struct, Tys, Fn, place, field, copy, Rv as RValue, Body, seq, assign, return}
 use mir.Val.{Val, vstruct, Vals, has_ty, WT}
 use mir.Fields.{get_v, set_v}
@@ -36,7 +36,7 @@ module _ {M : Type 1} {𝓤 : Ura M} {𝓛 : Logic 𝓤} {K : Type 0} {Γ : List
   pub forget : K → (n : ℕ) {τ : Ty} {b o : ℕ} {v : Val} → nth 𝓛 n Γ ≡ ‵ (fat full_share τ b o v) → Seq K 𝓛 (put 𝓛 n (‵ (froom τ b o)) Γ) G → Seq K 𝓛 Γ G
   forget t n e s = Run.forget t n e $ s
 
--- ---- these take W: what they are given would else be compared with parts of H and A, and each step after them would spell these out
+-- ---- these take 𝓛: what they are given would else be compared with parts of it, and each step after them would spell these out
 module _ {M : Type 1} {𝓤 : Ura M} {K : Type 0} (𝓛 : Logic 𝓤) {Γ : List (Item 𝓤)} {G : Goal 𝓤 𝓛.H} where
   -- an item from nothing, and the head turned into what it entails
   pub use0 : K → (k : Item 𝓤) → ent 𝓤 (emp 𝓤) (mean 𝓛 k) → Seq K 𝓛 (k ∷ Γ) G → Seq K 𝓛 Γ G

@@ -1,4 +1,4 @@
--- The laws that a walk cites, under one name.
+-- The laws on the steps of a function's code, under one name, for a proof by hand to cite. The loans of a slice and of a local array stand apart, in `Again.antt` and `Arrays.antt`.
 pub use Rattle.walk_laws.proofs.Locals.{at_addresses, freed, full, bare, gathers, frees_gathered}
 pub use Rattle.walk_laws.proofs.Exit.{leave_by, thick, thick_at, Ends, leave, thin, thin_at, ended_slice}
 pub use Rattle.walk_laws.proofs.Call.{Of, asks, asks_last, asksˡ, asksˡ_last, says_both, hears_both}

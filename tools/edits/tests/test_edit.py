@@ -60,7 +60,7 @@ class Reads(unittest.TestCase):
 
 
 class Makes(unittest.TestCase):
-    def test_links_all_but_the_crate(self):
+    def test_copies_what_the_crate_needs(self):
         here = os.getcwd()
         with tempfile.TemporaryDirectory() as folder:
             os.chdir(folder)
@@ -70,16 +70,19 @@ class Makes(unittest.TestCase):
                 os.chdir(here)
 
     def make(self):
-        put("crates.txt", "# first\na:\nb: a\nc: b\n")
-        for crate in "abc":
+        put("crates.txt", "# first\na:\nb staticlib: a  # second\nc: b std\nd: a\n\ne: c\n")
+        put("HANDLES", "Handles allowed: none.\n")
+        for crate in "abcde":
             put(f"crates/{crate}/src/lib.rt", crate)
-            put(f"target/rlib/{crate}.rlib/format", crate)
-            put(f"target/stamp/{crate}", crate)
+            put(f"crates/{crate}/out/rlib/stamp", crate)
         put("crates/b/must-fail/e.edit", "Wrong.")
-        put("target/rlib/b.rlib/toolchain/checked/m.oantt", "m")
+        put("crates/c/data/in", "c")
+        self.assertEqual(repository.listed("."), {"a": [], "b": ["a"], "c": ["b", "std"], "d": ["a"], "e": ["c"]})
         root = repository.make("target/edits/b/e", "b", ("c",))
-        self.assertEqual([os.path.islink(f"{root}/crates/{crate}") for crate in "abc"], [True, False, True])
-        self.assertEqual((os.listdir(f"{root}/target/rlib"), os.listdir(f"{root}/target/stamp")), (["a.rlib"], ["a"]))
-        self.assertEqual(os.listdir(f"{root}/target/inc/b/{repository.incremental()}"), ["m.oantt"])
+        self.assertEqual(sorted(os.listdir(f"{root}/crates")), ["a", "b", "c"])
+        self.assertEqual(open(f"{root}/crates.txt").read(), "a:\nb staticlib: a\nc: b std\n")
+        self.assertEqual(open(f"{root}/HANDLES").read(), "Handles allowed: none.\n")
+        self.assertEqual((os.listdir(f"{root}/crates/b/must-fail"), os.listdir(f"{root}/crates/c/data")), ([], ["in"]))
+        self.assertFalse(os.path.exists(f"{root}/crates/a/out"))
         put(f"{root}/crates/b/src/lib.rt", "changed")
-        self.assertEqual((open("crates/b/src/lib.rt").read(), os.listdir(f"{root}/crates/b/must-fail")), ("b", []))
+        self.assertEqual(open("crates/b/src/lib.rt").read(), "b")

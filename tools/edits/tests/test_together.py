@@ -16,7 +16,7 @@ pub fn opens(x: usize) -> usize {
 fn closes(
     x: usize,
 ) -> usize
-    requires { ⌜ x ≤ 2 ⌝ }
+    requires { x ≤ 2 }
 {
     if x == 3 {
         return 4;
@@ -24,8 +24,9 @@ fn closes(
     5
 }
 
+#[cycle(turns)]
 fn turns(x: usize) -> usize
-    ensures { λ r. ⌜ r ≡ 6 ⌝ }
+    ensures { result ≡ 6 }
 {
     6
 }
@@ -34,8 +35,8 @@ fn turns(x: usize) -> usize
 
 class Places(unittest.TestCase):
     def test_bodies(self):
-        for old, function in (("x + 1", "opens"), ("x == 3", "closes"), ("    5", "closes"), ("⌝ }\n{\n    6", None), ("    6", "turns"), ("≤ 2", None),
-                              ("≡ 6", None), ("= 1;", None), ("Code", None), ("x: usize,", None), ("5\n}\n\nfn", None)):
+        for old, function in (("x + 1", "opens"), ("x == 3", "closes"), ("    5", "closes"), ("6 }\n{\n    6", None), ("    6", "turns"), ("≤ 2", None),
+                              ("≡ 6", None), ("= 1;", None), ("Code", None), ("x: usize,", None), ("5\n}\n\n#", None)):
             with self.subTest(old):
                 self.assertEqual(together.function_of(CODE, old), function)
 
@@ -61,19 +62,16 @@ class Groups(unittest.TestCase):
                 os.chdir(here)
 
     def test_different_functions(self):
-        opens, closes = ("lib", "x + 1", "proofs/opens/Proof.antt returns"), ("lib", "x == 3", "src/lib.rt closes.returns")
-        part = ("part", "x + 1", "proofs/part/opens/Proof.antt returns")
+        opens, closes = ("lib", "x + 1", "proofs/opens/Answers.antt returns"), ("lib", "x == 3", "src/lib.rt closes.returns")
+        part = ("part", "x + 1", "proofs/part/opens/Answers.antt returns")
         self.assertEqual(self.groups(opens, closes, part), [[0, 1, 2]])
         self.assertEqual(self.groups(opens, opens, closes, closes), [[0, 2], [1, 3]])
 
-    def test_a_cycle_is_one(self):
-        proof = "proofs/+closes+opens/Proof.antt"
-        self.assertEqual(self.groups(("lib", "x + 1", f"{proof} opens-returns"), ("lib", "x == 3", f"{proof} closes-returns")), [[0], [1]])
-
     def test_alone(self):
-        opens = ("lib", "x + 1", "proofs/opens/Proof.antt returns")
-        for other in (("lib", "≤ 2", "proofs/closes/Proof.antt returns"), ("lib", "= 1;", "proofs/closes/Proof.antt returns"),
-                      ("lib", "x == 3", "proofs/turns/Proof.antt returns"), ("lib", "x == 3", "proofs/Laws.antt law"),
-                      ("lib", "x == 3", "src/lib.rt turns.returns"), ("lib", "x == 3", "proofs/part/closes/Proof.antt returns")):
+        opens = ("lib", "x + 1", "proofs/opens/Answers.antt returns")
+        for other in (("lib", "≤ 2", "proofs/closes/Answers.antt returns"), ("lib", "= 1;", "proofs/closes/Answers.antt returns"),
+                      ("lib", "x == 3", "proofs/turns/Answers.antt returns"), ("lib", "x == 3", "proofs/Laws.antt law"),
+                      ("lib", "x == 3", "src/lib.rt turns.returns"), ("lib", "x == 3", "proofs/part/closes/Answers.antt returns"),
+                      ("lib", "    6", "proofs/+turns/Answers.antt returns")):
             with self.subTest(other):
                 self.assertEqual(self.groups(opens, other), [[0], [1]])
