@@ -71,11 +71,10 @@ is_outdated() {
 
 prove_program() {
     tell "proving and building the program, which takes some minutes where little is proved yet"
-    log=$(cd "$home" && rt check "$1" 2>&1) || {
+    log=$("$home/tools/build" "$1" 2>&1) || {
         printf '%s\n' "$log" >&2
         fail "$not_built" "the program is not proved"
     }
-    touch -c "$program"
 }
 
 # One call builds, and others that want the same wait for it.

@@ -1,6 +1,6 @@
 /* STAGE2 for name tables: check a text, fit a line against a text's templates, and run a text.
  *
- * Link with target/staticlib/libapi.a (x86-64 Linux), which `rt staticlib api` writes. The calls keep nothing between one and
+ * Link with target/staticlib/libapi.a (x86-64 Linux), which `tools/build api` writes. The calls keep nothing between one and
  * the next, allocate nothing, and may run in several threads at once. A check and a fit need 128 KB of stack, a run 256 KB;
  * the deepest search that was found takes 57 KB, and a run with it 166 KB.
  *

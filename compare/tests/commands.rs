@@ -40,7 +40,7 @@ fn called_with(path: &Path, arguments: &[&str], input: &[u8]) -> Output {
         .stdout(Stdio::piped())
         .stderr(Stdio::piped())
         .spawn()
-        .unwrap_or_else(|_| panic!("{} cannot be run: run `rt check` first", path.display()));
+        .unwrap_or_else(|_| panic!("{} cannot be run: run `tools/build` first", path.display()));
     // a program that does not read its input may have closed it
     let _ = child.stdin.take().unwrap().write_all(input);
     child.wait_with_output().unwrap()

@@ -1,6 +1,6 @@
 /* Expands one text with the library, and prints both outputs, the answer, the stored names and the usage report.
  *
- *     rt staticlib api
+ *     tools/build api
  *     cc -Iinclude examples/link/expand.c target/staticlib/libapi.a -o expand_c
  */
 #include <stdio.h>

@@ -1,6 +1,6 @@
 //! Expands one text with the library, and prints both outputs, the answer, the stored names and the usage report.
 //!
-//!     rt staticlib api
+//!     tools/build api
 //!     rustc -O -L target/staticlib -l static=api examples/link/expand.rs -o expand_rust
 
 use std::io::{stdout, Write};

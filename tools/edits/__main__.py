@@ -1,12 +1,12 @@
 """Tries wrong programs and wrong definitions: the prover must refuse each at the fact that it denies, or its run must tell.
 
-    python3 tools/edits [--write | --show] [CRATE [LABEL]]
+    python3 tools/edits [--write | --show | --told=LOG] [CRATE [LABEL]]
     python3 tools/edits --run [CRATE [LABEL]]
 
 The first tries crates/CRATE/must-fail/LABEL.edit (must_fail.py), those of a crate or all; with --write it puts into each edit that is refused
-elsewhere the place where it fails first, for its author to read; with --show it tries each alone and says where it fails, with the message. The
-second tries the wrong programs in crates/CRATE/run-edits (run.py), which are proved and whose run must tell. RT_JOBS checks go on at a time, or
-two."""
+elsewhere the place where it fails first, for its author to read; with --show it tries each alone and says where it fails, with the message; with
+--told it takes from a log of `rt ci` which edits are refused at their fact, and tries the others (told.py). The second tries the wrong programs in
+crates/CRATE/run-edits (run.py), which are proved and whose run must tell. RT_JOBS checks go on at a time, or two."""
 import glob
 import os
 import sys
@@ -19,9 +19,10 @@ import must_fail
 import repository
 import run
 import together
+import told
 from fault import Fault, ask
 
-USAGE = "usage: python3 tools/edits [--write | --show | --run] [CRATE [LABEL]]"
+USAGE = "usage: python3 tools/edits [--write | --show | --told=LOG | --run] [CRATE [LABEL]]"
 
 
 def found(folder, crate="*", label="*"):
@@ -53,15 +54,20 @@ def main(words):
     names = [word for word in words if not word.startswith("--")]
     options = [word for word in words if word.startswith("--")]
     ask(len(names) <= 2, USAGE)
-    ask(options in ([], ["--write"], ["--show"], ["--run"]), USAGE)
+    log = options[0].removeprefix("--told=") if options and options[0].startswith("--told=") else None
+    ask(options in ([], ["--write"], ["--show"], ["--run"]) or log and len(options) == 1, USAGE)
     if options == ["--run"]:
-        told, other = try_all([[(run.read(path), None)] for path in found("run-edits", *names)], run.try_group)
-        print(f"{told} wrong programs told by their run, {other} not")
+        seen, other = try_all([[(run.read(path), None)] for path in found("run-edits", *names)], run.try_group)
+        print(f"{seen} wrong programs told by their run, {other} not")
         return 1 if other else 0
-    groups = together.groups([must_fail.read(path) for path in found("must-fail", *names)])
+    edits = [must_fail.read(path) for path in found("must-fail", *names)]
+    known = told.at_their_fact(edits, open(log).read()) if log else []
+    if log:
+        print(f"{len(known)} edits refused at their fact as {log} says, {len(edits) - len(known)} to be tried", flush=True)
+    groups = together.groups([edit for edit in edits if edit not in known])
     refused, other = try_all(groups, must_fail.show if options == ["--show"] else must_fail.try_group, options == ["--write"])
     if options != ["--show"]:
-        print(f"{refused} edits refused at their fact, {other} not")
+        print(f"{len(known) + refused} edits refused at their fact, {other} not")
     return 1 if other else 0
 
 

@@ -2,7 +2,7 @@
 
     python3 tools/package
 
-writes target/package/tumbayog-VERSION-linux-x86_64.tar.gz and prints its path. `rt check` and `rt staticlib api` come before it: where a program
+writes target/package/tumbayog-VERSION-linux-x86_64.tar.gz and prints its path. `tools/build` comes before it: where a program
 or the library is missing, or a source is newer, it writes nothing and says so. README.md beside this file is the archive's own."""
 import os
 import sys

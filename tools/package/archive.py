@@ -70,9 +70,9 @@ def ask_built(root):
     """The programs and the library are there, and no source of theirs is newer. They are proved where they are built, so nothing is built
     here."""
     for file, crate in BUILT.items():
-        ask(os.path.isfile(f"{root}/{file}"), f"{file} is missing: run `rt check` and `rt staticlib api` first")
+        ask(os.path.isfile(f"{root}/{file}"), f"{file} is missing: run `tools/build` first")
         newest = newest_source(root, crate)
-        ask(changed(root, file) >= changed(root, newest), f"{file} is older than {newest}: run `rt check` and `rt staticlib api` first")
+        ask(changed(root, file) >= changed(root, newest), f"{file} is older than {newest}: run `tools/build` first")
 
 
 def packed(root):

@@ -41,7 +41,7 @@ pub fn command(name: &str) -> PathBuf {
 /// What a call answers, with these bytes on standard input.
 pub fn answered(call: &mut Command, input: &[u8]) -> Output {
     let pipes = call.stdin(Stdio::piped()).stdout(Stdio::piped()).stderr(Stdio::piped());
-    let mut child = pipes.spawn().unwrap_or_else(|_| panic!("{call:?} cannot be run: run `rt check` first"));
+    let mut child = pipes.spawn().unwrap_or_else(|_| panic!("{call:?} cannot be run: run `tools/build` first"));
     // a program that does not read its input may have closed it
     let _ = child.stdin.take().unwrap().write_all(input);
     child.wait_with_output().unwrap()

@@ -66,7 +66,7 @@ pub fn answer(program: &str, call: impl FnOnce(&mut Command) -> &mut Command) ->
     let path = root().join(program);
     call(&mut Command::new(&path))
         .output()
-        .unwrap_or_else(|_| panic!("{} cannot be run: run `rt check` first", path.display()))
+        .unwrap_or_else(|_| panic!("{} cannot be run: run `tools/build` first", path.display()))
 }
 
 /// What `expand` answers with a file as its standard input.

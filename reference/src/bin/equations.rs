@@ -41,9 +41,8 @@ fn main() {
     let (seed, first, count) = (number(1), number(2), number(3));
     let (uses, unfolds) = names(&words[4]);
     println!("-- What the definitions give on random texts, by computation.");
-    println!("use mathlib.Core.Path.{{_≡_, refl}}");
-    println!("use mathlib.Core.List.{{List, [], _∷_}}");
-    println!("use Prim.Native.Nat.{{ℕ}}");
+    println!("use Rattle.std.specs.Prelude.{{◌≡◌, [], ◌∷◌}}");
+    println!("use Rattle.std.proofs.Common.{{refl}}");
     print!("{uses}");
     for k in first..first + count {
         let mut generator = Generator::new(seed.wrapping_mul(1_000_003).wrapping_add(k));
@@ -101,7 +100,7 @@ impl Case {
     fn check(&self) -> Equation {
         let checked = stage2_reference::check(&self.text, NODES);
         let right = format!("record {{ number = {}; line = {} }}", checked.number, checked.line);
-        ("check", format!("checkText {NODES} {}", list(&self.text)), right)
+        ("check", format!("check_text {NODES} {}", list(&self.text)), right)
     }
 
     fn fit(&self) -> Equation {
@@ -115,7 +114,7 @@ impl Case {
             fitted.places,
             fitted.bytes
         );
-        let left = format!("fitLine {NODES} {} {} {}", self.dead, list(&self.text), list(&self.line));
+        let left = format!("fit_of_line {NODES} {} {} {}", self.dead, list(&self.text), list(&self.line));
         ("fit", left, right)
     }
 
@@ -134,7 +133,7 @@ impl Case {
             list(&written.report)
         );
         let outputs = both(room, second_room);
-        let left = format!("runText {fuel} {NODES} {dead} {outputs} {STORE} {report} {}", list(&self.text));
+        let left = format!("run_text {fuel} {NODES} {dead} {outputs} {STORE} {report} {}", list(&self.text));
         ("run", left, right)
     }
 }
@@ -167,7 +166,7 @@ fn names(specs: &str) -> (String, String) {
         let source =
             std::fs::read_to_string(format!("{specs}/{module}.antt")).expect("the definitions can be read");
         let found: Vec<&str> = source.lines().filter_map(|line| unfoldable(&source, line)).collect();
-        writeln!(uses, "use Rattle·model.specs.{module}.{{{}}}", found.join(", "))
+        writeln!(uses, "use Rattle.model.specs.{module}.{{{}}}", found.join(", "))
             .expect("a string takes all text");
         unfolds.extend(found.iter().map(|name| name.to_string()));
     }

@@ -2,7 +2,7 @@
 
     python3 tools/package/tests
 
-The programs and the library must be built (`rt check` and `rt staticlib api`)."""
+The programs and the library must be built (`tools/build`)."""
 import os
 import sys
 import unittest

@@ -86,7 +86,7 @@ class Refuses(Small):
         for file in archive.BUILT:
             with self.subTest(file):
                 os.remove(f"{self.root}/{file}")
-                self.refused(f"^{file} is missing: run `rt check` and `rt staticlib api` first$")
+                self.refused(f"^{file} is missing: run `tools/build` first$")
                 self.put(file, file)
 
     def test_what_is_older_than_a_source(self):
@@ -96,7 +96,7 @@ class Refuses(Small):
                 for file in archive.BUILT:
                     self.put(file, file, EARLY if file == old else LATE)
                 with self.subTest((source, old)):
-                    self.refused(f"^{old} is older than {source}: run `rt check` and `rt staticlib api` first")
+                    self.refused(f"^{old} is older than {source}: run `tools/build` first")
             self.put(source, source)
 
     def test_another_file_may_be_newer(self):

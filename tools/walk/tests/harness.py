@@ -10,6 +10,13 @@ ROOT = os.path.dirname(os.path.dirname(os.path.dirname(HERE)))
 FORMS = sorted(os.listdir(f"{HERE}/forms"))
 
 
+NO_CODE = "rt has no command mir, which prints the code that walks are written from"
+
+
+def prints_code():
+    return "mir" in subprocess.run(["rt", "help"], capture_output=True, text=True).stdout.split()
+
+
 def read(form, name):
     path = f"{HERE}/forms/{form}/{name}"
     return open(path).read() if os.path.isfile(path) else None

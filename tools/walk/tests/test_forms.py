@@ -10,6 +10,7 @@ from fault import Fault
 from proof import Program
 
 
+@unittest.skipUnless(harness.prints_code(), harness.NO_CODE)
 class Forms(unittest.TestCase):
     @classmethod
     def setUpClass(cls):

@@ -3,6 +3,7 @@ import os
 import tempfile
 import unittest
 
+import harness
 import mir
 from fault import Fault
 
@@ -26,6 +27,7 @@ class Reads(unittest.TestCase):
             with self.assertRaises(Fault):
                 mir.tables(printed)
 
+    @unittest.skipUnless(harness.prints_code(), harness.NO_CODE)
     def test_code_that_does_not_compile_is_a_fault(self):
         with tempfile.TemporaryDirectory() as root:
             os.makedirs(f"{root}/crates/c/src")
