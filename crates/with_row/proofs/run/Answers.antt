@@ -1,0 +1,5 @@
+-- run lends its own rows, of 2,048 nodes and of 51,456 bytes.
+use Rattle.with_row.proofs.run.Goals as goal
+
+pub returns-clause-follows_expansion : goal.returns-clause-follows_expansion
+returns-clause-follows_expansion c = λ t loads legal. (c.run.ensures.holds_tree t loads legal).1
