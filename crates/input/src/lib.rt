@@ -1,5 +1,6 @@
 // The run over the input, line by line (document 01, "Events, store and result").
 #![tactic(auto)]
+
 ghost use Rattle.std.specs.Prelude.{◌≡◌, [], ◌+◌, ◌≤◌, length};
 ghost use Rattle.std.proofs.Math.Option.{some};
 ghost use Rattle.model.specs.Text.{part};

@@ -2,6 +2,7 @@
 // the caller's outputs, the names that were stored are listed in the caller's store, and how often each template was chosen is printed
 // in the caller's report.
 #![tactic(auto)]
+
 ghost use Rattle.std.specs.Prelude.{◌≡◌, [], ◌≤◌, length};
 ghost use Rattle.model.specs.Load as Load;
 ghost use Rattle.model.specs.Machine as Machine;

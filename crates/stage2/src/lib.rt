@@ -1,8 +1,8 @@
 // The public calls of STAGE2 (document 01, "Events, store and result"): check a text, fit a line against its templates, and run it.
 // Each takes the text itself and a lent row of nodes, and fit and run a lent row of dead places. Fit and run leave the tree of a text that
 // loads at the front of the row of nodes; what else these rows hold is free. No public function has a `requires`.
-// `&[Node]` is not covered by the checker's own account of a function: check, fit, fit_prepared and run are proved by walks.
 #![tactic(auto)]
+
 ghost use Rattle.std.specs.Prelude.{◌≡◌, ◌≤◌, ◌<◌, length, true, false};
 ghost use Rattle.model.specs.Load as Load;
 ghost use Rattle.model.specs.Load.{Loaded, loaded};

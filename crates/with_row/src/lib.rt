@@ -1,5 +1,6 @@
 // The public calls with rows of nodes and of dead places of their own, for programs.
 #![tactic(auto)]
+
 ghost use Rattle.std.specs.Prelude.{◌≡◌, false, ◌≤◌, length};
 ghost use Rattle.model.specs.Load.{Loaded, loaded, load};
 ghost use Rattle.model.specs.Machine.{rooms};

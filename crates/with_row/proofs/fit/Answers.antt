@@ -1,7 +1,8 @@
 -- fit lends its own rows, of 2,048 nodes and of 51,456 bytes.
 use Rattle.std.proofs.Common.{ℕ, arith}
-use Rattle.std.proofs.Math.ListN.{length-replicate}
+use Rattle.std.proofs.lemmas.List.{length-replicate}
 use Rattle.with_row.proofs.fit.Goals as goal
 
 pub returns-clause-fits_first : goal.returns-clause-fits_first
-returns-clause-fits_first c = λ t loads. (c.fit.ensures.holds_tree t loads (omega arith) (omega (arith, length-replicate {A = ℕ} 51456 0))).1
+returns-clause-fits_first c =
+    λ t loads. (c.fit.ensures.holds_tree t loads (omega (arith, length-replicate 2048 c.make_node-row.result)) (omega (arith, length-replicate {A = ℕ} 51456 0))).1
