@@ -1,5 +1,6 @@
 // The public calls for C and Rust; include/stage2.h declares them. A slice is a pointer and a count.
 #![tactic(auto)]
+
 ghost use Rattle.std.specs.Prelude.{◌≡◌, false, ◌≤◌, length};
 ghost use Rattle.model.specs.Load.{Loaded, loaded, load};
 ghost use Rattle.model.specs.Machine.{rooms};

@@ -1,6 +1,7 @@
 // What the programs print, byte for byte, in a lent slice. Each function adds bytes from an offset on and answers where they end;
 // every other byte of the slice stays as it was.
 #![tactic(auto)]
+
 ghost use Rattle.std.specs.Prelude.{◌≡◌, [], ◌∷◌, ◌++◌, ◌+◌, ◌*◌, ◌≤◌, length};
 ghost use Rattle.model.specs.Results.{check_text};
 ghost use Rattle.model.specs.Printed.{spaced, end_row, expand_runs, expand_prints, expand_writes, expand_reports, check_row, piece_row, fit_row, fit_prints};
