@@ -1,5 +1,6 @@
 // What a code line, a body and an offered line come to: one answer, by value.
 #![tactic(auto)]
+
 ghost use Rattle.std.specs.Prelude.{◌≡◌};
 ghost use Rattle.answer.specs.Answers.{goes_further, offers_built, goes_back, ends_with, GoesOrEnds, turn, is_left, is_offer, is_end, offered_length, lines_back, end_number};
 

@@ -1,5 +1,6 @@
 // The line that a code line builds, part by part, and how the code line ends (document 01, "A call's code").
 #![tactic(auto)]
+
 ghost use Rattle.std.specs.Prelude.{◌≡◌, ◌≤◌, length};
 ghost use Rattle.store.specs.Memory.{Kept};
 ghost use Rattle.code.specs.Tokens.{Parameter};

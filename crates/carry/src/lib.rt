@@ -1,5 +1,6 @@
 // A code line of a call is carried out, but for the offering of what it builds (document 01, "A call's code").
 #![tactic(auto)]
+
 ghost use Rattle.std.specs.Prelude.{◌≡◌, ◌≤◌, ◌<◌, length};
 ghost use Rattle.model.specs.declared.Effect.TheVariants.{Opens};
 ghost use Rattle.model.specs.Text.{part};

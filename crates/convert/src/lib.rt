@@ -1,6 +1,7 @@
 // What ed0 to ed5 and ed8 put at the end of a line that is built (document 01, "A call's code"). The parameter's text is a
 // lent slice.
 #![tactic(auto)]
+
 ghost use Rattle.std.specs.Prelude.{◌≡◌, [], ◌∷◌, ◌≤◌, ◌<◌, length};
 ghost use Rattle.model.specs.Store.{decimal};
 ghost use Rattle.model.specs.Value.{written};

@@ -1,6 +1,7 @@
 // F2: the contents of the input lines that follow are copied to a channel, until one begins with parameter 1, which is dropped, or the input
 // ends (document 02, ticket 4). Each line is compared, then measured, then written; on channel 0 it is compared and dropped. No event is counted.
 #![tactic(auto)]
+
 ghost use Rattle.std.specs.Prelude.{◌≤◌, length};
 ghost use Rattle.model.specs.Machine.{outputs};
 ghost use Rattle.call.specs.Call.{laid, Placed};

@@ -1,6 +1,7 @@
 // Ways to end a code line with the line that it built (document 01, "A call's code"): all but the offering of the line and the
 // skips.
 #![tactic(auto)]
+
 ghost use Rattle.std.specs.Prelude.{◌≡◌, ◌*◌, ◌≤◌, ◌<◌, length};
 ghost use Rattle.model.specs.Text.{part};
 ghost use Rattle.model.specs.Machine.{outputs};

@@ -3,6 +3,7 @@
 // there are 50 numbers), and where an iteration is begun, that fewer than four are open; start_pass asks too that its parameter's number
 // is 1 to 9, that its line has at most 200 bytes and that its list of delimiters lies in the text.
 #![tactic(auto)]
+
 ghost use Rattle.std.specs.Prelude.{◌≡◌, ◌+◌, ◌≤◌, ◌<◌, length};
 ghost use Rattle.model.specs.Text.{part};
 ghost use Rattle.call.specs.Call.{iteration, laid, Placed, Sized, call_numbers, call_bytes};

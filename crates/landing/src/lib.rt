@@ -1,5 +1,6 @@
 // Where a skip of lines ends in a call, and what an answer comes to in the call that offered a line (document 01, "Skips").
 #![tactic(auto)]
+
 ghost use Rattle.std.specs.Prelude.{◌≤◌, length};
 ghost use Rattle.landing.specs.Landing.{LandsSkip, LandsAnswer};
 

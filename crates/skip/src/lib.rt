@@ -1,5 +1,6 @@
 // Skips of code lines, by a value or where a test holds (document 01, "A call's code").
 #![tactic(auto)]
+
 ghost use Rattle.std.specs.Prelude.{◌≡◌, ◌≤◌, length};
 ghost use Rattle.model.specs.Machine.{wanted};
 ghost use Rattle.model.specs.Text.{part, same};

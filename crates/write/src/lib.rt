@@ -1,5 +1,6 @@
 // What is written to an output: a line, or a layout with the parameters in its fields, and a byte 10 after it.
 #![tactic(auto)]
+
 ghost use Rattle.std.specs.Prelude.{◌≡◌, ◌+◌, ◌-◌, ◌≤◌, ◌<◌, length, replicate};
 ghost use Rattle.write.specs.Output.{PutsLine, wrote_to, AnswersWritten, WritesLine, PassesThrough};
 ghost use Rattle.write.specs.Layout.{bare, NamesField, RunEnds, PutsField, PutsPart, PutsLayout, PutsLayoutLine, WritesLayout};
