@@ -2,7 +2,8 @@
 
 The first line says what would be wrong. The others are
   file: PATH, old: TEXT, new: TEXT     TEXT stands once in the crate's file, and is replaced; a file: line holds for all pairs after it
-and lines of the kind of edits, as fact: .., each at most once, or more often where its key is among `many`."""
+and lines of the kind of edits, as fact: .., each at most once, or more often where its key is among `many`. An edit changes src or specs. Beside
+that it may change proofs, so that a proof speaks of the wrong code by its names, and fails for what the code does."""
 import os
 import re
 
@@ -37,11 +38,12 @@ class Edit:
         return self.said[key][0][1] if self.said[key] else None
 
     def apply(self, root):
-        """Changes the copy of the edit's crate in a repository; a wrong program is never a change of a proof."""
+        """Changes the copy of the edit's crate in a repository; a wrong program is never a change of proofs alone."""
+        ask(any(file.startswith(("src/", "specs/")) for file, _, _ in self.replaced), f"{self.path}: an edit changes src or specs")
         for file, old, new in self.replaced:
             path = f"{root}/crates/{self.crate}/{file}"
-            inside = file.startswith(("src/", "specs/")) and ".." not in file
-            ask(inside and os.path.isfile(path), f"{self.path}: the crate has no {file} in its src or specs")
+            inside = file.startswith(("src/", "specs/", "proofs/")) and ".." not in file
+            ask(inside and os.path.isfile(path), f"{self.path}: the crate has no {file} in its src, specs or proofs")
             before = open(path).read()
             ask(before.count(old) == 1, f"{self.path}: not once in {file}: {old}")
             with open(path, "w") as changed:

@@ -49,9 +49,9 @@ def failures(text, crate):
 
 
 def function_at(path, line):
-    """The name of the function whose source has a line, which may be one of its attributes."""
+    """The name of the function whose source has a line; an attribute is of the function that follows."""
     lines = open(path).read().split("\n")
-    if lines[line - 1].lstrip().startswith("#["):
-        line = next((at for at in range(line, len(lines) + 1) if FUNCTION.match(lines[at - 1])), line)
+    while line < len(lines) and lines[line - 1].lstrip().startswith("#["):
+        line += 1
     names = FUNCTION.findall("\n".join(lines[:line]))
     return names[-1] if names else ""

@@ -47,8 +47,9 @@ class Reads(unittest.TestCase):
         for lines, fault in (("file: src/lib.rt\n", ":1: what would be wrong"), ("Wrong.\nfiel: src/lib.rt\n", ":2: no line of an edit"),
                              ("Wrong.\nold: a\nnew: b\n", ":3: no line of an edit"), ("Wrong.\nfile: src/lib.rt\nold: a\n", "each with a new one"),
                              (PLAIN + "fact: a\nfact: b\n", ":6: no line of an edit"), (PLAIN.replace("a", "b"), "not once in src/lib.rt"),
-                             (PLAIN.replace("    a", "z"), "not once in src/lib.rt: z"), (PLAIN.replace("src/lib.rt", "proofs/f"), "no proofs/f in its src"),
-                             (PLAIN.replace("src/", "src/../src/"), "in its src or specs")):
+                             (PLAIN.replace("    a", "z"), "not once in src/lib.rt: z"), (PLAIN.replace("src/lib.rt", "proofs/f"), "changes src or specs"),
+                             (PLAIN + "file: proofs/f\nold: a\nnew: b\n", "no proofs/f in its src"),
+                             (PLAIN.replace("src/", "src/../src/"), "in its src, specs or proofs")):
             with self.subTest(fault), self.assertRaisesRegex(Fault, fault):
                 self.applied(lines)
 

@@ -7,8 +7,7 @@ import must_fail
 import run
 
 LAST = "crate c: modules loaded=3 checked=1\nlogic=not-proved\nrt: rt lemma WORD.. finds a lemma\n"
-CODE = "// Code.\npub fn opens(x: usize) -> usize {\n    x\n}\n\nfn closes(x: usize) -> usize\n    ensures { result ≡ x }\n{\n    x\n}\n" \
-    "\n#[unsafe(no_mangle)]\npub extern \"C\" fn told(x: usize) -> usize {\n    x\n}\n"
+CODE = "// Code.\npub fn opens(x: usize) -> usize {\n    x\n}\n#[cycle(closes)]\nfn closes(x: usize) -> usize\n    ensures { result ≡ x }\n{\n    x\n}\n"
 
 
 def judged(*lines, status=1, last=LAST, fact=None):
@@ -33,10 +32,7 @@ class Judges(unittest.TestCase):
         note = "note: src/lib.rt:9:1: it is not proved that what the function ensures holds when it returns (`returns`); the facts (`x`) allow it"
         self.assertEqual(judged(note)[0], "src/lib.rt closes.returns")
         self.assertEqual(judged(note.replace(":9:", ":3:"))[0], "src/lib.rt opens.returns")
-
-    def test_a_note_at_an_attribute_names_its_function(self):
-        note = "note: src/lib.rt:12:1: it is not proved that what the function ensures holds when it returns (`returns`); the facts (`x`) allow it"
-        self.assertEqual(judged(note)[0], "src/lib.rt told.returns")
+        self.assertEqual(judged(note.replace(":9:", ":5:"))[0], "src/lib.rt closes.returns")
 
     def test_the_first_counts(self):
         first, second = "./proofs/F.antt:3:9: error: `a`: `search`: no proof of `x`", "./proofs/F.antt:8:9: error: `b`: `search`: no proof of `y`"
