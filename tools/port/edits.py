@@ -4,7 +4,7 @@
 Each old: of an edit is a text of one line of a file as it was at LANDED. That line is found by its place there, and today's line at the matching
 place. If LANDED's old:, spelled as today (spell.py's names, paths, clauses, projections), stands in that line and nowhere else in the file, it is
 today's old:, and LANDED's new:, spelled in the same way, is today's new:. All else is printed, with LANDED's texts and today's line: it is turned by
-hand. An edit that fits already, at the matching place, is left as it is. Names are read from /tmp/spell.tsv (spell.py --list)."""
+hand. An edit that fits already, at the matching place, is left as it is. Names are read from target/spell.tsv (spell.py --list)."""
 import difflib
 import glob
 import os
@@ -13,7 +13,7 @@ import subprocess
 import sys
 
 LANDED = "bf7ae5f"
-NAMES = "/tmp/spell.tsv"
+NAMES = "target/spell.tsv"
 WORD = re.compile(r"[A-Za-z_ℕℤ][\w'′\-₀-₉ˡˢ]*")
 TURNED = [(r"Rattle·(\w+)·specs\.specs\.", r"Rattle.\1.specs."), (r"Rattle·(\w+)\.specs\.", r"Rattle.\1.specs."), (r"mir\.Syntax\.", "Rattle.std.specs.Int."),
           ("′", "'"), (r"\bgetD\b", "get_or"), (r"\bneg_?ℤ", "neg_ℤ"), (r"\{ λ r\. ⌜ (.*) ⌝ \}", lambda m: "{ %s }" % re.sub(r"\br\b", "result", m[1])),
