@@ -21,7 +21,7 @@ use finish::{assign, begin_passes, pass_again, repeat, save, write_layout_line, 
 use model::Marks;
 use scan::read_code;
 use skip::{skip_by, skip_text, skip_value};
-use state::{State, count_event};
+use state::State;
 
 // What is done at the end of the code line that ends before place `to`. The call's next code line is the one after it. skip_by is
 // handed copies, and its answer has a name of its own: the compiler keeps it apart, and what it is handed by address would be written
@@ -138,7 +138,7 @@ pub fn step(
         return end_with(20, s);
     }
     let moved = move_to(call, line.next);
-    let counted = count_event(s);
+    let counted = s.count_event();
     carry(
         m, text, at, line.end, moved, nums, params, built, output, second, memory, counted,
     )

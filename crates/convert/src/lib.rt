@@ -141,7 +141,7 @@ fn add_new_symbol(param: &[u8], line: &mut [u8], n: usize, memory: &mut [u8], s:
     let next = s.symbols + 1;
     match put_number(next, param, memory, s.index) {
         Stored::Full => stop(19, s),
-        Stored::Now(index) => answer(add_number(next, line, n), state::count_symbol(s, index)),
+        Stored::Now(index) => answer(add_number(next, line, n), s.count_symbol(index)),
     }
 }
 

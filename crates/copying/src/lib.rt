@@ -12,7 +12,7 @@ use buffer::same_bytes;
 use call::{Head, param_len};
 use model::{Channel, LINE_MOST, Marks};
 use scan::read_content;
-use state::{State, set_input};
+use state::State;
 use write::write_line;
 
 // Whether text[at..end] begins with a name.
@@ -80,7 +80,7 @@ fn copy_lines(
         let at = st.at;
         let content = read_content(text, m.source, at);
         let end = content.end;
-        let t = set_input(st, content.next, st.line + 1);
+        let t = st.set_input(content.next, st.line + 1);
         if begins_name(text, at, end, name) {
             return go_on(call, t);
         }

@@ -19,7 +19,7 @@ use iterate::{end_pass, start_pass, start_repeat};
 use model::{Channel, LINE_MOST, Marks};
 use number::Valued;
 use scan::read_code;
-use state::{State, set_index};
+use state::State;
 use store::{Index, Stored, put};
 use value::value;
 use write::{write_layout, write_line};
@@ -140,7 +140,7 @@ pub fn save(call: Head, nums: &[usize], params: &[u8], memory: &mut [u8], s: Sta
     let first = param_len(nums, 1);
     let second = LINE_MOST + param_len(nums, 2);
     match put_part(memory, s.index, params, first, second) {
-        Stored::Now(index) => go_on(call, set_index(s, index)),
+        Stored::Now(index) => go_on(call, s.set_index(index)),
         Stored::Full => end_with(19, s),
     }
 }

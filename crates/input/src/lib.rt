@@ -36,14 +36,14 @@ fn drop_lines(text: &[u8], n: usize, s: State) -> State
     let mut left = n;
     while at < text.len() {
         if left == 0 {
-            return state::set_input(s, at, line);
+            return s.set_input(at, line);
         }
         let l = scan::read_line(text, at);
         at = l.next;
         line += 1;
         left -= 1;
     }
-    state::set_input(s, at, line)
+    s.set_input(at, line)
 }
 
 // Offers the content text[at..end], with no call open.
@@ -101,7 +101,7 @@ pub fn expand_input(
         let at = st.at;
         let content = scan::read_content(text, m.source, at);
         let end = content.end;
-        let t = state::set_input(st, content.next, st.line + 1);
+        let t = st.set_input(content.next, st.line + 1);
         if LINE_MOST < end - at {
             return end_with(11, t);
         }

@@ -13,7 +13,7 @@ use answer::{Answer, end_with, go_on};
 use call::{Call, Head};
 use fit::Choice;
 use model::{CALLS_MOST, MACROS_MOST};
-use state::{State, add_call, count_event};
+use state::State;
 use usage::count_line;
 use write::pass_through;
 
@@ -46,7 +46,7 @@ pub fn decide(c: Choice, line: &[u8], n: usize, output: &mut [u8], depth: usize,
     if s.fuel == 0 {
         return end_with(20, s);
     }
-    let t = count_event(s);
+    let t = s.count_event();
     if !c.found {
         return pass_through(line, n, output, t);
     }
@@ -66,7 +66,7 @@ pub fn count_call(a: Answer) -> State
     requires { a.state.calls ≤ fuel_most }
     ensures { result ≡ with_call a.state }
 {
-    add_call(a.state)
+    a.state.add_call()
 }
 
 // A call of the body of a reading's template, with the pieces of the first n bytes of a line as its parameters. Its number is that of

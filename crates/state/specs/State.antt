@@ -35,19 +35,19 @@ pub record Sound (text : Bytes) (s : State) (o : Outputs) (memory : Bytes) : Typ
 -- ---- changes of one part
 
 abbrev pub counted_event : State → State
-counted_event s = record { at = s.at; line = s.line; calls = s.calls; symbols = s.symbols; index = s.index; written = s.written; second = s.second; events = s.events + 1; fuel = s.fuel - 1 }
+counted_event s = record s { events = s.events + 1; fuel = s.fuel - 1 }
 
 abbrev pub with_index : State → Index → State
-with_index s x = record { at = s.at; line = s.line; calls = s.calls; symbols = s.symbols; index = x; written = s.written; second = s.second; events = s.events; fuel = s.fuel }
+with_index s x = record s { index = x }
 
 abbrev pub with_symbol : State → Index → State
-with_symbol s x = record { at = s.at; line = s.line; calls = s.calls; symbols = s.symbols + 1; index = x; written = s.written; second = s.second; events = s.events; fuel = s.fuel }
+with_symbol s x = record s { symbols = s.symbols + 1; index = x }
 
 abbrev pub with_written : State → (first second : ℕ) → State
-with_written s n k = record { at = s.at; line = s.line; calls = s.calls; symbols = s.symbols; index = s.index; written = n; second = k; events = s.events; fuel = s.fuel }
+with_written s n k = record s { written = n; second = k }
 
 abbrev pub with_input : State → (at line : ℕ) → State
-with_input s at line = record { at = at; line = line; calls = s.calls; symbols = s.symbols; index = s.index; written = s.written; second = s.second; events = s.events; fuel = s.fuel }
+with_input s at line = record s { at = at; line = line }
 
 abbrev pub with_call : State → State
-with_call s = record { at = s.at; line = s.line; calls = s.calls + 1; symbols = s.symbols; index = s.index; written = s.written; second = s.second; events = s.events; fuel = s.fuel }
+with_call s = record s { calls = s.calls + 1 }

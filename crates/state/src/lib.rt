@@ -28,78 +28,64 @@ pub struct State {
     pub fuel: usize,
 }
 
-// An event is counted.
-pub fn count_event(s: State) -> State
-    requires { (0 < s.fuel) × (s.events + s.fuel ≤ fuel_most) }
-    ensures { result ≡ counted_event s }
-{
-    let mut t = s;
-    t.events = s.events + 1;
-    t.fuel = s.fuel - 1;
-    t
-}
-
-// Memory has another index.
-pub fn set_index(s: State, index: Index) -> State
-    ensures { result ≡ with_index s index }
-{
-    State {
-        at: s.at,
-        line: s.line,
-        calls: s.calls,
-        symbols: s.symbols,
-        index,
-        written: s.written,
-        second: s.second,
-        events: s.events,
-        fuel: s.fuel,
+impl State {
+    // An event is counted.
+    pub fn count_event(self) -> State
+        requires { (0 < self.fuel) × (self.events + self.fuel ≤ fuel_most) }
+        ensures { result ≡ counted_event self }
+    {
+        State {
+            events: self.events + 1,
+            fuel: self.fuel - 1,
+            ..self
+        }
     }
-}
 
-// A number of ed2 is stored.
-pub fn count_symbol(s: State, index: Index) -> State
-    requires { s.symbols ≤ fuel_most }
-    ensures { result ≡ with_symbol s index }
-{
-    State {
-        at: s.at,
-        line: s.line,
-        calls: s.calls,
-        symbols: s.symbols + 1,
-        index,
-        written: s.written,
-        second: s.second,
-        events: s.events,
-        fuel: s.fuel,
+    // Memory has another index.
+    pub fn set_index(self, index: Index) -> State
+        ensures { result ≡ with_index self index }
+    {
+        State { index, ..self }
     }
-}
 
-// So many bytes of the outputs are written.
-pub fn set_written(s: State, written: usize, second: usize) -> State
-    ensures { result ≡ with_written s written second }
-{
-    let mut t = s;
-    t.written = written;
-    t.second = second;
-    t
-}
+    // A number of ed2 is stored.
+    pub fn count_symbol(self, index: Index) -> State
+        requires { self.symbols ≤ fuel_most }
+        ensures { result ≡ with_symbol self index }
+    {
+        State {
+            symbols: self.symbols + 1,
+            index,
+            ..self
+        }
+    }
 
-// The input is read up to a place of the text.
-pub fn set_input(s: State, at: usize, line: usize) -> State
-    ensures { result ≡ with_input s at line }
-{
-    let mut t = s;
-    t.at = at;
-    t.line = line;
-    t
-}
+    // So many bytes of the outputs are written.
+    pub fn set_written(self, written: usize, second: usize) -> State
+        ensures { result ≡ with_written self written second }
+    {
+        State {
+            written,
+            second,
+            ..self
+        }
+    }
 
-// A call is opened.
-pub fn add_call(s: State) -> State
-    requires { s.calls ≤ fuel_most }
-    ensures { result ≡ with_call s }
-{
-    let mut t = s;
-    t.calls = s.calls + 1;
-    t
+    // The input is read up to a place of the text.
+    pub fn set_input(self, at: usize, line: usize) -> State
+        ensures { result ≡ with_input self at line }
+    {
+        State { at, line, ..self }
+    }
+
+    // A call is opened.
+    pub fn add_call(self) -> State
+        requires { self.calls ≤ fuel_most }
+        ensures { result ≡ with_call self }
+    {
+        State {
+            calls: self.calls + 1,
+            ..self
+        }
+    }
 }

@@ -12,7 +12,7 @@ use answer::{Answer, end_with, go_back};
 use buffer::{copy, wide};
 use call::param_len;
 use model::{Channel, LINE_MOST, Marks};
-use state::{State, set_written};
+use state::State;
 
 // The first n bytes of a line, and a byte 10 after them, come after the first w bytes of an output. The answer is how many it then has: w
 // where there is no room for them.
@@ -39,7 +39,7 @@ fn count_written(r: Answer, written: usize, second: usize) -> Answer
         kind: r.kind,
         count: r.count,
         call,
-        state: set_written(s, written, second),
+        state: s.set_written(written, second),
     }
 }
 
