@@ -1,6 +1,7 @@
 -- What a step of a code line comes to, as an answer.
 use mathlib.Core.Path.{◌≡◌, refl, sym, ap, subst, ◌∙◌}
-use mathlib.Core.Bool.{Bool, true, false}
+use Rattle.std.specs.Prelude.{Option}
+use Rattle.faults.specs.declared.RunFault.{RunFault}
 use mathlib.Core.Option.{none}
 use mathlib.Core.List.{List}
 use Prim.Native.Nat.{ℕ}
@@ -8,24 +9,14 @@ use native.Mathlib.Omega.{arith}
 use Rattle.model.specs.declared.Marks.{Marks}
 use Rattle.model.specs.Text.{Bytes}
 use Rattle.model.specs.Machine.{Step, continues, halts, state_with, stepped, Outputs}
-use Rattle.model.proofs.Choices.{false-not-true}
 use Rattle.state.specs.declared.State.{State}
 use Rattle.state.specs.State.{shared_of, state_of, Sound}
 use Rattle.call.specs.declared.Head.{Head}
 use Rattle.call.specs.Call.{laid, frame_of, Placed}
 use Rattle.answer.specs.declared.Answer.{Answer}
-use Rattle.answer.specs.Answers.{without_call, goes_further, ends_with, GoesOrEnds, settle, next_at, next_of}
+use Rattle.answer.specs.Answers.{number_of_end, without_call, goes_further, ends_with, settle, next_at, next_of}
 use Rattle.answer.specs.Kept.{Comes}
 use Rattle.answer.proofs.Following.{both_none, stays_same}
-
--- ---- by a flag
-
-module _ {ok : Bool} {k : ℕ} {c : Head} {s : State} {r : Answer} where
-  pub goes_where : ok ≡ true → r ≡ goes_further c s → GoesOrEnds ok k c s r
-  goes_where e f = record { goes = λ _. f; ends = λ g. false-not-true (sym g ∙ e) }
-
-  pub ends_where : ok ≡ false → r ≡ ends_with k s → GoesOrEnds ok k c s r
-  ends_where e f = record { goes = λ g. false-not-true (sym e ∙ g); ends = λ _. f }
 
 -- ---- a step
 
@@ -59,7 +50,7 @@ module _ {m : Marks} {text : Bytes} {c : Head} {nums : List ℕ} {bytes : Bytes}
   }))
 
   -- the run ends
-  pub came_end : {k : ℕ} → r ≡ ends_with k s → p ≡ halts k (shared_of s o memory) → Comes m text p s o b r nums bytes o memory
+  pub came_end : {k : Option RunFault} → r ≡ ends_with k s → p ≡ halts (number_of_end k) (shared_of s o memory) → Comes m text p s o b r nums bytes o memory
   unfolding settle next_at next_of stepped state_with
   came_end e f = subst (λ (x : Answer). Comes m text p s o b x nums bytes o memory) (sym e) (comes_as f (record {
     same = λ fs y. refl;
@@ -69,15 +60,3 @@ module _ {m : Marks} {text : Bytes} {c : Head} {nums : List ℕ} {bytes : Bytes}
     stays = stays_same s;
     extends = both_none h;
   }))
-
-  -- by a flag
-  pub came_by : {ok : Bool} {k : ℕ} → GoesOrEnds ok k c s r
-      → p ≡ elim ok as (λ _. Step) [ true ↦ continues (frame_of m text (laid c nums bytes)) (shared_of s o memory) | false ↦ halts k (shared_of s o memory) ]
-      → Comes m text p s o b r nums bytes o memory
-  came_by {ok} {k} g f = by ok g.goes g.ends f
-    where
-      by : (q : Bool) → (q ≡ true → r ≡ goes_further c s) → (q ≡ false → r ≡ ends_with k s)
-          → p ≡ elim q as (λ _. Step) [ true ↦ continues (frame_of m text (laid c nums bytes)) (shared_of s o memory) | false ↦ halts k (shared_of s o memory) ]
-          → Comes m text p s o b r nums bytes o memory
-      by true d e f = came_on (d refl) f
-      by false d e f = came_end (e refl) f

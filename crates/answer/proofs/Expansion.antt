@@ -2,6 +2,8 @@
 use mathlib.Core.Path.{◌≡◌, refl, sym, ap, ◌∙◌}
 use mathlib.Core.Bool.{true, false}
 use mathlib.Core.Option.{none, some}
+use Rattle.std.specs.Prelude.{Option}
+use Rattle.faults.specs.declared.RunFault.{RunFault}
 use mathlib.Core.List.{List, [], ◌∷◌}
 use Prim.Native.Nat.{ℕ, ◌+◌, ◌≤◌, min}
 use native.Mathlib.Omega.{arith}
@@ -20,7 +22,9 @@ use Rattle.state.specs.declared.State.{State}
 use Rattle.state.specs.State.{shared_of, state_of}
 use Rattle.call.specs.Call.{laid, frame_of}
 use Rattle.answer.specs.declared.Answer.{Answer}
-use Rattle.answer.specs.Answers.{turn, Turn, Continues, Offers, Back, Halts, ends_with, is_left, is_offer, is_end, offered_length, lines_back, settle, next_at, next_of, comes_to, result_at, result_after}
+use Rattle.answer.specs.declared.Turn.{Turn}
+use Rattle.answer.specs.declared.Turn.TheVariants.{Continues, Offers, Back, Halts}
+use Rattle.answer.specs.Answers.{number_of_end, ends_with, is_left, is_offer, is_end, offered_length, lines_back, settle, next_at, next_of, comes_to, result_at, result_after}
 
 -- ---- a state counts by its input, line, calls and events where a line is carried out
 
@@ -63,11 +67,11 @@ module _ (m : Marks) where
 
 -- ---- runs that have ended
 
--- the run ends with a number
-pub halts_with : (fuel : ℕ) (room : Rooms) (t : Loaded) (text : Bytes) (k : ℕ) (fs : List Frame) (y : Tally) (s : State) (o : Outputs) (w : Bytes)
-    → comes_to fuel room t (ended k (state_of text none fs y s o w)) ≡ result_after t y (ends_with k s) o w
+-- the run ends with a fault's number, or with 0
+pub halts_with : (fuel : ℕ) (room : Rooms) (t : Loaded) (text : Bytes) (k : Option RunFault) (fs : List Frame) (y : Tally) (s : State) (o : Outputs) (w : Bytes)
+    → comes_to fuel room t (ended (number_of_end k) (state_of text none fs y s o w)) ≡ result_after t y (ends_with k s) o w
 unfolding outcome Machine.result_of
-halts_with fuel room t text k fs y s o w = ap (outcome t) (after_ended fuel room t k (state_of text none fs y s o w))
+halts_with fuel room t text k fs y s o w = ap (outcome t) (after_ended fuel room t (number_of_end k) (state_of text none fs y s o w))
 
 -- what is settled comes to the same
 pub settle-same : (fuel : ℕ) (room : Rooms) (t : Loaded) (x : Next) → comes_to fuel room t x ≡ comes_to fuel room t (settle x)
@@ -87,15 +91,15 @@ module _ (m : Marks) (text : Bytes) (r : Answer) (fs : List Frame) (y : Tally) (
   abbrev turned : Turn → Next
   turned z = next_at m text fs y z r.call r.state nums bytes line o w
 
-  pub next_as : {z : Turn} → turn r ≡ z → next_of m text fs y r nums bytes line o w ≡ next_at m text fs y z r.call r.state nums bytes line o w
+  pub next_as : {z : Turn} → r.turn ≡ z → next_of m text fs y r nums bytes line o w ≡ next_at m text fs y z r.call r.state nums bytes line o w
   unfolding next_of
   next_as e = ap turned e
 
   -- the call goes on, with nothing offered
-  pub next_on : is_left (turn r) ≡ false → is_offer (turn r) ≡ false
+  pub next_on : is_left r.turn ≡ false → is_offer r.turn ≡ false
       → next_of m text fs y r nums bytes line o w ≡ running (state_of text none (frame_of m text (laid r.call nums bytes) ∷ fs) y r.state o w)
   unfolding next_of next_at
-  next_on e f = by (turn r) e f
+  next_on e f = by r.turn e f
     where
       by : (z : Turn) → is_left z ≡ false → is_offer z ≡ false → turned z ≡ running (state_of text none (frame_of m text (laid r.call nums bytes) ∷ fs) y r.state o w)
       by Continues e f = refl
@@ -104,10 +108,10 @@ module _ (m : Marks) (text : Bytes) (r : Answer) (fs : List Frame) (y : Tally) (
       by (Halts k) e f = false-not-true (sym e)
 
   -- its line is offered
-  pub next_offers : is_offer (turn r) ≡ true
-      → next_of m text fs y r nums bytes line o w ≡ running (state_of text (some (take (offered_length (turn r)) line)) (frame_of m text (laid r.call nums bytes) ∷ fs) y r.state o w)
+  pub next_offers : is_offer r.turn ≡ true
+      → next_of m text fs y r nums bytes line o w ≡ running (state_of text (some (take (offered_length r.turn) line)) (frame_of m text (laid r.call nums bytes) ∷ fs) y r.state o w)
   unfolding next_of next_at
-  next_offers e = by (turn r) e
+  next_offers e = by r.turn e
     where
       by : (z : Turn) → is_offer z ≡ true → turned z ≡ running (state_of text (some (take (offered_length z) line)) (frame_of m text (laid r.call nums bytes) ∷ fs) y r.state o w)
       by Continues e = false-not-true e
@@ -116,10 +120,10 @@ module _ (m : Marks) (text : Bytes) (r : Answer) (fs : List Frame) (y : Tally) (
       by (Halts k) e = false-not-true e
 
   -- so many lines are skipped among the callers
-  pub next_back : is_left (turn r) ≡ true → is_end (turn r) ≡ false
-      → next_of m text fs y r nums bytes line o w ≡ settle (skip_in m (lines_back (turn r)) fs (shared_of r.state o w) (state_of text none fs y r.state o w))
+  pub next_back : is_left r.turn ≡ true → is_end r.turn ≡ false
+      → next_of m text fs y r nums bytes line o w ≡ settle (skip_in m (lines_back r.turn) fs (shared_of r.state o w) (state_of text none fs y r.state o w))
   unfolding next_of next_at
-  next_back e f = by (turn r) e f
+  next_back e f = by r.turn e f
     where
       by : (z : Turn) → is_left z ≡ true → is_end z ≡ false → turned z ≡ settle (skip_in m (lines_back z) fs (shared_of r.state o w) (state_of text none fs y r.state o w))
       by Continues e f = false-not-true e
@@ -128,9 +132,9 @@ module _ (m : Marks) (text : Bytes) (r : Answer) (fs : List Frame) (y : Tally) (
       by (Halts k) e f = false-not-true (sym f)
 
   -- the run ends
-  pub next_ends : is_end (turn r) ≡ true → (fuel : ℕ) (room : Rooms) (t : Loaded) → comes_to fuel room t (next_of m text fs y r nums bytes line o w) ≡ result_after t y r o w
+  pub next_ends : is_end r.turn ≡ true → (fuel : ℕ) (room : Rooms) (t : Loaded) → comes_to fuel room t (next_of m text fs y r nums bytes line o w) ≡ result_after t y r o w
   unfolding next_of next_at
-  next_ends e fuel room t = by (turn r) e
+  next_ends e fuel room t = by r.turn e
     where
       by : (z : Turn) → is_end z ≡ true → comes_to fuel room t (turned z) ≡ result_at t y z r.state o w
       by Continues e = false-not-true e
@@ -139,9 +143,9 @@ module _ (m : Marks) (text : Bytes) (r : Answer) (fs : List Frame) (y : Tally) (
       by (Halts k) e = halts_with fuel room t text k [] y r.state o w
 
   -- where the call is left, its numbers and bytes and the built line don't matter
-  pub left_same : is_left (turn r) ≡ true → (nums' : List ℕ) (bytes' line' : Bytes) → next_of m text fs y r nums bytes line o w ≡ next_of m text fs y r nums' bytes' line' o w
+  pub left_same : is_left r.turn ≡ true → (nums' : List ℕ) (bytes' line' : Bytes) → next_of m text fs y r nums bytes line o w ≡ next_of m text fs y r nums' bytes' line' o w
   unfolding next_of next_at
-  left_same e nums' bytes' line' = by (turn r) e
+  left_same e nums' bytes' line' = by r.turn e
     where
       by : (z : Turn) → is_left z ≡ true → turned z ≡ next_at m text fs y z r.call r.state nums' bytes' line' o w
       by Continues e = false-not-true e
@@ -150,9 +154,9 @@ module _ (m : Marks) (text : Bytes) (r : Answer) (fs : List Frame) (y : Tally) (
       by (Halts k) e = refl
 
   -- where no line is offered, the built line doesn't matter
-  pub unoffered_same : is_offer (turn r) ≡ false → (line' : Bytes) → next_of m text fs y r nums bytes line o w ≡ next_of m text fs y r nums bytes line' o w
+  pub unoffered_same : is_offer r.turn ≡ false → (line' : Bytes) → next_of m text fs y r nums bytes line o w ≡ next_of m text fs y r nums bytes line' o w
   unfolding next_of next_at
-  unoffered_same e line' = by (turn r) e
+  unoffered_same e line' = by r.turn e
     where
       by : (z : Turn) → is_offer z ≡ false → turned z ≡ next_at m text fs y z r.call r.state nums bytes line' o w
       by Continues e = refl
@@ -161,9 +165,9 @@ module _ (m : Marks) (text : Bytes) (r : Answer) (fs : List Frame) (y : Tally) (
       by (Halts k) e = refl
 
   -- where the call is left, its callers stay well nested
-  pub left_nested : is_left (turn r) ≡ true → FramesOk m fs → NextOk m (next_of m text fs y r nums bytes line o w)
+  pub left_nested : is_left r.turn ≡ true → FramesOk m fs → NextOk m (next_of m text fs y r nums bytes line o w)
   unfolding next_of next_at
-  left_nested e h = by (turn r) e
+  left_nested e h = by r.turn e
     where
       by : (z : Turn) → is_left z ≡ true → NextOk m (turned z)
       by Continues e = false-not-true e
@@ -172,9 +176,9 @@ module _ (m : Marks) (text : Bytes) (r : Answer) (fs : List Frame) (y : Tally) (
       by (Halts k) e = tt
 
   -- a call that goes on, at once or after an offer, is well nested
-  pub next-nested : NextOk m (next_of m text fs y r nums bytes line o w) → is_left (turn r) ≡ false → Nested m (frame_of m text (laid r.call nums bytes))
+  pub next-nested : NextOk m (next_of m text fs y r nums bytes line o w) → is_left r.turn ≡ false → Nested m (frame_of m text (laid r.call nums bytes))
   unfolding next_of next_at
-  next-nested = by (turn r)
+  next-nested = by r.turn
     where
       by : (z : Turn) → NextOk m (turned z) → is_left z ≡ false → Nested m (frame_of m text (laid r.call nums bytes))
       by Continues h e = h.0

@@ -2,4 +2,3 @@
 pub mod Following
 pub mod Coming
 pub mod Expansion
-pub mod Turns

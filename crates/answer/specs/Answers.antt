@@ -1,40 +1,30 @@
 -- Answers as the code makes them, and what one comes to in the expansion.
-use Rattle.std.specs.Prelude.{◌≡◌, Bool, true, false, List, [], ◌∷◌, ℕ, zero, suc, length, take}
+use Rattle.std.specs.Prelude.{Bool, true, false, List, [], ◌∷◌, ℕ, length, take, Option, Some, None, Result, Ok, Err}
 use Rattle.std.proofs.Math.Option.{none, some}
+use Rattle.faults.specs.declared.RunFault.{RunFault}
+use Rattle.faults.specs.Numbers.{run_number}
 use Rattle.model.specs.declared.Marks.{Marks}
 use Rattle.model.specs.Text.{Bytes}
 use Rattle.model.specs.Store.{listing}
 use Rattle.model.specs.Load.{Loaded}
 use Rattle.model.specs.Report.{Tally, report_rows, report_bytes}
-use Rattle.model.specs.Machine.{Rooms, rooms, Outputs, outputs, Frame, Next, running, ended, state_with, skip_in, after, Result, outcome}
+use Rattle.model.specs.Machine.{Rooms, rooms, Outputs, outputs, Frame, Next, running, ended, state_with, skip_in, after, outcome}
+use Rattle.model.specs.Machine as Machine
 use Rattle.store.specs.Memory.{held}
 use Rattle.state.specs.declared.State.{State}
 use Rattle.state.specs.State.{shared_of, state_of}
 use Rattle.call.specs.declared.Head.{Head}
 use Rattle.call.specs.Call.{laid, frame_of}
 use Rattle.answer.specs.declared.Answer.{Answer}
-
--- ---- turns
-
--- the call goes on; it does once the first n bytes of the line that it built are offered; it is left, or the line that was offered is
--- done with, and n lines are skipped in the caller, or of the input; the run ends with a number
-pub data Turn : Type 0 where
-  Continues : Turn
-  Offers : (n : ℕ) → Turn
-  Back : (n : ℕ) → Turn
-  Halts : (k : ℕ) → Turn
-
--- the turn that two numbers stand for: which one it is, and what it counts. The answers below have 0 to 3; any number above is read as 3
-abbrev pub turn_of : (kind count : ℕ) → Turn
-turn_of zero n = Continues
-turn_of (suc zero) n = Offers n
-turn_of (suc (suc zero)) n = Back n
-turn_of (suc (suc (suc k))) n = Halts n
-
-abbrev pub turn : Answer → Turn
-turn r = turn_of r.kind r.count
+use Rattle.answer.specs.declared.Turn.{Turn}
+use Rattle.answer.specs.declared.Turn.TheVariants.{Continues, Offers, Back, Halts}
 
 -- ---- as the code makes them
+
+-- the number of a run that ends with a fault, or with none
+abbrev pub number_of_end : Option RunFault → ℕ
+number_of_end None = 0
+number_of_end (Some fault) = run_number fault
 
 -- the call of an answer that leaves it
 abbrev pub without_call : Head
@@ -42,24 +32,24 @@ without_call = record { number = 0; next = 0; depth = 0 }
 
 -- the call goes on
 abbrev pub goes_further : Head → State → Answer
-goes_further c s = record { kind = 0; count = 0; call = c; state = s }
+goes_further c s = record { turn = Continues; call = c; state = s }
 
 -- the first n bytes of the line that it built are offered
 abbrev pub offers_built : ℕ → Head → State → Answer
-offers_built n c s = record { kind = 1; count = n; call = c; state = s }
+offers_built n c s = record { turn = Offers n; call = c; state = s }
 
 -- the caller goes on, with n lines to be skipped
 abbrev pub goes_back : ℕ → State → Answer
-goes_back n s = record { kind = 2; count = n; call = without_call; state = s }
+goes_back n s = record { turn = Back n; call = without_call; state = s }
 
--- the run ends with a number
-abbrev pub ends_with : ℕ → State → Answer
-ends_with k s = record { kind = 3; count = k; call = without_call; state = s }
+-- the run ends with a fault's number, or with 0
+abbrev pub ends_with : Option RunFault → State → Answer
+ends_with k s = record { turn = Halts k; call = without_call; state = s }
 
--- the call goes on, or the run ends with a number
-pub record GoesOrEnds (ok : Bool) (k : ℕ) (c : Head) (s : State) (r : Answer) : Type 0 where
-  pub goes : ok ≡ true → r ≡ goes_further c s
-  pub ends : ok ≡ false → r ≡ ends_with k s
+-- the call that was made goes on, or the run ends with the fault's number
+abbrev pub goes_or_ends : Result Head RunFault → State → Answer
+goes_or_ends (Ok c) s = goes_further c s
+goes_or_ends (Err fault) s = ends_with (Some fault) s
 
 -- ---- as the code reads them
 
@@ -97,7 +87,7 @@ abbrev pub end_number : Turn → ℕ
 end_number Continues = 0
 end_number (Offers n) = 0
 end_number (Back n) = 0
-end_number (Halts k) = k
+end_number (Halts k) = number_of_end k
 
 -- ---- what one comes to
 
@@ -112,22 +102,22 @@ unfoldable pub next_at : Marks → Bytes → (fs : List Frame) → Tally → Tur
 next_at m text fs y Continues c s nums bytes line o w = running (state_of text none (frame_of m text (laid c nums bytes) ∷ fs) y s o w)
 next_at m text fs y (Offers n) c s nums bytes line o w = running (state_of text (some (take n line)) (frame_of m text (laid c nums bytes) ∷ fs) y s o w)
 next_at m text fs y (Back n) c s nums bytes line o w = settle (skip_in m n fs (shared_of s o w) (state_of text none fs y s o w))
-next_at m text fs y (Halts k) c s nums bytes line o w = ended k (state_of text none [] y s o w)
+next_at m text fs y (Halts k) c s nums bytes line o w = ended (number_of_end k) (state_of text none [] y s o w)
 
 -- and after an answer
 unfoldable pub next_of : Marks → Bytes → (fs : List Frame) → Tally → Answer → (nums : List ℕ) (bytes line : Bytes) → Outputs → (memory : Bytes) → Next
-next_of m text fs y r nums bytes line o w = next_at m text fs y (turn r) r.call r.state nums bytes line o w
+next_of m text fs y r nums bytes line o w = next_at m text fs y r.turn r.call r.state nums bytes line o w
 
 -- the rooms that two lent slices are
 abbrev pub rooms_of : Outputs → Rooms
 rooms_of o = rooms (length o.first) (length o.second)
 
 -- what the expansion comes to from there, with this fuel
-abbrev pub comes_to : ℕ → Rooms → Loaded → Next → Result
+abbrev pub comes_to : ℕ → Rooms → Loaded → Next → Machine.Result
 comes_to fuel room t x = outcome t (after fuel room t x)
 
 -- the result of a run of t that ends with a turn, or with an answer
-abbrev pub result_at : Loaded → Tally → Turn → State → Outputs → (memory : Bytes) → Result
+abbrev pub result_at : Loaded → Tally → Turn → State → Outputs → (memory : Bytes) → Machine.Result
 result_at t y z s o w = record {
   number = end_number z;
   line = s.line;
@@ -137,5 +127,5 @@ result_at t y z s o w = record {
   report = report_bytes (report_rows t.macros y);
 }
 
-abbrev pub result_after : Loaded → Tally → Answer → Outputs → (memory : Bytes) → Result
-result_after t y r o w = result_at t y (turn r) r.state o w
+abbrev pub result_after : Loaded → Tally → Answer → Outputs → (memory : Bytes) → Machine.Result
+result_after t y r o w = result_at t y r.turn r.state o w

@@ -12,7 +12,7 @@ use Rattle.state.specs.State.{Sound, state_of}
 use Rattle.call.specs.declared.Call.{Call}
 use Rattle.call.specs.Call.{opened_of, Laid, laid, frame_of, Placed}
 use Rattle.answer.specs.declared.Answer.{Answer}
-use Rattle.answer.specs.Answers.{turn, offered_length, settle, next_of}
+use Rattle.answer.specs.Answers.{offered_length, settle, next_of}
 
 -- what was written to an output stays, and so does what lies beyond what is written now
 pub record Extends (o : Bytes) (w : ℕ) (o' : Bytes) (w' : ℕ) : Type 0 where
@@ -57,7 +57,7 @@ pub record Comes (m : Marks) (text : Bytes) (p : Step) (s : State) (o : Outputs)
   pub same : (fs : List Frame) (y : Tally) → settle (stepped m fs p (state_of text none fs y s o' memory')) ≡ next_of m text fs y r nums bytes line o' memory'
   pub sound : Sound text r.state o' memory'
   pub placed : Placed text (laid r.call nums bytes)
-  pub short : offered_length (turn r) ≤ line_most
+  pub short : offered_length r.turn ≤ line_most
   pub stays : Stays s r.state
   pub extends : ExtendsBoth o s o' r.state
 
