@@ -1,6 +1,5 @@
 -- Laws that the proofs here and in other crates cite.
 pub mod Same
 pub mod Pasted
-pub mod Moves
 pub mod Written
 pub mod Decimal

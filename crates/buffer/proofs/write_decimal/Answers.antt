@@ -1,6 +1,7 @@
--- write_decimal writes the digits of n, of which there are at most 20.
-use Rattle.buffer.proofs.Decimal.{all_digits}
+-- write_decimal copies the digits that itoa writes, which are the model's.
+use mathlib.Core.Path.{◌∙◌}
+use Rattle.buffer.proofs.Decimal.{decimal_copied}
 use Rattle.buffer.proofs.write_decimal.Goals as goal
 
 pub returns : goal.returns
-returns c = search all_digits
+returns c = decimal_copied (c.as_bytes-text.ensures.value ∙ c.format.ensures.text) c.copy.ensures c.ranges.n.fits c.requires
