@@ -1,7 +1,7 @@
 -- Why the flag line's tests answer as they do: a loop over the marks, and the tests together.
 use mathlib.Core.Path.{◌≡◌, refl, ap, sym, ◌∙◌}
 use mathlib.Core.Bool.{Bool, true, false, not, ◌&&◌}
-use mathlib.Core.Option.{none, some}
+use mathlib.Core.Option as Math
 use mathlib.Core.List.{[], ◌∷◌}
 use Prim.Native.Nat.{ℕ, suc, ◌+◌, ◌≤◌, ◌<◌}
 use native.Mathlib.Numerals.{add-one}
@@ -14,8 +14,7 @@ use Rattle.model.specs.declared.Marks.{Marks}
 use Rattle.model.specs.Text.{Bytes, part, has, plain, all_plain, distinct, apart, legal_marks, others, legal_flags, marks_fault, marks_of}
 use Rattle.model.specs.Legal.{operators}
 use Rattle.model.proofs.Text.{part-rest}
-use Rattle.scan.specs.declared.Flags.{Flags}
-use Rattle.scan.specs.declared.Flags.TheVariants.{Legal, Fault}
+use Rattle.std.specs.Prelude.{Option, None, Some}
 use Rattle.scan.specs.Lines.{Has, PlainByte, AllPlain, AllDiffer, LegalMarks, flags_of, flags_fault, MarksAt}
 
 -- ---- a test of each byte and those after it
@@ -107,24 +106,24 @@ unfolding legal_marks apart
 legal_by p q r = record { is = rw (p.is, q.is, r.is) }
 
 -- an answer's number is that of its marks
-flags-fault : (r : Flags) → flags_fault r ≡ marks_fault (flags_of r)
-flags-fault (Legal m) = refl
-flags-fault Fault = refl
+flags-fault : (r : Option Marks) → flags_fault r ≡ marks_fault (flags_of r)
+flags-fault (Some m) = refl
+flags-fault None = refl
 
-marks_at : {text : Bytes} {end : ℕ} {r : Flags} → flags_of r ≡ marks_of (part text 0 end) → MarksAt text end r
+marks_at : {text : Bytes} {end : ℕ} {r : Option Marks} → flags_of r ≡ marks_of (part text 0 end) → MarksAt text end r
 marks_at {r = r} e = record { is = e; number = flags-fault r ∙ ap marks_fault e }
 
 -- the answer for what legal_flags says of the line
-answer : (text : Bytes) (end : ℕ) (b : Bool) → legal_flags (part text 0 end) ≡ b → MarksAt text end (elim b as (λ _. Flags) [ true ↦ Legal (marks_in (part text 0 end)) | false ↦ Fault ])
+answer : (text : Bytes) (end : ℕ) (b : Bool) → legal_flags (part text 0 end) ≡ b → MarksAt text end (elim b as (λ _. Option Marks) [ true ↦ Some (marks_in (part text 0 end)) | false ↦ None ])
 unfolding marks_of
 answer text end true e = marks_at (rw (e, marks_of))
 answer text end false e = marks_at (rw (e, marks_of))
 
-pub fault_short : {text : Bytes} {end : ℕ} → length (part text 0 end) < 12 → MarksAt text end Fault
+pub fault_short : {text : Bytes} {end : ℕ} → length (part text 0 end) < 12 → MarksAt text end None
 unfolding legal_flags
 fault_short {text} {end} k = answer text end false (rw (lt-leb 12 (length (part text 0 end)) k))
 
-pub fault_fifth : {text : Bytes} {end : ℕ} → 12 ≤ length (part text 0 end) → ¬ (get_or (part text 0 end) 4 0 ≡ 48) → MarksAt text end Fault
+pub fault_fifth : {text : Bytes} {end : ℕ} → 12 ≤ length (part text 0 end) → ¬ (get_or (part text 0 end) 4 0 ≡ 48) → MarksAt text end None
 unfolding legal_flags legal_marks
 fault_fifth {text} {end} k f = answer text end false (rw (le-leb 12 (length (part text 0 end)) k, ne_eqb (get_or (part text 0 end) 4 0) 48 f))
 
@@ -134,17 +133,17 @@ unfolding legal_flags others
 legal_as s r k e h = rw (le-leb 12 (length s) k, e) (sym h.is)
 
 pub fault_tested : {text : Bytes} {end : ℕ} {r : Bool} → 12 ≤ length (part text 0 end) → get_or (part text 0 end) 4 0 ≡ 48 → LegalMarks (marks_in (part text 0 end)) r → r ≡ false
-    → MarksAt text end Fault
+    → MarksAt text end None
 fault_tested {text} {end} {r} k e h f = answer text end false (legal_as (part text 0 end) r k e h ∙ f)
 
 pub legal_tested : {text : Bytes} {end : ℕ} {r : Bool} → 12 ≤ length (part text 0 end) → get_or (part text 0 end) 4 0 ≡ 48 → LegalMarks (marks_in (part text 0 end)) r → r ≡ true
-    → MarksAt text end (Legal (marks_in (part text 0 end)))
+    → MarksAt text end (Some (marks_in (part text 0 end)))
 legal_tested {text} {end} {r} k e h f = answer text end true (legal_as (part text 0 end) r k e h ∙ f)
 
 -- ---- for callers of read_marks
 
-pub marks_legal : {text : Bytes} {end : ℕ} {r : Flags} {m : Marks} → MarksAt text end r → r ≡ Legal m → marks_of (part text 0 end) ≡ some m
+pub marks_legal : {text : Bytes} {end : ℕ} {r : Option Marks} {m : Marks} → MarksAt text end r → r ≡ Some m → marks_of (part text 0 end) ≡ Math.some m
 marks_legal h e = sym h.is ∙ ap flags_of e
 
-pub marks-fault : {text : Bytes} {end : ℕ} {r : Flags} → MarksAt text end r → r ≡ Fault → marks_of (part text 0 end) ≡ none
+pub marks-fault : {text : Bytes} {end : ℕ} {r : Option Marks} → MarksAt text end r → r ≡ None → marks_of (part text 0 end) ≡ Math.none
 marks-fault h e = sym h.is ∙ ap flags_of e

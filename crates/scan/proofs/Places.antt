@@ -10,12 +10,14 @@ use borrow.Author.Tests.{ltb-true, ltb-false}
 use lib.Dec.{eqb, ltb}
 use lib.ListN.{length, get_or, drop, drop_of_length-le}
 use lib.Seq.{drop-cons}
+use Rattle.std.specs.Prelude.{Option, None, Some, MatchOption}
 use Rattle.model.specs.declared.Marks.{Marks}
+use Rattle.scan.specs.declared.Line.{Line}
 use Rattle.model.specs.Text.{Bytes, part, starts_with, up_to, lines}
 use Rattle.model.specs.Load.{body_of, body_at}
 use Rattle.model.proofs.Choices.{false-not-true}
 use Rattle.model.proofs.Text.{part_length, part-rest, part-whole, part_empty, part_cons, part-take}
-use Rattle.scan.specs.Lines.{line_at, FindsByte, Has, Begins, LineAt, FindsEnd, PassesLine, ContentAt, BeginsMarked, CodeAt}
+use Rattle.scan.specs.Lines.{line_at, FindsByte, Has, Begins, LineAt, FindsEnd, PassesLine, ContentAt, BeginsMarked, CodeLine, CodeAt}
 use Rattle.scan.proofs.Lines.{up_to_stops, up_to_goes_on, up_to_front, up_to_short, has_up_to, lines_at, body_none, body_ends, body_goes_on}
 
 -- ---- find_byte
@@ -220,34 +222,32 @@ line_marked text at mark {r} lt h = ap (λ (s : Bytes). starts_with mark (up_to 
 
 -- ---- read_code
 
-code-none : (m : Marks) (text : Bytes) (at : ℕ) → at ≤ length text → body_at m text at ≡ [] → CodeAt m text at (record { there = false; end = at; next = at })
-code-none m text at h e = record {
-  low = omega arith;
-  high = omega arith;
-  within = h;
-  ahead = λ f. false-not-true f;
-  more = λ f. false-not-true f;
-  still = λ f. refl;
-  ended = λ f. e;
-}
+pub code_past : {m : Marks} {text : Bytes} {at : ℕ} → at ≡ length text → CodeAt m text at None
+code_past {m} {text} {at} e = record { is = body_none m text at (omega arith) }
 
-pub code_past : {m : Marks} {text : Bytes} {at : ℕ} → at ≡ length text → CodeAt m text at (record { there = false; end = at; next = at })
-code_past {m} {text} {at} e = code-none m text at (omega arith) (body_none m text at (omega arith))
-
-pub code_ends : {m : Marks} {text : Bytes} {at : ℕ} {b : Bool} → at ≤ length text → ¬ (at ≡ length text) → BeginsMarked (get_or text at 0) m.code b → b ≡ true
-    → CodeAt m text at (record { there = false; end = at; next = at })
+pub code_ends : {m : Marks} {text : Bytes} {at : ℕ} {b : Bool} → at ≤ length text → ¬ (at ≡ length text) → BeginsMarked (get_or text at 0) m.code b → b ≡ true → CodeAt m text at None
 code_ends {m} {text} {at} h f g e =
     let lt : at < length text = omega arith in
-    code-none m text at (omega arith) (ap (body_of m) (lines_at text at lt) ∙ body_ends m (line_at text at) _ (line_marked text at m.code lt g ∙ e))
+    record { is = ap (body_of m) (lines_at text at lt) ∙ body_ends m (line_at text at) _ (line_marked text at m.code lt g ∙ e) }
 
-pub code-more : {m : Marks} {text : Bytes} {at end next : ℕ} {b : Bool} → BeginsMarked (get_or text at 0) m.code b → b ≡ false
-    → ContentAt text m.code at end next → CodeAt m text at (record { there = true; end = end; next = next })
-code-more {m} {text} {at} {end} {next} g e h = record {
-  low = h.low;
-  high = h.high;
-  within = h.within;
-  ahead = λ _. h.ahead;
-  more = λ _. ap (body_of m) h.is ∙ body_goes_on m (line_at text at) (lines (drop next text)) (line_marked text at m.code (omega (arith, h.ahead, h.within)) g ∙ e) ∙ ap (λ (l : Bytes). l ∷ body_at m text next) (sym h.content);
-  still = λ q. false-not-true (sym q);
-  ended = λ q. false-not-true (sym q);
+pub code-more : {m : Marks} {text : Bytes} {at : ℕ} {l : Line} {b : Bool} → BeginsMarked (get_or text at 0) m.code b → b ≡ false → ContentAt text m.code at l.end l.next
+    → CodeAt m text at (Some l)
+code-more {m} {text} {at} {l} g e h = record {
+  is = record {
+    low = h.low;
+    high = h.high;
+    ahead = h.ahead;
+    within = h.within;
+    is = ap (body_of m) h.is ∙ body_goes_on m (line_at text at) (lines (drop l.next text)) (line_marked text at m.code (omega (arith, h.ahead, h.within)) g ∙ e)
+        ∙ ap (λ (x : Bytes). x ∷ body_at m text l.next) (sym h.content);
+  };
 }
+
+-- ---- for callers of read_code, by its answer
+
+module _ {m : Marks} {text : Bytes} {at : ℕ} {r : Option Line} (h : CodeAt m text at r) where
+  pub code_line : {l : Line} → r ≡ Some l → CodeLine m text at l
+  code_line e = subst (λ (x : Option Line). MatchOption x (body_at m text at ≡ []) (λ l. CodeLine m text at l)) e h.is
+
+  pub code_over : r ≡ None → body_at m text at ≡ []
+  code_over e = subst (λ (x : Option Line). MatchOption x (body_at m text at ≡ []) (λ l. CodeLine m text at l)) e h.is

@@ -1,13 +1,11 @@
 -- Where bytes, lines and marks stand in a text. Each record is what one function ensures.
-use Rattle.std.specs.Prelude.{◌≡◌, Bool, true, false, [], ◌∷◌, ◌⊎◌, ℕ, ◌+◌, ◌≤◌, ◌<◌, length, drop}
-use Rattle.std.proofs.Math.Option.{Option, none, some}
+use Rattle.std.specs.Prelude.{◌≡◌, Bool, [], ◌∷◌, ◌⊎◌, ℕ, ◌+◌, ◌≤◌, ◌<◌, length, drop, Option, None, Some, MatchOption}
+use Rattle.std.proofs.Math.Option as Math
 use Rattle.model.specs.declared.Marks.{Marks}
 use Rattle.model.specs.Text.{Bytes, part, has, starts_with, up_to, lines, plain, all_plain, distinct, legal_marks, marks_fault, marks_of}
 use Rattle.model.specs.Legal.{operators}
 use Rattle.model.specs.Load.{body_at}
-use Rattle.scan.specs.declared.CodeLine.{CodeLine}
-use Rattle.scan.specs.declared.Flags.{Flags}
-use Rattle.scan.specs.declared.Flags.TheVariants.{Legal, Fault}
+use Rattle.scan.specs.declared.Line.{Line}
 
 -- the whole line that starts at a place
 abbrev pub line_at : Bytes → ℕ → Bytes
@@ -61,15 +59,17 @@ pub record ContentAt (text : Bytes) (mark at end next : ℕ) : Type 0 where
 pub record BeginsMarked (b mark : ℕ) (r : Bool) : Type 0 where
   pub is : r ≡ starts_with mark (up_to 10 (b ∷ []))
 
--- the body at `at` goes on with a code line whose content is text[at..end], or ends there
-pub record CodeAt (m : Marks) (text : Bytes) (at : ℕ) (r : CodeLine) : Type 0 where
-  pub low : at ≤ r.end
-  pub high : r.end ≤ r.next
-  pub within : r.next ≤ length text
-  pub ahead : r.there ≡ true → at < r.next
-  pub more : r.there ≡ true → body_at m text at ≡ part text at r.end ∷ body_at m text r.next
-  pub still : r.there ≡ false → r.next ≡ at
-  pub ended : r.there ≡ false → body_at m text at ≡ []
+-- the body at `at` goes on with a code line, whose content is text[at..l.end]
+pub record CodeLine (m : Marks) (text : Bytes) (at : ℕ) (l : Line) : Type 0 where
+  pub low : at ≤ l.end
+  pub high : l.end ≤ l.next
+  pub ahead : at < l.next
+  pub within : l.next ≤ length text
+  pub is : body_at m text at ≡ part text at l.end ∷ body_at m text l.next
+
+-- r is the code line at `at`, or the body ends there
+pub record CodeAt (m : Marks) (text : Bytes) (at : ℕ) (r : Option Line) : Type 0 where
+  pub is : MatchOption r (body_at m text at ≡ []) (λ l. CodeLine m text at l)
 
 -- the tests of a flag line's marks
 pub record PlainByte (b : ℕ) (r : Bool) : Type 0 where
@@ -86,16 +86,16 @@ pub record LegalMarks (m : Marks) (r : Bool) : Type 0 where
   pub is : r ≡ legal_marks m.source m.placeholder m.code m.escape 48 (operators m)
 
 -- the marks that an answer holds
-abbrev pub flags_of : Flags → Option Marks
-flags_of (Legal m) = some m
-flags_of Fault = none
+abbrev pub flags_of : Option Marks → Math.Option Marks
+flags_of (Some m) = Math.some m
+flags_of None = Math.none
 
 -- and document 01's number for it: a fault is 3
-abbrev pub flags_fault : Flags → ℕ
-flags_fault (Legal m) = 0
-flags_fault Fault = 3
+abbrev pub flags_fault : Option Marks → ℕ
+flags_fault (Some m) = 0
+flags_fault None = 3
 
 -- the flag line text[0..end] is answered
-pub record MarksAt (text : Bytes) (end : ℕ) (r : Flags) : Type 0 where
+pub record MarksAt (text : Bytes) (end : ℕ) (r : Option Marks) : Type 0 where
   pub is : flags_of r ≡ marks_of (part text 0 end)
   pub number : flags_fault r ≡ marks_fault (marks_of (part text 0 end))

@@ -14,21 +14,6 @@ pub struct Line {
     pub next: usize,
 }
 
-// A body's next code line, if there is one: where its content ends, and where the next line starts.
-#[derive(Clone, Copy)]
-pub struct CodeLine {
-    pub there: bool,
-    pub end: usize,
-    pub next: usize,
-}
-
-// What a flag line holds.
-#[derive(Clone, Copy)]
-pub enum Flags {
-    Legal(Marks),
-    Fault,
-}
-
 // The place of the first b in s[from..to], or `to` where there is none.
 pub fn find_byte(s: &[u8], from: usize, to: usize, b: u8) -> usize
     requires { (from ≤ to) × (to ≤ length s.now) }
@@ -128,27 +113,17 @@ fn begins_marked(b: u8, mark: u8) -> bool
 }
 
 // The code line at a place of a body, unless the body ends there.
-pub fn read_code(text: &[u8], m: Marks, at: usize) -> CodeLine
+pub fn read_code(text: &[u8], m: Marks, at: usize) -> Option<Line>
     requires { at ≤ length text.now }
     ensures { CodeAt m text.now at result }
 {
-    let none = CodeLine {
-        there: false,
-        end: at,
-        next: at,
-    };
     if at == text.len() {
-        return none;
+        return None;
     }
     if begins_marked(text[at], m.code) {
-        return none;
+        return None;
     }
-    let line = read_content(text, m.code, at);
-    CodeLine {
-        there: true,
-        end: line.end,
-        next: line.next,
-    }
+    Some(read_content(text, m.code, at))
 }
 
 // Whether a byte may be a mark: it is no digit, not F and not byte 0.
@@ -220,17 +195,17 @@ fn are_legal(m: Marks) -> bool
     all_plain(&marks) & (sources & (codes & crossed))
 }
 
-// The marks of the flag line text[0..end].
-pub fn read_marks(text: &[u8], end: usize) -> Flags
+// The marks of the flag line text[0..end], if it is legal.
+pub fn read_marks(text: &[u8], end: usize) -> Option<Marks>
     requires { end ≤ length text.now }
     ensures { MarksAt text.now end result }
 {
     let s = &text[0..end];
     if s.len() < 12 {
-        return Flags::Fault;
+        return None;
     }
     if s[4] != b'0' {
-        return Flags::Fault;
+        return None;
     }
     let m = Marks {
         source: s[0],
@@ -246,7 +221,7 @@ pub fn read_marks(text: &[u8], end: usize) -> Flags
         right: s[11],
     };
     if are_legal(m) {
-        return Flags::Legal(m);
+        return Some(m);
     }
-    Flags::Fault
+    None
 }
