@@ -1,11 +1,12 @@
 -- Laws of code lines passed over, one by one.
 use mathlib.Core.Path.{◌≡◌, refl, sym, subst, ap, ◌∙◌}
-use mathlib.Core.Bool.{Bool, true, false, not}
+use mathlib.Core.Bool.{Bool, true, false}
+use mathlib.Core.Logic.{◌⊎◌, ⊎_elim}
 use mathlib.Core.List.{List, [], ◌∷◌}
 use Prim.Native.Nat.{ℕ, zero, suc, ◌+◌, ◌-◌, ◌≤◌, ◌<◌}
 use native.Mathlib.Numerals.{add-one}
 use native.Mathlib.Omega.{arith}
-use borrow.Author.Tests.{eq-eqb, ne_eqb, not-true, not-false}
+use borrow.Author.Tests.{eq-eqb, ne_eqb}
 use lib.Dec.{eqb}
 use lib.ListN.{length, drop}
 use Rattle.model.specs.Text.{Bytes}
@@ -16,11 +17,16 @@ use Rattle.model.specs.declared.Marks.{Marks}
 use Rattle.model.specs.declared.Effect.{Effect}
 use Rattle.model.specs.declared.Effect.TheVariants.{Malformed, Plain, Opens, Closes, Owns}
 use Rattle.model.proofs.Choices.{when_true, when_false}
-use Rattle.scan.specs.declared.CodeLine.{CodeLine}
+use Rattle.std.specs.Prelude.{Option, None, Some, Result, Ok, Err}
+use Rattle.faults.specs.declared.RunFault.{RunFault}
+use Rattle.faults.specs.declared.RunFault.TheVariants.{BadSkip}
+use Rattle.faults.specs.Numbers.{run_number}
+use Rattle.scan.specs.declared.Line.{Line}
 use Rattle.scan.specs.Lines.{CodeAt}
+use Rattle.scan.proofs.Places.{code_line, code_over}
 use Rattle.code.specs.Tokens.{Affects}
 use Rattle.body.specs.declared.Passed.{Passed}
-use Rattle.body.specs.declared.Passed.TheVariants.{Landed, Beyond, Bad}
+use Rattle.body.specs.declared.Passed.TheVariants.{Landed, Beyond}
 use Rattle.body.specs.declared.Stepped.{Stepped}
 use Rattle.body.specs.declared.Stepped.TheVariants.{Ended, Closed, On}
 use Rattle.body.specs.Steps.{passed_of, passed_fault, RangedPassed, DropsFirst, PassesOver, Leaves, Shuts, Goes, StepsTo, StepsOver}
@@ -112,25 +118,27 @@ module _ (m : Marks) where
   unfolding Machine.past_loop
   past_end d = refl
 
-module _ {m : Marks} {text : Bytes} {at : ℕ} {l : CodeLine} (k : CodeAt m text at l) where
-  pub drops : DropsFirst m text at l.next
-  drops = record { is = dropped l.there refl; from = omega arith; within = k.within } where
-    dropped : (q : Bool) → l.there ≡ q → drop 1 (body_at m text at) ≡ body_at m text l.next
-    dropped true e = ap (λ s. drop 1 s) (k.more e)
-    dropped false e = ap (λ s. drop 1 s) (k.ended e) ∙ sym (k.ended e) ∙ ap (λ i. body_at m text i) (sym (k.still e))
+module _ {m : Marks} {text : Bytes} {at : ℕ} {r : Option Line} (k : CodeAt m text at r) where
+  pub drops : {l : Line} → r ≡ Some l → DropsFirst m text at l.next
+  drops e =
+      let c = code_line k e in
+      record { is = ap (λ s. drop 1 s) c.is; from = omega (arith, c.low, c.high); within = c.within }
 
-  pub step_ended : {depth : ℕ} → not l.there ≡ true → StepsOver m text at depth Ended
-  step_ended h = record { is = k.ended (not-true _ h) }
+  pub drops-none : r ≡ None → at ≤ length text → DropsFirst m text at at
+  drops-none e h = record { is = ap (λ s. drop 1 s) (code_over k e) ∙ sym (code_over k e); from = omega arith; within = h }
 
-  module _ (there : not l.there ≡ false) {e : Effect} (a : Affects m text at l.end e) where
+  pub step_ended : {depth : ℕ} → r ≡ None → StepsOver m text at depth Ended
+  step_ended e = record { is = code_over k e }
+
+  module _ {l : Line} (there : r ≡ Some l) {e : Effect} (a : Affects m text at l.end e) where
     skips : (n d : ℕ) {x : Effect} → e ≡ x → Machine.pass_over m (suc n) d (body_at m text at) ≡ pass_by m n d (body_at m text l.next) x
     skips n d q =
-        ap (λ cs. Machine.pass_over m (suc n) d cs) (k.more (not-false _ there)) ∙ pass-by m n d _ _
+        ap (λ cs. Machine.pass_over m (suc n) d cs) (code_line k there).is ∙ pass-by m n d _ _
         ∙ ap (λ x. pass_by m n d (body_at m text l.next) x) (sym a.is ∙ q)
 
     leaves : (d : ℕ) {x : Effect} → e ≡ x → Machine.past_loop m d (body_at m text at) ≡ past_within m d (body_at m text l.next) x
     leaves d q =
-        ap (λ cs. Machine.past_loop m d cs) (k.more (not-false _ there)) ∙ past_by m d _ _
+        ap (λ cs. Machine.past_loop m d cs) (code_line k there).is ∙ past_by m d _ _
         ∙ ap (λ x. past_within m d (body_at m text l.next) x) (sym a.is ∙ q)
 
     module _ {depth : ℕ} (few : depth ≤ at) where
@@ -138,20 +146,18 @@ module _ {m : Marks} {text : Bytes} {at : ℕ} {l : CodeLine} (k : CodeAt m text
           → Machine.past_loop m depth (body_at m text at) ≡ Machine.past_loop m d (body_at m text p) → l.next ≤ p → p ≤ length text → d ≤ depth + 1
           → StepsOver m text at depth (On p d)
       goes s t from w o =
-          let f = k.ahead (not-false _ there) in
+          let f = (code_line k there).ahead in
           record { is = record { skip = s; leave = t; ahead = omega arith; within = w; few = omega arith } }
 
-      pub step_malformed : e ≡ Malformed → StepsOver m text at depth (On l.next depth)
-      step_malformed q = goes (λ n. skips n depth q) (leaves depth q) (omega arith) k.within (omega arith)
-
-      pub step-plain : e ≡ Plain → StepsOver m text at depth (On l.next depth)
-      step-plain q = goes (λ n. skips n depth q) (leaves depth q) (omega arith) k.within (omega arith)
+      pub step_stays : (e ≡ Malformed) ⊎ (e ≡ Plain) → StepsOver m text at depth (On l.next depth)
+      step_stays q =
+          goes (λ n. ⊎_elim (λ x. skips n depth x) (λ x. skips n depth x) q) (⊎_elim (λ x. leaves depth x) (λ x. leaves depth x) q) (omega arith) (code_line k there).within (omega arith)
 
       pub step_opens : e ≡ Opens → StepsOver m text at depth (On l.next (depth + 1))
       step_opens q =
           goes (λ n. skips n depth q ∙ ap (λ d. Machine.pass_over m n d (body_at m text l.next)) (sym (add-one depth)))
           (leaves depth q ∙ ap (λ d. Machine.past_loop m d (body_at m text l.next)) (sym (add-one depth)))
-          (omega arith) k.within (omega arith)
+          (omega arith) (code_line k there).within (omega arith)
 
       pub step-owns : {p : ℕ} → e ≡ Owns → DropsFirst m text l.next p → StepsOver m text at depth (On p depth)
       step-owns q o =
@@ -159,20 +165,23 @@ module _ {m : Marks} {text : Bytes} {at : ℕ} {l : CodeLine} (k : CodeAt m text
           (leaves depth q ∙ ap (λ cs. Machine.past_loop m depth cs) o.is)
           o.from o.within (omega arith)
 
-      pub step_closes : e ≡ Closes → (depth ≡ 0 → ⊥) → StepsOver m text at depth (On l.next (depth - 1))
-      step_closes q o =
-          goes (λ n. skips n depth q ∙ closes_open m n depth _ o) (leaves depth q ∙ when_false _ _ (ne_eqb depth 0 o))
-          (omega arith) k.within (omega arith)
+      pub step_closes : {outer : ℕ} → e ≡ Closes → (1 ≤ depth) × (outer ≡ depth - 1) → StepsOver m text at depth (On l.next outer)
+      step_closes {outer} q h =
+          let f : depth ≡ 0 → ⊥ = λ z. omega (arith, h.0) in
+          goes (λ n. skips n depth q ∙ closes_open m n depth _ f ∙ ap (λ d. Machine.pass_over m n d (body_at m text l.next)) (sym h.1))
+          (leaves depth q ∙ when_false _ _ (ne_eqb depth 0 f) ∙ ap (λ d. Machine.past_loop m d (body_at m text l.next)) (sym h.1))
+          (omega arith) (code_line k there).within (omega arith)
 
-      pub step_shuts : e ≡ Closes → depth ≡ 0 → StepsOver m text at depth (Closed l.next)
+      pub step_shuts : e ≡ Closes → (1 ≤ depth → ⊥) → StepsOver m text at depth (Closed l.next)
       step_shuts q o =
+          let z : depth ≡ 0 = omega arith in
           record {
             is = record {
-              none_open = o;
-              skip = λ n. skips n depth q ∙ closes_none m n depth _ o;
-              leave = leaves depth q ∙ when_true _ _ (eq-eqb depth 0 o);
-              ahead = k.ahead (not-false _ there);
-              within = k.within;
+              none_open = z;
+              skip = λ n. skips n depth q ∙ closes_none m n depth _ z;
+              leave = leaves depth q ∙ when_true _ _ (eq-eqb depth 0 z);
+              ahead = (code_line k there).ahead;
+              within = (code_line k there).within;
             };
           }
 
@@ -190,67 +199,70 @@ module _ {m : Marks} {text : Bytes} {at depth : ℕ} {r : Stepped} (s : StepsOve
 
 -- ---- a skip
 
--- with n lines to pass over from `at` on, `left` of them are left at place i, where `depth` iterations are open
-pub record Passing (m : Marks) (text : Bytes) (at n i depth left : ℕ) : Type 0 where
-  pub is : Machine.pass_over m n 0 (body_at m text at) ≡ Machine.pass_over m left depth (body_at m text i)
+-- with n lines to pass over from `at` on, place i is reached after `passed` of them, and `depth` iterations are open there
+pub record Passing (m : Marks) (text : Bytes) (at n i depth passed : ℕ) : Type 0 where
+  pub is : Machine.pass_over m n 0 (body_at m text at) ≡ Machine.pass_over m (n - passed) depth (body_at m text i)
   pub from : at ≤ i
   pub within : i ≤ length text
   pub few : depth ≤ i
-  pub rest : left ≤ n
 
-pub passing_starts : {m : Marks} {text : Bytes} {at n : ℕ} → at ≤ length text → Passing m text at n at 0 n
-passing_starts h = record { is = refl; from = omega arith; within = h; few = omega arith; rest = omega arith }
-
-one_less : {left : ℕ} → 0 < left → left ≡ suc (left - 1)
-one_less h = omega arith
+pub passing_starts : {m : Marks} {text : Bytes} {at n : ℕ} → at ≤ length text → Passing m text at n at 0 0
+passing_starts {m} {text} {at} {n} h =
+    let e : n ≡ n - 0 = omega arith in
+    record { is = ap (λ k. Machine.pass_over m k 0 (body_at m text at)) e; from = omega arith; within = h; few = omega arith }
 
 -- an answer's number is that of what it stands for
-passed-fault : (m : Marks) (text : Bytes) (r : Passed) → passed_fault r ≡ Machine.landing_fault (passed_of m text r)
-passed-fault m text (Landed p) = refl
-passed-fault m text (Beyond k) = refl
-passed-fault m text Bad = refl
+passed-fault : (m : Marks) (text : Bytes) (at n : ℕ) (r : Result Passed RunFault) → RangedPassed text at n r → passed_fault r ≡ Machine.landing_fault (passed_of m text r)
+passed-fault m text at n (Ok (Landed p)) g = refl
+passed-fault m text at n (Ok (Beyond k)) g = refl
+passed-fault m text at n (Err fault) g = ap run_number g
 
-passes : {m : Marks} {text : Bytes} {at n : ℕ} {r : Passed} → Machine.pass_over m n 0 (body_at m text at) ≡ passed_of m text r → RangedPassed text at n r → PassesOver m text at n r
-passes {m} {text} {r = r} e g = record { is = e; number = passed-fault m text r ∙ ap Machine.landing_fault (sym e); ranged = g }
+passes : {m : Marks} {text : Bytes} {at n : ℕ} {r : Result Passed RunFault} → Machine.pass_over m n 0 (body_at m text at) ≡ passed_of m text r → RangedPassed text at n r → PassesOver m text at n r
+passes {m} {text} {at} {n} {r} e g = record { is = e; number = passed-fault m text at n r g ∙ ap Machine.landing_fault (sym e); ranged = g }
 
-module _ {m : Marks} {text : Bytes} {at n i depth left : ℕ} (p : Passing m text at n i depth left) where
-  pub landed : left ≤ 0 → depth ≡ 0 → PassesOver m text at n (Landed i)
-  landed h o =
-      let z : left ≡ 0 = omega arith in
-      passes
-      (p.is ∙ ap (λ x. Machine.pass_over m x depth (body_at m text i)) z ∙ ap (λ x. Machine.pass_over m 0 x (body_at m text i)) o ∙ lands m (body_at m text i))
-      (p.from, p.within)
+module _ {m : Marks} {text : Bytes} {at n i depth passed : ℕ} (p : Passing m text at n i depth passed) where
+  module _ (h : n ≤ passed) where
+    at_last : Machine.pass_over m n 0 (body_at m text at) ≡ Machine.pass_over m 0 depth (body_at m text i)
+    at_last =
+        let z : n - passed ≡ 0 = omega arith in
+        p.is ∙ ap (λ x. Machine.pass_over m x depth (body_at m text i)) z
 
-  pub open_landing : left ≤ 0 → (depth ≡ 0 → ⊥) → PassesOver m text at n Bad
-  open_landing h o =
-      let z : left ≡ 0 = omega arith in
-      passes (p.is ∙ ap (λ x. Machine.pass_over m x depth (body_at m text i)) z ∙ lands_open m depth (body_at m text i) o) tt
+    pub landed : depth ≡ 0 → PassesOver m text at n (Ok (Landed i))
+    landed o = passes (at_last ∙ ap (λ x. Machine.pass_over m 0 x (body_at m text i)) o ∙ lands m (body_at m text i)) (p.from, p.within)
 
-  module _ (h : 0 < left) {r : Stepped} (s : StepsOver m text i depth r) where
-    at_line : Machine.pass_over m n 0 (body_at m text at) ≡ Machine.pass_over m (suc (left - 1)) depth (body_at m text i)
-    at_line = p.is ∙ ap (λ x. Machine.pass_over m x depth (body_at m text i)) (one_less h)
+    pub open_landing : (depth ≡ 0 → ⊥) → PassesOver m text at n (Err BadSkip)
+    open_landing o = passes (at_last ∙ lands_open m depth (body_at m text i) o) refl
 
-    pub passing_more : {j d : ℕ} → r ≡ On j d → Passing m text at n j d (left - 1)
+  module _ (h : passed < n) {r : Stepped} (s : StepsOver m text i depth r) where
+    -- the lines after this one
+    abbrev rest : ℕ
+    rest = n - (passed + 1)
+
+    one_more : n - passed ≡ suc rest
+    one_more = omega arith
+
+    at_line : Machine.pass_over m n 0 (body_at m text at) ≡ Machine.pass_over m (suc rest) depth (body_at m text i)
+    at_line = p.is ∙ ap (λ x. Machine.pass_over m x depth (body_at m text i)) one_more
+
+    pub passing_more : {j d : ℕ} → r ≡ On j d → Passing m text at n j d (passed + 1)
     passing_more q =
         let g = at_on s q in
         let f = g.ahead in
         let a = p.from in
-        let b = p.rest in
-        record { is = at_line ∙ g.skip (left - 1); from = omega arith; within = g.within; few = g.few; rest = omega arith }
+        record { is = at_line ∙ g.skip rest; from = omega arith; within = g.within; few = g.few }
 
-    pub shut : {j : ℕ} → r ≡ Closed j → PassesOver m text at n Bad
-    shut q = passes (at_line ∙ (at_closed s q).skip (left - 1)) tt
+    pub shut : {j : ℕ} → r ≡ Closed j → PassesOver m text at n (Err BadSkip)
+    shut q = passes (at_line ∙ (at_closed s q).skip rest) refl
 
-    pub beyond_end : r ≡ Ended → depth ≡ 0 → PassesOver m text at n (Beyond left)
+    at_end : r ≡ Ended → Machine.pass_over m n 0 (body_at m text at) ≡ Machine.pass_over m (suc rest) depth []
+    at_end q = at_line ∙ ap (λ cs. Machine.pass_over m (suc rest) depth cs) (at_ended s q)
+
+    pub beyond_end : r ≡ Ended → depth ≡ 0 → PassesOver m text at n (Ok (Beyond (n - passed)))
     beyond_end q o =
-        passes
-        (at_line ∙ ap (λ cs. Machine.pass_over m (suc (left - 1)) depth cs) (at_ended s q)
-        ∙ ap (λ x. Machine.pass_over m (suc (left - 1)) x []) o ∙ ends m (left - 1) ∙ ap Machine.beyond (sym (one_less h)))
-        p.rest
+        passes (at_end q ∙ ap (λ x. Machine.pass_over m (suc rest) x []) o ∙ ends m rest ∙ ap Machine.beyond (sym one_more)) (omega arith)
 
-    pub open_end : r ≡ Ended → (depth ≡ 0 → ⊥) → PassesOver m text at n Bad
-    open_end q o =
-        passes (at_line ∙ ap (λ cs. Machine.pass_over m (suc (left - 1)) depth cs) (at_ended s q) ∙ ends_open m depth (left - 1) o) tt
+    pub open_end : r ≡ Ended → (depth ≡ 0 → ⊥) → PassesOver m text at n (Err BadSkip)
+    open_end q o = passes (at_end q ∙ ends_open m depth rest o) refl
 
 -- ---- past an iteration
 
@@ -292,15 +304,19 @@ module _ {m : Marks} {text : Bytes} {at i depth : ℕ} (p : Leaving m text at i 
 
 -- ---- what callers take from a skip, by its case
 
-module _ {m : Marks} {text : Bytes} {at n : ℕ} {r : Passed} (s : PassesOver m text at n r) where
-  pub passes_landed : {p : ℕ} → r ≡ Landed p → Machine.pass_over m n 0 (body_at m text at) ≡ Machine.landed (body_at m text p)
+module _ {m : Marks} {text : Bytes} {at n : ℕ} {r : Result Passed RunFault} (s : PassesOver m text at n r) where
+  pub passes_landed : {p : ℕ} → r ≡ Ok (Landed p) → Machine.pass_over m n 0 (body_at m text at) ≡ Machine.landed (body_at m text p)
   passes_landed q = s.is ∙ ap (λ x. passed_of m text x) q
 
-  pub passes_beyond : {j : ℕ} → r ≡ Beyond j → Machine.pass_over m n 0 (body_at m text at) ≡ Machine.beyond j
+  pub passes_beyond : {j : ℕ} → r ≡ Ok (Beyond j) → Machine.pass_over m n 0 (body_at m text at) ≡ Machine.beyond j
   passes_beyond q = s.is ∙ ap (λ x. passed_of m text x) q
 
-  pub passes_bad : r ≡ Bad → Machine.pass_over m n 0 (body_at m text at) ≡ Machine.bad_landing
+  pub passes_bad : {f : RunFault} → r ≡ Err f → Machine.pass_over m n 0 (body_at m text at) ≡ Machine.bad_landing
   passes_bad q = s.is ∙ ap (λ x. passed_of m text x) q
 
-  pub landed_within : {p : ℕ} → r ≡ Landed p → p ≤ length text
-  landed_within q = (subst (λ (x : Passed). RangedPassed text at n x) q s.ranged).1
+  -- no fault but a bad skip
+  pub bad_skip : {f : RunFault} → r ≡ Err f → f ≡ BadSkip
+  bad_skip q = subst (λ (x : Result Passed RunFault). RangedPassed text at n x) q s.ranged
+
+  pub landed_within : {p : ℕ} → r ≡ Ok (Landed p) → p ≤ length text
+  landed_within q = (subst (λ (x : Result Passed RunFault). RangedPassed text at n x) q s.ranged).1

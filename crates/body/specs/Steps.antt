@@ -1,31 +1,33 @@
 -- Code lines passed over, as places of the text: a place stands for the body's lines from there on.
-use Rattle.std.specs.Prelude.{◌≡◌, ℕ, suc, ◌≤◌, ◌<◌, [], length, drop}
+use Rattle.std.specs.Prelude.{◌≡◌, ℕ, suc, ◌≤◌, ◌<◌, [], length, drop, Result, Ok, Err}
 use Rattle.model.specs.Text.{Bytes}
 use Rattle.model.specs.Load.{body_at}
 use Rattle.model.specs.Machine as Machine
 use Rattle.model.specs.declared.Marks.{Marks}
+use Rattle.faults.specs.declared.RunFault.{RunFault}
+use Rattle.faults.specs.declared.RunFault.TheVariants.{BadSkip}
+use Rattle.faults.specs.Numbers.{run_number}
 use Rattle.body.specs.declared.Passed.{Passed}
-use Rattle.body.specs.declared.Passed.TheVariants.{Landed, Beyond, Bad}
+use Rattle.body.specs.declared.Passed.TheVariants.{Landed, Beyond}
 use Rattle.body.specs.declared.Stepped.{Stepped}
 use Rattle.body.specs.declared.Stepped.TheVariants.{Ended, Closed, On}
 
 -- what an answer stands for: the lines from the place landed on, or the lines left
-abbrev pub passed_of : Marks → Bytes → Passed → Machine.Passed
-passed_of m text (Landed p) = Machine.landed (body_at m text p)
-passed_of m text (Beyond k) = Machine.beyond k
-passed_of m text Bad = Machine.bad_landing
+abbrev pub passed_of : Marks → Bytes → Result Passed RunFault → Machine.Passed
+passed_of m text (Ok (Landed p)) = Machine.landed (body_at m text p)
+passed_of m text (Ok (Beyond k)) = Machine.beyond k
+passed_of m text (Err fault) = Machine.bad_landing
 
 -- and document 01's number for it: a bad landing is 18
-abbrev pub passed_fault : Passed → ℕ
-passed_fault (Landed p) = 0
-passed_fault (Beyond k) = 0
-passed_fault Bad = 18
+abbrev pub passed_fault : Result Passed RunFault → ℕ
+passed_fault (Ok p) = 0
+passed_fault (Err fault) = run_number fault
 
--- a landing lies from `at` on in the text, and at most n lines are left
-abbrev pub RangedPassed : Bytes → ℕ → ℕ → Passed → Type 0
-RangedPassed text at n (Landed p) = (at ≤ p) × (p ≤ length text)
-RangedPassed text at n (Beyond k) = k ≤ n
-RangedPassed text at n Bad = Unit {0}
+-- a landing lies from `at` on in the text, at most n lines are left, and no other fault comes of it
+abbrev pub RangedPassed : Bytes → ℕ → ℕ → Result Passed RunFault → Type 0
+RangedPassed text at n (Ok (Landed p)) = (at ≤ p) × (p ≤ length text)
+RangedPassed text at n (Ok (Beyond k)) = k ≤ n
+RangedPassed text at n (Err fault) = fault ≡ BadSkip
 
 -- the body at r is that at `at` without its first line
 pub record DropsFirst (m : Marks) (text : Bytes) (at r : ℕ) : Type 0 where
@@ -34,7 +36,7 @@ pub record DropsFirst (m : Marks) (text : Bytes) (at r : ℕ) : Type 0 where
   pub within : r ≤ length text
 
 -- n lines passed over from `at` on come to r
-pub record PassesOver (m : Marks) (text : Bytes) (at n : ℕ) (r : Passed) : Type 0 where
+pub record PassesOver (m : Marks) (text : Bytes) (at n : ℕ) (r : Result Passed RunFault) : Type 0 where
   pub is : Machine.pass_over m n 0 (body_at m text at) ≡ passed_of m text r
   pub number : passed_fault r ≡ Machine.landing_fault (Machine.pass_over m n 0 (body_at m text at))
   pub ranged : RangedPassed text at n r

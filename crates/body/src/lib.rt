@@ -4,14 +4,14 @@
 ghost use Rattle.std.specs.Prelude.{◌≤◌, length};
 ghost use Rattle.body.specs.Steps.{DropsFirst, StepsOver, PassesOver, Leaves};
 
+use faults::RunFault;
 use model::{Effect, Marks};
 
-// What a skip of code lines comes to: the place of the line landed on, the lines left at the body's end, or a bad landing.
+// What a skip of code lines comes to: the place of the line landed on, or the lines left at the body's end.
 #[derive(Clone, Copy)]
 pub enum Passed {
     Landed(usize),
     Beyond(usize),
-    Bad,
 }
 
 // What one code line passed over comes to: the body's end, the end of the iteration around it with the place after it, or
@@ -28,8 +28,10 @@ pub fn skip_layout(m: Marks, text: &[u8], at: usize) -> usize
     requires { at ≤ length text.now }
     ensures { DropsFirst m text.now at result }
 {
-    let line = scan::read_code(text, m, at);
-    line.next
+    match scan::read_code(text, m, at) {
+        Some(line) => line.next,
+        None => at,
+    }
 }
 
 // Passes over the code line at `at`, a layout with its owner; `depth` iterations were opened on the way there.
@@ -37,55 +39,41 @@ fn step_over(m: Marks, text: &[u8], at: usize, depth: usize) -> Stepped
     requires { (at ≤ length text.now) × (depth ≤ at) }
     ensures { StepsOver m text.now at depth result }
 {
-    let line = scan::read_code(text, m, at);
-    if !line.there {
+    let Some(line) = scan::read_code(text, m, at) else {
         return Stepped::Ended;
-    }
+    };
     let next = line.next;
     match code::read_effect(m, text, at, line.end) {
-        Effect::Malformed => Stepped::On(next, depth),
-        Effect::Plain => Stepped::On(next, depth),
+        Effect::Malformed | Effect::Plain => Stepped::On(next, depth),
         Effect::Opens => Stepped::On(next, depth + 1),
-        Effect::Closes => {
-            if depth == 0 {
-                return Stepped::Closed(next);
-            }
-            Stepped::On(next, depth - 1)
-        }
+        Effect::Closes => match depth.checked_sub(1) {
+            Some(outer) => Stepped::On(next, outer),
+            None => Stepped::Closed(next),
+        },
         Effect::Owns => Stepped::On(skip_layout(m, text, next), depth),
     }
 }
 
-// Passes over n code lines from `at` on.
-pub fn pass_over(m: Marks, text: &[u8], at: usize, n: usize) -> Passed
+// Passes over n code lines from `at` on. The line landed on must lie in the iterations of the line skipped from, and a body's end
+// lies in none: else the skip is bad.
+pub fn pass_over(m: Marks, text: &[u8], at: usize, n: usize) -> Result<Passed, RunFault>
     requires { at ≤ length text.now }
     ensures { PassesOver m text.now at n result }
 {
     let mut i = at;
     let mut depth: usize = 0;
-    let mut left = n;
-    while 0 < left {
+    for passed in 0..n {
         match step_over(m, text, i, depth) {
-            Stepped::Ended => {
-                if depth == 0 {
-                    return Passed::Beyond(left);
-                }
-                return Passed::Bad;
-            }
-            Stepped::Closed(_) => {
-                return Passed::Bad;
-            }
-            Stepped::On(p, d) => {
-                i = p;
-                depth = d;
-                left -= 1;
-            }
+            Stepped::Ended if depth == 0 => return Ok(Passed::Beyond(n - passed)),
+            Stepped::Ended | Stepped::Closed(_) => return Err(RunFault::BadSkip),
+            Stepped::On(p, d) => (i, depth) = (p, d),
         }
     }
     if depth == 0 {
-        return Passed::Landed(i);
+        Ok(Passed::Landed(i))
+    } else {
+        Err(RunFault::BadSkip)
     }
-    Passed::Bad
 }
 
 // The place past the end of the iteration whose first code line is at `at`.
@@ -97,16 +85,9 @@ pub fn past_loop(m: Marks, text: &[u8], at: usize) -> usize
     let mut depth: usize = 0;
     loop {
         match step_over(m, text, i, depth) {
-            Stepped::Ended => {
-                return i;
-            }
-            Stepped::Closed(p) => {
-                return p;
-            }
-            Stepped::On(p, d) => {
-                i = p;
-                depth = d;
-            }
+            Stepped::Ended => return i,
+            Stepped::Closed(p) => return p,
+            Stepped::On(p, d) => (i, depth) = (p, d),
         }
     }
 }
