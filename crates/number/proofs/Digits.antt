@@ -9,8 +9,8 @@ use native.Mathlib.Omega.{arith}
 use borrow.Author.Tests.{leb-true, leb-false, le-leb, lt-leb, eq-eqb, ne_eqb, not-true, not-false}
 use lib.Dec.{leb, eqb}
 use lib.IntN.{pos}
-use lib.ListN.{length, get_or, drop, length-drop}
-use lib.Seq.{drop-cons, drop-length}
+use lib.ListN.{length, get_or, take, drop, length-drop}
+use lib.Seq.{drop-cons, drop-length, take-length}
 use lib.Signed.{mag}
 use Rattle.model.specs.Limits.{digits_most}
 use Rattle.model.specs.Text.{is_digit}
@@ -18,11 +18,10 @@ use Rattle.model.specs.declared.Marks.{Marks}
 use Rattle.model.specs.Value.{number, only_digits, is_stored_number, stored_number, checked}
 use Rattle.model.proofs.Choices.{and_left, and_right}
 use Rattle.model.proofs.Depth.{number_leaves}
-use Rattle.number.specs.Number.{end, Gives}
+use Rattle.number.specs.Number.{end, Gives, Valued}
 use Rattle.number.specs.Run.{DigitRun, DigitsRead, Numerals, capped, with_sign, signed_number}
 use Rattle.number.specs.declared.Run.{Run}
-use Rattle.number.specs.declared.Valued.{Valued}
-use Rattle.number.specs.declared.Valued.TheVariants.{Fault}
+use Rattle.std.specs.Prelude.{None}
 use Rattle.number.proofs.Signed.{checked_out, gives_value}
 
 and-false : (t : Bool) → t && false ≡ false
@@ -84,8 +83,8 @@ module _ {s : List ℕ} {at : ℕ} where
         capped_small : capped amount ≡ amount
         capped_small = omega (arith, r.small)
 
-    pub reading_ended : i ≡ length s → DigitRun s at (record { amount = amount; end = i })
-    reading_ended e = stops (rw (e, drop-length s) (number-none amount))
+    pub reading_ended : i ≡ length s → DigitRun s at (record { amount = amount; end = length s })
+    reading_ended e = rw (← e) (stops (rw (e, drop-length s) (number-none amount)))
 
     module _ (inside : i < length s) {q : Bool} (tested : q ≡ is_digit (get_or s i 0)) where
       pub reading_other : not q ≡ true → DigitRun s at (record { amount = amount; end = i })
@@ -146,61 +145,57 @@ all_digits a (x ∷ l) = go (is_digit x) refl (all_digits (a * 10 + (x - 48)) l)
     go false e ih = rw (number_other a x l e, e) (sym (ne_eqb (suc (length l)) 0 (λ p. omega arith)))
 
 -- the length and the digits, as the code tests them
-module _ (minus : Bool) (s : List ℕ) (at : ℕ) where
-  long : length (drop at s) ≡ length s - at
-  long = length-drop at s
-
-  fault : is_stored_number (drop at s) ≡ false → Gives Fault (signed_number minus (drop at s))
+module _ (minus : Bool) (s : List ℕ) where
+  fault : is_stored_number s ≡ false → Gives None (signed_number minus s)
   unfolding signed_number
   fault e = gives_value (rw (e, signed_number)) tt
 
-  pub no_digit : length s - at ≡ 0 → Gives Fault (signed_number minus (drop at s))
+  pub no_digit : length s ≡ 0 → Gives None (signed_number minus s)
   unfolding is_stored_number
-  no_digit h = fault (rw (long, h))
+  no_digit h = fault (rw h)
 
-  pub too_many : digits_most < length s - at → Gives Fault (signed_number minus (drop at s))
+  pub too_many : digits_most < length s → Gives None (signed_number minus s)
   unfolding is_stored_number
-  too_many h = fault (rw (long, lt-leb (length s - at) digits_most h) (and-false (leb 1 (length s - at))))
+  too_many h = fault (rw (lt-leb (length s) digits_most h) (and-false (leb 1 (length s))))
 
-  module _ {r : Run} (run : DigitRun s at r) where
-    left : length (number 0 (drop at s)).1 ≡ length s - r.end
+  module _ {r : Run} (run : DigitRun s 0 r) where
+    left : length (number 0 s).1 ≡ length s - r.end
     left = rw run.rest (length-drop r.end s)
 
-    pub cut_short : r.end < length s → Gives Fault (signed_number minus (drop at s))
+    pub cut_short : r.end < length s → Gives None (signed_number minus s)
     unfolding is_stored_number
-    cut_short h = fault (rw (all_digits 0 (drop at s), left, ne_eqb (length s - r.end) 0 (λ e. omega arith), and-false (leb (length (drop at s)) digits_most)) (and-false (leb 1 (length (drop at s)))))
+    cut_short h = fault (rw (all_digits 0 s, left, ne_eqb (length s - r.end) 0 (λ e. omega arith), and-false (leb (length s) digits_most)) (and-false (leb 1 (length s))))
 
-    module _ (some : length s - at ≡ 0 → ⊥) (few : length s - at ≤ digits_most) (h : length s ≤ r.end) where
-      good : is_stored_number (drop at s) ≡ true
+    module _ (some : length s ≡ 0 → ⊥) (few : length s ≤ digits_most) (h : length s ≤ r.end) where
+      good : is_stored_number s ≡ true
       unfolding is_stored_number
-      good = rw (all_digits 0 (drop at s), left, long, le-leb (length s - at) digits_most few, le-leb 1 (length s - at) (omega arith), eq-eqb (length s - r.end) 0 (omega arith))
+      good = rw (all_digits 0 s, left, le-leb (length s) digits_most few, le-leb 1 (length s) (omega arith), eq-eqb (length s - r.end) 0 (omega arith))
 
-      stored : signed_number minus (drop at s) ≡ checked (with_sign minus (pos (number 0 (drop at s)).0))
+      stored : signed_number minus s ≡ checked (with_sign minus (pos (number 0 s).0))
       unfolding signed_number
       stored = rw (good, signed_number)
 
-      pub all_read : {v : Valued} → Gives v (checked (with_sign minus (pos r.amount))) → Gives v (signed_number minus (drop at s))
-      all_read g = rw stored (rw (run.amount, cap_checked minus (number 0 (drop at s)).0) at g)
+      pub all_read : {v : Valued} → Gives v (checked (with_sign minus (pos r.amount))) → Gives v (signed_number minus s)
+      all_read g = rw stored (rw (run.amount, cap_checked minus (number 0 s).0) at g)
 
 module _ (m : Marks) where
-  pub stored-none : (s : List ℕ) → length s ≡ 0 → Gives Fault (stored_number m s)
+  pub stored-none : (s : List ℕ) → length s < 1 → Gives None (stored_number m s)
   unfolding stored_number
   stored-none [] h = gives_value refl tt
   stored-none (x ∷ s) h = absurd (omega arith)
 
-  by_minus : (s : List ℕ) → (length s ≡ 0 → ⊥) → get_or s 0 0 ≡ m.minus → stored_number m s ≡ signed_number true (drop 1 s)
+  by_minus : (s : List ℕ) → 1 ≤ length s → get_or s 0 0 ≡ m.minus → stored_number m s ≡ signed_number true (drop 1 s)
   unfolding stored_number signed_number
-  by_minus [] h e = absurd (h refl)
+  by_minus [] h e = absurd (omega arith)
   by_minus (x ∷ s) h e = rw (eq-eqb x m.minus e, stored_number)
 
-  by-plain : (s : List ℕ) → (length s ≡ 0 → ⊥) → (get_or s 0 0 ≡ m.minus → ⊥) → stored_number m s ≡ signed_number false s
+  pub stored_minus : (s : List ℕ) {v : Valued} → 1 ≤ length s → get_or s 0 0 ≡ m.minus → Gives v (signed_number true (take (length s - 1) (drop 1 s))) → Gives v (stored_number m s)
+  stored_minus s h e g = rw (by_minus s h e) (rw (← length-drop 1 s, take-length (drop 1 s)) at g)
+
+  by-plain : (s : List ℕ) → 1 ≤ length s → (get_or s 0 0 ≡ m.minus → ⊥) → stored_number m s ≡ signed_number false s
   unfolding stored_number signed_number
-  by-plain [] h e = absurd (h refl)
-  by-plain (x ∷ s) h e = rw (ne_eqb x m.minus e, stored_number)
+  by-plain [] h n = absurd (omega arith)
+  by-plain (x ∷ s) h n = rw (ne_eqb x m.minus n, stored_number)
 
-  module _ (s : List ℕ) (some : length s ≡ 0 → ⊥) {v : Valued} where
-    pub stored_minus : get_or s 0 0 ≡ m.minus → Gives v (signed_number true (drop 1 s)) → Gives v (stored_number m s)
-    stored_minus e g = rw (by_minus s some e) g
-
-    pub stored-plain : (get_or s 0 0 ≡ m.minus → ⊥) → Gives v (signed_number false (drop 0 s)) → Gives v (stored_number m s)
-    stored-plain e g = rw (by-plain s some e) g
+  pub stored-plain : (s : List ℕ) {v : Valued} → 1 ≤ length s → (get_or s 0 0 ≡ m.minus → ⊥) → Gives v (signed_number false s) → Gives v (stored_number m s)
+  stored-plain s h n g = rw (by-plain s h n) g

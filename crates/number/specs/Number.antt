@@ -1,5 +1,5 @@
 -- The value that an answer stands for, and what a step makes of two values.
-use Rattle.std.specs.Prelude.{◌≡◌, List, ℕ, ◌+◌, ◌<◌, ◌≤◌, ℤ, neg_ℤ, ◌+ℤ◌, ◌-ℤ◌, ◌*ℤ◌}
+use Rattle.std.specs.Prelude.{◌≡◌, List, ℕ, ◌+◌, ◌<◌, ◌≤◌, ℤ, neg_ℤ, ◌+ℤ◌, ◌-ℤ◌, ◌*ℤ◌, Option as Answered, Some, None}
 use Rattle.std.proofs.Math.Option.{Option, none, some}
 use Rattle.std.specs.Int.Signed.{mag}
 use Rattle.std.specs.Int.{Width, w64}
@@ -7,8 +7,6 @@ use Rattle.model.specs.declared.Marks.{Marks}
 use Rattle.model.specs.Limits.{largest}
 use Rattle.model.specs.Text.{part}
 use Rattle.model.specs.Value.{value_fault, checked, divided, written}
-use Rattle.number.specs.declared.Valued.{Valued}
-use Rattle.number.specs.declared.Valued.TheVariants.{Number, Fault}
 use Rattle.number.specs.declared.Step.{Step}
 use Rattle.number.specs.declared.Step.TheVariants.{First, Negated, Plus, Minus, Times, Divide}
 
@@ -19,24 +17,24 @@ width = w64
 abbrev pub end : ℕ
 end = largest + 1
 
--- the end of the numbers whose products are in range
-abbrev pub small : ℕ
-small = 2147483648
+-- what the code answers: a value, or none
+abbrev pub Valued : Type 0
+Valued = Answered ℤ
 
 -- the value of an answer
 abbrev pub number_of : Valued → Option ℤ
-number_of (Number z) = some z
-number_of Fault = none
+number_of (Some z) = some z
+number_of None = none
 
 -- and document 01's number for it
 abbrev pub valued_fault : Valued → ℕ
-valued_fault (Number z) = value_fault (some z)
-valued_fault Fault = value_fault none
+valued_fault (Some z) = value_fault (some z)
+valued_fault None = value_fault none
 
 -- `mag z` is n for n and for -(n + 1)
 abbrev pub InRange : Valued → Type 0
-InRange (Number z) = mag z < end
-InRange Fault = Unit {0}
+InRange (Some z) = mag z < end
+InRange None = Unit {0}
 
 -- r is the answer for the value o
 pub record Gives (r : Valued) (o : Option ℤ) : Type 0 where

@@ -1,15 +1,15 @@
 -- Digits in a text.
-use Rattle.std.specs.Prelude.{◌≡◌, Bool, true, false, List, ℕ, ◌+◌, ◌≤◌, ◌<◌, min, ℤ, pos, neg_ℤ, length, get_or, drop}
+use Rattle.std.specs.Prelude.{◌≡◌, Bool, true, false, List, ℕ, ◌+◌, ◌-◌, ◌^◌, ◌≤◌, ◌<◌, min, ℤ, pos, neg_ℤ, length, get_or, drop}
 use Rattle.std.proofs.Math.Option.{Option, none}
 use Rattle.model.specs.Text.{is_digit}
 use Rattle.model.specs.Value.{number, is_stored_number, checked}
-use Rattle.number.specs.Number.{end, Gives}
+use Rattle.number.specs.Number.{Gives}
 use Rattle.number.specs.declared.Run.{Run}
 use Rattle.number.specs.declared.Numeral.{Numeral}
 
--- a number as far as it matters: above `end` no sign brings it into range
+-- a number as far as 64 bits hold it: above `end` no sign brings it into range
 abbrev pub capped : ℕ → ℕ
-capped n = min n (end + 1)
+capped n = min n (2 ^ 64 - 1)
 
 -- r is the run of digits of s from `at` on
 pub record DigitRun (s : List ℕ) (at : ℕ) (r : Run) : Type 0 where
@@ -32,7 +32,7 @@ pub record DigitsRead (s : List ℕ) (at amount i : ℕ) : Type 0 where
   pub rest : (number amount (drop i s)).1 ≡ (number 0 (drop at s)).1
   pub from : at ≤ i
   pub upto : i ≤ length s
-  pub small : amount ≤ end + 1
+  pub small : amount ≤ 2 ^ 64 - 1
 
 -- r is the number that the digits of s from `at` on write, and where they end
 pub record Numerals (s : List ℕ) (at : ℕ) (r : Numeral) : Type 0 where

@@ -1,7 +1,6 @@
--- add_digit adds a digit to an amount, as far as the cap.
-use native.Mathlib.Omega.{arith}
+-- add_digit adds a digit to an amount, as far as the type holds it.
 use Rattle.number.proofs.Digits.{digit_bounds}
 use Rattle.number.proofs.add_digit.Goals as goal
 
 pub overflow_sub-b : goal.overflow_sub-b
-overflow_sub-b c = omega (arith, (digit_bounds c.requires.1).0)
+overflow_sub-b c = (digit_bounds c.requires).0

@@ -2,11 +2,11 @@
 use Rattle.number.proofs.Digits.{stored-none, stored_minus, stored-plain}
 use Rattle.number.proofs.read_stored.Goals as goal
 
-pub returns-then-s-eq0 : goal.returns-then-s-eq0
-returns-then-s-eq0 c = search stored-none
+pub returns-in_default : goal.returns-in_default
+returns-in_default c = stored-none c.args.m c.args.s.now c.in_default.len_below
 
-pub returns-then-b-m : goal.returns-then-b-m
-returns-then-b-m c = search stored_minus
+pub returns-then-first-m : goal.returns-then-first-m
+returns-then-first-m c = stored_minus c.args.m c.args.s.now c.in-len1-up.len_at_least c.if-first-m.true c.read_signed.ensures
 
 pub returns : goal.returns
-returns c = search stored-plain
+returns c = stored-plain c.args.m c.args.s.now c.in-len1-up.len_at_least c.if-first-m.false c.read_signed-2.ensures

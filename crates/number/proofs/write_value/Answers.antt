@@ -6,8 +6,8 @@ use Rattle.number.proofs.write_value.Goals as goal
 
 pub returns-then-v-lt0 : goal.returns-then-v-lt0
 returns-then-v-lt0 c =
-    writes_minus c.args.m c.args.v (rw (told c.ranges.v) at c.magnitude-n.ensures) (rw (told c.ranges.v) at c.if-v-lt0.true) c.args.out.now (omega arith)
+    writes_minus c.args.m c.args.v (rw (told c.ranges.v) at c.unsigned_abs-n.ensures.value) (rw (told c.ranges.v) at c.if-v-lt0.true) c.args.out.now (omega arith)
     c.write_decimal-k.ensures (omega arith) _
 
 pub returns : goal.returns
-returns c = writes_plain c.args.m c.args.v (rw (told c.ranges.v) at c.magnitude-n.ensures) (rw (told c.ranges.v) at c.if-v-lt0.false) c.write_decimal.ensures
+returns c = writes_plain c.args.m c.args.v (rw (told c.ranges.v) at c.unsigned_abs-n.ensures.value) (rw (told c.ranges.v) at c.if-v-lt0.false) c.write_decimal.ensures
