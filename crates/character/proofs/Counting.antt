@@ -1,20 +1,20 @@
 -- The characters of a text, counted one by one.
 use mathlib.Core.Path.{◌≡◌, refl, ap, sym, ◌∙◌}
-use mathlib.Core.Bool.{true, false}
 use mathlib.Core.Option.{Option, none, some}
 use mathlib.Core.List.{List, [], ◌∷◌}
 use Prim.Native.Nat.{ℕ, suc, ◌+◌, ◌≤◌}
 use native.Mathlib.Omega.{arith}
 use lib.ListN.{length, get_or, drop, drop_of_length-le}
 use lib.Seq.{drop-cons}
+use Rattle.std.specs.Prelude.{Result, Ok, Err, Some, None, IsErr, IfOk}
 use Rattle.model.specs.Text.{Bytes}
 use Rattle.model.specs.Utf8.{character, onto_points, points_from, points, points_fault}
 use Rattle.model.proofs.Choices.{false-not-true}
 use Rattle.model.proofs.Utf8.{points-onto, points_none}
-use Rattle.character.specs.declared.Decoded.{Decoded}
-use Rattle.character.specs.declared.Decoded.TheVariants.{One, Malformed, Nothing}
+use Rattle.character.specs.declared.Character.{Character}
 use Rattle.character.specs.declared.Counted.{Counted}
-use Rattle.character.specs.Decoding.{ReadsCharacter}
+use Rattle.character.specs.declared.Malformed.{Malformed}
+use Rattle.character.specs.Decoding.{Found, ReadsCharacter}
 use Rattle.character.specs.Counting.{last_of, counted_from, counted_fault, CountsCharacters}
 use Rattle.character.proofs.Decoding.{one_bounds, one_is, malformed_bounds, malformed_is, nothing_bounds}
 
@@ -26,19 +26,19 @@ unfolding counted_from onto_points last_of
 counted-onto n v u none = refl
 counted-onto n v u (some us) =
     let z : n + suc (length us) ≡ n + 1 + length us = omega arith in
-    ap (λ (i : ℕ). record { ok = true; count = i; code = last_of u us }) z
+    ap (λ (i : ℕ). Ok (record { count = i; code = last_of u us })) z
 
 -- nothing is left
-counted_all : (n v : ℕ) → counted_from n v (some []) ≡ record { ok = true; count = n; code = v }
+counted_all : (n v : ℕ) → counted_from n v (some []) ≡ Ok (record { count = n; code = v })
 unfolding counted_from last_of
-counted_all n v = let z : n + 0 ≡ n = omega arith in ap (λ (i : ℕ). record { ok = true; count = i; code = v }) z
+counted_all n v = let z : n + 0 ≡ n = omega arith in ap (λ (i : ℕ). Ok (record { count = i; code = v })) z
 
 -- an answer has its number
-counts : {s : Bytes} {r : Counted} → r ≡ counted_from 0 0 (points s) → r.count ≤ length s → r.code ≤ 1114111 → CountsCharacters s r
+counts : {s : Bytes} {r : Result Counted Malformed} → r ≡ counted_from 0 0 (points s) → IfOk r (λ c. c.count ≤ length s) → IfOk r (λ c. c.code ≤ 1114111) → CountsCharacters s r
 unfolding counted_from
-counts {s} {r} e f g = record { is = e; number = ap (λ (x : Counted). counted_fault x.ok) e ∙ by (points s); few = f; small = g }
+counts {s} {r} e f g = record { is = e; number = ap counted_fault e ∙ by (points s); few = f; small = g }
   where
-    by : (o : Option (List ℕ)) → counted_fault (counted_from 0 0 o).ok ≡ points_fault o
+    by : (o : Option (List ℕ)) → counted_fault (counted_from 0 0 o) ≡ points_fault o
     by none = refl
     by (some us) = refl
 
@@ -55,29 +55,30 @@ pub record Counting (s : Bytes) (at n v : ℕ) : Type 0 where
 pub counting_begins : {s : Bytes} → Counting s 0 0 0
 counting_begins = record { few = omega arith; high = omega arith; small = omega arith; is = refl }
 
-module _ {s : Bytes} {at n v : ℕ} {r : Decoded} (c : Counting s at n v) (k : ReadsCharacter s at r) where
+module _ {s : Bytes} {at n v : ℕ} {r : Found} (c : Counting s at n v) (k : ReadsCharacter s at r) where
   -- past a character
-  pub counting_goes_on : {code len : ℕ} → r ≡ One code len → Counting s (at + len) (n + 1) code
-  counting_goes_on {code} {len} e =
+  pub counting_goes_on : {d : Character} → r ≡ Ok (Some d) → Counting s (at + d.len) (n + 1) d.code
+  counting_goes_on {d} e =
       let b = one_bounds k e in
       let f = c.few in
       record {
         few = omega (arith, b.1.0);
         high = b.1.1.1;
         small = b.0;
-        is = c.is ∙ ap (counted_from n v) (points-onto (drop at s) _ (one_is k e)) ∙ counted-onto n v code (points (drop (at + len) s));
+        is = c.is ∙ ap (counted_from n v) (points-onto (drop at s) _ (one_is k e)) ∙ counted-onto n v d.code (points (drop (at + d.len) s));
       }
 
-  -- at malformed bytes the answer is not ok
-  pub counting_fails : r ≡ Malformed → CountsCharacters s (record { ok = false; count = 0; code = 0 })
+  -- malformed bytes are the answer
+  pub counting_fails : {z : Malformed} {q : Result Counted Malformed} → r ≡ Err z → IsErr q → CountsCharacters s q
   unfolding counted_from
-  counting_fails e =
+  counting_fails {q = Ok d} e g = false-not-true g
+  counting_fails {q = Err y} e g =
       let h : drop at s ≡ get_or s at 0 ∷ drop (suc at) s = drop-cons s at 0 (malformed_bounds k e) in
-      let z : points (drop at s) ≡ none = ap points h ∙ points_none (get_or s at 0) (drop (suc at) s) (ap character (sym h) ∙ malformed_is k e) in
-      counts (sym (c.is ∙ ap (counted_from n v) z)) (omega arith) (omega arith)
+      let l : points (drop at s) ≡ none = ap points h ∙ points_none (get_or s at 0) (drop (suc at) s) (ap character (sym h) ∙ malformed_is k e) in
+      counts (sym (c.is ∙ ap (counted_from n v) l)) tt tt
 
   -- at the end it is what was counted
-  pub counting_ends : r ≡ Nothing → CountsCharacters s (record { ok = true; count = n; code = v })
+  pub counting_ends : r ≡ Ok None → CountsCharacters s (Ok (record { count = n; code = v }))
   unfolding points points_from
   counting_ends e =
       let h = nothing_bounds k e in
@@ -86,7 +87,7 @@ module _ {s : Bytes} {at n v : ℕ} {r : Decoded} (c : Counting s at n v) (k : R
       let b = c.high in
       counts (sym (c.is ∙ ap (counted_from n v) z ∙ counted_all n v)) (omega arith) c.small
 
--- ---- what a caller learns, by the flag
+-- ---- what a caller learns
 
 -- the code points of a text whose characters are counted
 pub record CodesOf (s : Bytes) (r : Counted) : Type 0 where
@@ -95,31 +96,33 @@ pub record CodesOf (s : Bytes) (r : Counted) : Type 0 where
   pub count : r.count ≡ length codes
   pub last : r.code ≡ last_of 0 codes
 
-module _ {s : Bytes} {r : Counted} (k : CountsCharacters s r) where
+module _ {s : Bytes} {r : Result Counted Malformed} (k : CountsCharacters s r) where
   -- one is malformed
-  pub counted_none : r.ok ≡ false → points s ≡ none
+  pub counted_none : {z : Malformed} → r ≡ Err z → points s ≡ none
   unfolding counted_from
-  counted_none e = by (points s) (sym (ap (λ (x : Counted). x.ok) k.is) ∙ e)
+  counted_none {z} e = by (points s) (sym e ∙ k.is)
     where
-      by : (o : Option (List ℕ)) → (counted_from 0 0 o).ok ≡ false → o ≡ none
+      by : (o : Option (List ℕ)) → Err z ≡ counted_from 0 0 o → o ≡ none
       by none e = refl
-      by (some us) e = false-not-true (sym e)
+      by (some us) e = let z : ◌≡◌ {A = ℕ} 0 1 = cc in absurd (omega arith)
 
   -- none is
-  pub counted-some : r.ok ≡ true → CodesOf s r
+  pub counted-some : {c : Counted} → r ≡ Ok c → CodesOf s c
   unfolding counted_from
-  counted-some e = by (points s) refl k.is
+  counted-some {c} e = by (points s) refl (sym e ∙ k.is)
     where
-      by : (o : Option (List ℕ)) → points s ≡ o → r ≡ counted_from 0 0 o → CodesOf s r
-      by none p q = false-not-true (sym (ap (λ (x : Counted). x.ok) q) ∙ e)
-      by (some us) p q = record { codes = us; are = p; count = ap (λ (x : Counted). x.count) q ∙ omega arith; last = ap (λ (x : Counted). x.code) q }
+      by : (o : Option (List ℕ)) → points s ≡ o → Ok c ≡ counted_from 0 0 o → CodesOf s c
+      by none p q = let z : ◌≡◌ {A = ℕ} 0 1 = cc in absurd (omega arith)
+      by (some us) p q =
+          let same : c ≡ record { count = 0 + length us; code = last_of 0 us } = cc in
+          record { codes = us; are = p; count = ap (λ (x : Counted). x.count) same ∙ omega arith; last = ap (λ (x : Counted). x.code) same }
 
   -- exactly one
-  pub counted-one : r.ok ≡ true → r.count ≡ 1 → points s ≡ some (r.code ∷ [])
+  pub counted-one : {c : Counted} → r ≡ Ok c → c.count ≡ 1 → points s ≡ some (c.code ∷ [])
   unfolding last_of
-  counted-one e f = let c = counted-some e in c.are ∙ ap some (by c.codes (sym c.count ∙ f) c.last)
+  counted-one {c} e f = let d = counted-some e in d.are ∙ ap some (by d.codes (sym d.count ∙ f) d.last)
     where
-      by : (us : List ℕ) → length us ≡ 1 → r.code ≡ last_of 0 us → us ≡ r.code ∷ []
+      by : (us : List ℕ) → length us ≡ 1 → c.code ≡ last_of 0 us → us ≡ c.code ∷ []
       by [] m q = absurd (omega arith)
       by (u ∷ []) m q = ap (λ (x : ℕ). x ∷ []) (sym q)
       by (u ∷ v ∷ us) m q = absurd (omega arith)

@@ -5,8 +5,8 @@ use lib.ListN.{length}
 use Rattle.character.proofs.Counting.{Counting}
 use Rattle.character.proofs.count_characters.Given as goal
 
-abbrev pub invariant-loop-code : goal.invariant-loop-code
-invariant-loop-code l = Counting l.s l.at l.count l.last
+abbrev pub invariant-loop-found : goal.invariant-loop-found
+invariant-loop-found l = Counting l.s l.at l.count l.code
 
-abbrev pub decreases-loop-code : goal.decreases-loop-code
-decreases-loop-code l = length l.s - l.at
+abbrev pub decreases-loop-found : goal.decreases-loop-found
+decreases-loop-found l = length l.s - l.at

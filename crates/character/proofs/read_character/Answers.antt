@@ -1,10 +1,14 @@
--- read_character: nothing, one byte, or a longer form.
+-- read_character: nothing, or what decode reads there.
 use borrow.Author.Rules.{rules}
-use Rattle.character.proofs.Decoding.{reads_nothing, reads-one}
+use native.Mathlib.Omega.{arith}
+use Rattle.character.proofs.Decoding.{reads_nothing, reads_one, reads_malformed}
 use Rattle.character.proofs.read_character.Goals as goal
 
 pub returns-then-s-at : goal.returns-then-s-at
 returns-then-s-at c = search (reads_nothing, rules)
 
-pub returns-then-a-le127 : goal.returns-then-a-le127
-returns-then-a-le127 c = search (reads-one, rules)
+pub returns-in_err-decode : goal.returns-in_err-decode
+returns-in_err-decode c = reads_malformed (omega arith) c.decode.ensures c.in_err-decode.was c.from_residual.ensures.0
+
+pub returns : goal.returns
+returns c = reads_one (omega arith) c.decode.ensures c.in_ok-decode.was
