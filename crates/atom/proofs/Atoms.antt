@@ -10,6 +10,8 @@ use lib.Dec.{eqb}
 use lib.ListN.{length, get_or, drop, drop_of_length-le, length-take, length-drop}
 use lib.Seq.{drop-cons}
 use borrow.Author.Tests.{eq-eqb, ne_eqb}
+use Rattle.std.specs.Prelude.{Some, None}
+use Rattle.std.proofs.lemmas.Option.{IfSome_then}
 use Rattle.model.specs.declared.Marks.{Marks}
 use Rattle.model.specs.Text.{Bytes, part}
 use Rattle.model.specs.Reading.{group, atom}
@@ -76,21 +78,15 @@ module _ (m : Marks) where
   open_end zero p f = absurd (f refl)
   open_end (suc d) p f = refl
 
--- what a scan answers
-abbrev scanned : ℕ → ℕ → Scanned
-scanned e n = record { end = e; read = n }
-
 -- nothing is found
-nothing : (m : Marks) (line : Bytes) (at n : ℕ) → atom m (drop at line) ≡ none → n ≡ bytes_of_look m (drop at line) → AtomAt m line at (scanned 0 n)
-nothing m line at n e r = record { nowhere = λ _. e; found = λ lt. absurd (omega arith); ahead = λ lt. absurd (omega arith); within = omega arith; read = r }
+nothing : (m : Marks) (line : Bytes) (at n : ℕ) → atom m (drop at line) ≡ none → n ≡ bytes_of_look m (drop at line) → AtomAt m line at (record { end = None; read = n })
+nothing m line at n e r = record { nowhere = λ _. e; found = tt; read = r }
 
 -- an atom is found, and its bytes are read
-something : (m : Marks) (line : Bytes) (at e n : ℕ) → at < e → e ≤ length line → n ≡ e - at → atom m (drop at line) ≡ some (part line at e, drop e line) → AtomAt m line at (scanned e n)
+something : (m : Marks) (line : Bytes) (at e n : ℕ) → at < e → e ≤ length line → n ≡ e - at → atom m (drop at line) ≡ some (part line at e, drop e line) → AtomAt m line at (record { end = Some e; read = n })
 something m line at e n lt le r f = record {
-  nowhere = λ z. absurd (omega arith);
-  found = λ _. f;
-  ahead = λ _. lt;
-  within = le;
+  nowhere = λ z. cc;
+  found = record { is = f; ahead = lt; within = le };
   read = r ∙ sym (look-atom m (drop at line) (part line at e) (drop e line) f ∙ simp (length-take, length-drop) (omega arith));
 }
 
@@ -100,20 +96,20 @@ module _ (m : Marks) (line : Bytes) (at : ℕ) where
   first lt = rw add-one (drop-cons line at 0 lt)
 
   -- past the end of the line there is none
-  pub none_past_end : length line ≤ at → AtomAt m line at (scanned 0 0)
+  pub none_past_end : length line ≤ at → AtomAt m line at (record { end = None; read = 0 })
   unfolding atom
   none_past_end le =
       let e : drop at line ≡ [] = drop_of_length-le line le in
       nothing m line at 0 (ap (atom m) e) (sym (ap (bytes_of_look m) e ∙ look-end m))
 
   -- nor at a right bracket, which is read
-  pub none_at_right : at < length line → get_or line at 0 ≡ m.right → AtomAt m line at (scanned 0 1)
+  pub none_at_right : at < length line → get_or line at 0 ≡ m.right → AtomAt m line at (record { end = None; read = 1 })
   none_at_right lt e =
       nothing m line at 1 (ap (atom m) (first lt) ∙ atom_right m (get_or line at 0) (drop (at + 1) line) e)
       (sym (ap (bytes_of_look m) (first lt) ∙ look_right m (get_or line at 0) (drop (at + 1) line) e))
 
   -- a byte that is no bracket
-  pub one_byte : at < length line → ¬ (get_or line at 0 ≡ m.right) → ¬ (get_or line at 0 ≡ m.left) → AtomAt m line at (scanned (at + 1) 1)
+  pub one_byte : at < length line → ¬ (get_or line at 0 ≡ m.right) → ¬ (get_or line at 0 ≡ m.left) → AtomAt m line at (record { end = Some (at + 1); read = 1 })
   one_byte lt r l =
       let z : at + 1 - at ≡ 1 = omega arith in
       something m line at (at + 1) 1 (omega arith) (omega arith) (sym z)
@@ -155,21 +151,19 @@ module _ (m : Marks) (line : Bytes) (at : ℕ) where
         ∙ rw (e, part-more line at i (omega arith) lt, add-one) refl;
   }
 
-  -- some bytes were read
-  pub scan_before : (i d : ℕ) → Scan i d → at ≤ i
-  scan_before i d h = omega (arith, h.low)
-
   -- at the end of the line with a bracket open, there is no atom, and all that is left was read
-  pub scan_end : (i d : ℕ) → i ≡ length line → ¬ (d ≡ 0) → Scan i d → AtomAt m line at (scanned 0 (i - at))
+  pub scan_end : (i d : ℕ) → length line ≤ i → 0 < d → Scan i d → AtomAt m line at (record { end = None; read = length line - at })
   scan_end i d e f h =
-      let lt : at < length line = omega (arith, h.low) in
-      let none-there = h.same ∙ ap (closing m d (part line at i)) (drop_of_length-le line {i = i} (omega arith)) ∙ open_end m d (part line at i) f in
-      nothing m line at (i - at) none-there
+      let none-there = h.same ∙ ap (closing m d (part line at i)) (drop_of_length-le line {i = i} (omega arith)) ∙ open_end m d (part line at i) (λ z. omega (arith, z)) in
+      nothing m line at (length line - at) none-there
       (sym (ap (bytes_of_look m) (first lt) ∙ look_open m (get_or line at 0) (drop (at + 1) line) h.starts (sym (ap (atom m) (first lt)) ∙ none-there)
-      ∙ sym (ap length (first lt)) ∙ length-drop at line ∙ omega (arith, e)))
+      ∙ sym (ap length (first lt)) ∙ length-drop at line))
+    where
+      lt : at < length line
+      lt = omega (arith, h.low, h.high)
 
   -- with none open, the atom ends
-  pub scan_closed : (i d : ℕ) → d ≡ 0 → Scan i d → AtomAt m line at (scanned i (i - at))
+  pub scan_closed : (i d : ℕ) → d ≡ 0 → Scan i d → AtomAt m line at (record { end = Some i; read = i - at })
   scan_closed i d e h = something m line at i (i - at) h.low h.high refl (h.same ∙ ap (λ (k : ℕ). closing m k (part line at i) (drop i line)) e)
 
 -- ---- the brackets alone
@@ -198,10 +192,8 @@ module _ (m : Marks) where
 
   -- what is found by them is found by the marks
   pub atom-by-brackets : {line : Bytes} {at : ℕ} {r : Scanned} → AtomAt (brackets m.left m.right) line at r → AtomAt m line at r
-  atom-by-brackets {line} {at} a = record {
+  atom-by-brackets {line} {at} {r} a = record {
     nowhere = λ z. sym (atom-brackets (drop at line)) ∙ a.nowhere z;
-    found = λ lt. sym (atom-brackets (drop at line)) ∙ a.found lt;
-    ahead = a.ahead;
-    within = a.within;
+    found = IfSome_then r.end a.found (λ e f. record { is = sym (atom-brackets (drop at line)) ∙ f.is; ahead = f.ahead; within = f.within });
     read = a.read ∙ look-brackets (drop at line);
   }

@@ -19,10 +19,10 @@ fn depth_past(left: u8, right: u8, b: u8, depth: usize) -> usize
     depth
 }
 
-// What a look for an atom comes to: where the atom ends, 0 where there is none, and how many bytes were read.
+// What a look for an atom comes to: where the atom ends, if there is one, and how many bytes were read.
 #[derive(Clone, Copy)]
 pub struct Scanned {
-    pub end: usize,
+    pub end: Option<usize>,
     pub read: usize,
 }
 
@@ -31,25 +31,30 @@ pub fn scan_atom(line: &[u8], at: usize, left: u8, right: u8) -> Scanned
     ensures { AtomAt (brackets left right) line.now at result }
 {
     if line.len() <= at {
-        return Scanned { end: 0, read: 0 };
+        return Scanned { end: None, read: 0 };
     }
     let b = line[at];
     if b == right {
-        return Scanned { end: 0, read: 1 };
+        return Scanned { end: None, read: 1 };
     }
-    let mut i = at + 1;
     if b != left {
-        return Scanned { end: i, read: 1 };
+        return Scanned {
+            end: Some(at + 1),
+            read: 1,
+        };
     }
     let mut depth = 1;
-    while depth != 0 {
-        if i == line.len() {
-            let read = i - at;
-            return Scanned { end: 0, read };
-        }
+    for i in at + 1..line.len() {
         depth = depth_past(left, right, line[i], depth);
-        i += 1;
+        if depth == 0 {
+            return Scanned {
+                end: Some(i + 1),
+                read: i + 1 - at,
+            };
+        }
     }
-    let read = i - at;
-    Scanned { end: i, read }
+    Scanned {
+        end: None,
+        read: line.len() - at,
+    }
 }

@@ -1,18 +1,20 @@
--- A bit that is read and one that is added, by the binary digits of the byte that has it; and the loop that clears.
+-- A bit that is read and one that is added, by the binary digits of the byte that has it; and the row that is cleared.
 use mathlib.Core.Path.{◌≡◌, refl, sym, ap, ◌∙◌}
 use mathlib.Core.Bool.{Bool, true, false}
 use mathlib.Core.Logic.{◌≢◌}
-use mathlib.Core.List.{List}
+use mathlib.Core.List.{List, ◌++◌}
 use Prim.Native.Nat.{ℕ, zero, suc, ◌+◌, ◌-◌, ◌*◌, ◌/◌, ◌%◌, ◌^◌, ◌≤◌, ◌<◌}
 use native.Mathlib.Nat.{pow-suc, mul-mod_left, div-eq_of_lt, zero-div}
 use native.Mathlib.Omega.{arith}
-use borrow.Author.Count.{below_more}
 use borrow.Author.Tests.{ltb-true, ltb-false, eqb-true, eqb-false}
 use lib.Bits.{bit_and, bit_or, and_mask, or_shr, or_mod, or_zero_r}
 use lib.Dec.{eqb, ltb}
-use lib.ListN.{length, get_or, set, length-set}
+use lib.ListN.{length, get_or, set, take, drop, replicate}
 use lib.Pow.{pow-add, pow-lt, shl_exact, shl-shr}
 use lib.Seq.{get_or-set_same, get_or-set_other}
+use Rattle.std.specs.Prelude.{min}
+use Rattle.std.proofs.lemmas.Grind.{div_ceil_times}
+use Rattle.std.proofs.lemmas.List.{get_or_append_left, get_or-append_right, get_or-drop, get_or-replicate, length-replicate, length-take-le}
 use Rattle.places.specs.Bits.{bit_of, bit, AddsBit, ClearsBits}
 
 -- ---- the digits of a number
@@ -120,30 +122,22 @@ bit_added row x lt = record {
         ∙ ap (λ (j : ℕ). bit_of (get_or row j 0) (y % 8)) (sym q)
     by y ne false e = ap (λ (v : ℕ). bit_of v (y % 8)) (get_or-set_other row i (y / 8) b 0 (eqb-false (y / 8) i e))
 
--- ---- the loop that clears
+-- ---- the row that is cleared
 
--- the first i bytes are 0, the others as they were
-pub record Clearing (row₀ : List ℕ) (i : ℕ) (row : List ℕ) : Type 0 where
-  pub long : length row ≡ length row₀
-  pub zeros : (j : ℕ) → j < i → get_or row j 0 ≡ 0
-  pub rest : (j : ℕ) → i ≤ j → get_or row j 0 ≡ get_or row₀ j 0
-
--- before the first turn
-pub clear_none : {row : List ℕ} → Clearing row 0 row
-clear_none = record { long = refl; zeros = λ j lt. absurd (omega arith); rest = λ j le. refl }
-
--- one byte more
-pub clear_more : {row₀ : List ℕ} {i : ℕ} {row : List ℕ} → Clearing row₀ i row → i < length row → Clearing row₀ (i + 1) (set row i 0)
-clear_more {row₀} {i} {row} c lt = record {
-  long = length-set row i 0 ∙ c.long;
-  zeros = below_more (λ (j : ℕ). get_or (set row i 0) j 0 ≡ 0) i (λ j h. get_or-set_other row i j 0 0 (λ e. omega arith) ∙ c.zeros j h) (get_or-set_same row i 0 0 lt);
-  rest = λ j h. get_or-set_other row i j 0 0 (λ e. omega arith) ∙ c.rest j (omega arith);
-}
-
--- all bytes that have a bit below n
-pub clear_all : {row₀ : List ℕ} {n i : ℕ} {row : List ℕ} → Clearing row₀ i row → (n + 7) / 8 ≡ i → ClearsBits row₀ row n
+-- its front is zeros, up to the last byte with a bit below n; the rest is as it was
+pub clear_front : {row zs : List ℕ} {n k : ℕ} → n ≤ 8 * length row → k ≡ n / 8 + min 1 (n % 8) → zs ≡ replicate (length (take k row)) 0 → ClearsBits row (zs ++ drop k row) n
 unfolding bit
-clear_all {n = n} {row = row} c e = record {
-  none = λ x lt. ap (λ (b : ℕ). bit_of b (x % 8)) (c.zeros (x / 8) (omega arith)) ∙ no_bit (x % 8);
-  kept = λ j le. c.rest j (omega arith);
-}
+clear_front {row} {zs} {n} {k} h e q =
+    let t : (n ≤ k * 8) × (k * 8 < n + 8) = rw e (div_ceil_times n 8 (omega arith)) in
+    let u : k ≤ length row = omega (arith, t.1, h) in
+    let z : zs ≡ replicate k 0 = q ∙ ap (λ (m : ℕ). replicate m 0) (length-take-le k row u) in
+    let l : length zs ≡ k = ap length z ∙ length-replicate k 0 in
+    record {
+      none = λ x lt.
+          let w : x / 8 < k = omega (arith, t.0, lt) in
+          ap (λ (b : ℕ). bit_of b (x % 8)) (get_or_append_left zs (drop k row) 0 (x / 8) (omega (arith, l, w)) ∙ ap (λ (ys : List ℕ). get_or ys (x / 8) 0) z ∙ get_or-replicate k (x / 8) 0 0 w) ∙ no_bit (x % 8);
+      kept = λ j le.
+          let w : k ≤ j = omega (arith, t.1, le) in
+          let v : k + (j - k) ≡ j = omega (arith, w) in
+          get_or-append_right zs (drop k row) k j 0 l w ∙ get_or-drop k row (j - k) 0 ∙ ap (λ (i : ℕ). get_or row i 0) v;
+    }

@@ -10,9 +10,7 @@ pub fn is_dead(row: &[u8], x: usize) -> bool
     requires { x / 8 < length row.now }
     ensures { result ≡ bit row.now x }
 {
-    let i = x / 8;
-    let k = x % 8;
-    (row[i] >> k) & 1 == 1
+    (row[x / 8] >> (x % 8)) & 1 == 1
 }
 
 // The place with number x is dead from now on.
@@ -20,9 +18,7 @@ pub fn set_dead(row: &mut [u8], x: usize)
     requires { x / 8 < length row.old }
     ensures { AddsBit row.old row.new x }
 {
-    let i = x / 8;
-    let k = x % 8;
-    row[i] |= 1 << k;
+    row[x / 8] |= 1 << (x % 8);
 }
 
 // No place with a number below n is dead: the bytes of these places become 0, and no byte more.
@@ -30,11 +26,5 @@ pub fn clear(row: &mut [u8], n: usize)
     requires { n ≤ 8 * length row.old }
     ensures { ClearsBits row.old row.new n }
 {
-    // the bytes of n bits; n + 7 could wrap
-    let bytes = n / 8 + (n % 8 + 7) / 8;
-    let mut i = 0;
-    while i < bytes {
-        row[i] = 0;
-        i += 1;
-    }
+    row[..n.div_ceil(8)].fill(0);
 }

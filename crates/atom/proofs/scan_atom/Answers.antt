@@ -1,8 +1,8 @@
 -- scan_atom finds the end of the line's first atom, and counts the bytes that it reads. The loop keeps `Scan`: the bytes from `at` to i leave `depth` brackets open,
--- and the atom is these bytes with what closes the open brackets from i on, if anything does. The measure is the length of the line less i.
+-- one at least, and the atom is these bytes with what closes the open brackets from i on, if anything does.
 use borrow.Author.Rules.{rules}
 use native.Mathlib.Omega.{arith}
-use Rattle.atom.proofs.Atoms.{none_past_end, none_at_right, one_byte, scan_start, scan_step, scan_before, scan_end, scan_closed}
+use Rattle.atom.proofs.Atoms.{none_past_end, none_at_right, one_byte, scan_start, scan_step, scan_end, scan_closed}
 use Rattle.atom.proofs.scan_atom.Goals as goal
 
 pub returns-then-line-at : goal.returns-then-line-at
@@ -14,25 +14,21 @@ returns-then-b-right c = search (none_at_right, rules)
 pub returns-then-b-left : goal.returns-then-b-left
 returns-then-b-left c = search (one_byte, rules)
 
-pub loop-depth-init : goal.loop-depth-init
-loop-depth-init c = search (scan_start, rules)
-
-pub overflow_sub-read : goal.overflow_sub-read
-overflow_sub-read c = search (scan_before, rules)
-
-pub returns-then-i-line : goal.returns-then-i-line
-returns-then-i-line c = search (scan_end, rules)
+pub loop-i-init : goal.loop-i-init
+loop-i-init c = (omega arith, search (scan_start, rules))
 
 pub depth_past-depth-requires : goal.depth_past-depth-requires
-depth_past-depth-requires c = omega arith
+depth_past-depth-requires c = omega (arith, c.loop-i.invariant.1.few)
 
-pub loop-depth-preserved : goal.loop-depth-preserved
-loop-depth-preserved c =
-    let l = c.loop-depth in
-    scan_step _ _ _ _ l.depth _ c.depth_past-depth.ensures (search rules) c.loop-depth-test.true l.invariant
+pub returns-then-depth-eq0 : goal.returns-then-depth-eq0
+returns-then-depth-eq0 c =
+    let l = c.loop-i in
+    scan_closed _ _ _ _ _ c.if-depth-eq0.true (scan_step _ _ _ _ l.depth _ c.depth_past-depth.ensures (search rules) (omega (arith, l.invariant.0)) l.invariant.1)
 
-pub overflow_sub-read-2 : goal.overflow_sub-read-2
-overflow_sub-read-2 c = search (scan_before, rules)
+pub loop-i-preserved : goal.loop-i-preserved
+loop-i-preserved c =
+    let l = c.loop-i in
+    (omega (arith, c.if-depth-eq0.false), scan_step _ _ _ _ l.depth _ c.depth_past-depth.ensures (search rules) (omega (arith, l.invariant.0)) l.invariant.1)
 
 pub returns : goal.returns
-returns c = search (scan_closed, rules)
+returns c = scan_end _ _ _ _ _ c.loop-i-test.false c.loop-i.invariant.0 c.loop-i.invariant.1
