@@ -6,35 +6,31 @@ use mathlib.Core.List.{[], ◌∷◌, ◌++◌, append-nil, append_assoc}
 use Prim.Native.Nat.{ℕ, suc, ◌+◌, ◌-◌, ◌≤◌, ◌<◌}
 use native.Mathlib.Numerals.{add-one}
 use native.Mathlib.Omega.{arith}
+use lib.Dec.{eqb}
 use lib.ListN.{length, get_or, drop, drop_of_length-le, length-drop}
 use lib.Seq.{drop-cons}
-use borrow.Author.Tests.{lt-ltb, le-ltb}
+use borrow.Author.Tests.{eqb-true}
+use Rattle.std.specs.Prelude.{Result, Ok, Err, Some, None, IfOk, IfErr, IsErrAnd}
+use Rattle.faults.specs.declared.RunFault.{RunFault}
+use Rattle.faults.specs.declared.RunFault.TheVariants.{NoAtom, BadCharacter}
+use Rattle.faults.specs.Numbers.{run_number}
 use Rattle.model.specs.declared.Marks.{Marks}
 use Rattle.model.specs.Text.{Bytes, part, has}
 use Rattle.model.specs.Reading.{atom}
-use Rattle.model.specs.Utf8.{Character, character}
-use Rattle.model.specs.Machine.{Piece, longer, piece_of, one_pass, pass_of}
+use Rattle.model.specs.Utf8 as Utf8
+use Rattle.model.specs.Utf8.{character}
+use Rattle.model.specs.Machine.{Piece, longer, piece_of, one_pass, pass_of, no_pass}
 use Rattle.model.proofs.Text.{part_join}
 use Rattle.model.proofs.Depth.{piece_enough}
 use Rattle.atom.specs.declared.Scanned.{Scanned}
 use Rattle.atom.specs.Atoms.{AtomAt}
 use Rattle.scan.specs.Lines.{Has}
-use Rattle.character.specs.declared.Decoded.{Decoded}
-use Rattle.character.specs.declared.Decoded.TheVariants.{One, Malformed, Nothing}
-use Rattle.character.specs.Decoding.{ReadsCharacter}
+use Rattle.character.specs.declared.Character.{Character}
+use Rattle.character.specs.declared.Malformed.{Malformed}
+use Rattle.character.specs.Decoding.{Found, ReadsCharacter}
 use Rattle.character.proofs.Decoding.{one_bounds, one_is, malformed_bounds, malformed_is, nothing_bounds}
 use Rattle.pass.specs.declared.Taken.{Taken}
-use Rattle.pass.specs.Pass.{delimiter_of, piece_at, Takes, TakesCharacter, ChoosesFault}
-
--- ---- a delimiter
-
-pub delimiter_none : (d : ℕ) → 256 ≤ d → delimiter_of d ≡ []
-unfolding delimiter_of
-delimiter_none d h = rw (le-ltb d 256 h, delimiter_of) refl
-
-pub delimiter_byte : (d : ℕ) → d < 256 → delimiter_of d ≡ d ∷ []
-unfolding delimiter_of
-delimiter_byte d h = rw (lt-ltb d 256 h, delimiter_of) refl
+use Rattle.pass.specs.Pass.{up_to, delimiter_bytes, piece_at, TakenIn, Takes, TakesCharacter}
 
 -- ---- bytes in front of a piece
 
@@ -79,6 +75,11 @@ unfolding pass_of
 pass_piece m [] s h = absurd (omega arith)
 pass_piece m (d ∷ ds) s h = refl
 
+-- document 01's number where such a pass finds nothing
+with_list : (list : Bytes) → 0 < length list → 17 ≡ no_pass list
+with_list [] h = absurd (omega arith)
+with_list (d ∷ ds) h = refl
+
 -- ---- take_atoms
 
 -- the loop's place: the line up to i is a row of atoms, and the rest gives the rest of the piece
@@ -115,47 +116,37 @@ module _ {m : Marks} {line : Bytes} {at : ℕ} {list : Bytes} where
             ∙ ap (λ (p : Bytes). longer p (piece m list (drop n line))) (part_join line at i n t.low (omega arith));
       }
 
-  pub taking_delimiter : {i v : ℕ} {q : Bool} → Taking m line at list i → i < length line → Has list (get_or line i 0) q → q ≡ true → v ≡ get_or line i 0 → v < 256
-      → Takes m line at list (record { ok = true; end = i; delimiter = v; rest = i + 1 })
-  unfolding piece_at longer
-  taking_delimiter {i} {v} t h b e g k = record {
+  pub taking_delimiter : {i v : ℕ} {q : Bool} → Taking m line at list i → i < length line → Has list (get_or line i 0) q → q ≡ true → v ≡ get_or line i 0
+      → Takes m line at list (Ok (record { end = i; delimiter = Some v; rest = i + 1 }))
+  unfolding piece_at longer delimiter_bytes
+  taking_delimiter {i} {v} t h b e g = record {
     is = t.is ∙ ap (longer (part line at i)) (ap (piece m list) (drop-cons line i 0 h) ∙ piece_delimiter m list (get_or line i 0) (drop (suc i) line) (sym b.is ∙ e))
-        ∙ ap₂ (λ (p d : Bytes). some (record { piece = p; delimiter = d; rest = drop (suc i) line })) (append-nil (part line at i)) (ap (λ (x : ℕ). x ∷ []) (sym g) ∙ sym (delimiter_byte v k))
+        ∙ ap₂ (λ (p d : Bytes). some (record { piece = p; delimiter = d; rest = drop (suc i) line })) (append-nil (part line at i)) (ap (λ (x : ℕ). x ∷ []) (sym g))
         ∙ rw add-one refl;
-    low = t.low;
-    high = omega arith;
-    within = omega arith;
-    delimiter = omega arith;
-    ahead = λ _. let l = t.low in omega arith;
+    bounds = record { low = t.low; high = omega arith; within = omega arith; ahead = λ _. let l = t.low in omega arith };
+    fault = tt;
   }
 
-  pub taking_fails : {i : ℕ} {r : Scanned} {q : Bool} → Taking m line at list i → i < length line → Has list (get_or line i 0) q → q ≡ false → AtomAt m line i r → r.end ≡ 0
-      → Takes m line at list (record { ok = false; end = i; delimiter = 256; rest = length line })
+  pub taking_fails : {i : ℕ} {r : Scanned} {q : Bool} → Taking m line at list i → i < length line → 0 < length list → Has list (get_or line i 0) q → q ≡ false → AtomAt m line i r
+      → r.end ≡ 0 → Takes m line at list (Err NoAtom)
   unfolding piece_at longer
-  taking_fails {i} t h b e a k =
+  taking_fails {i} t h l b e a k =
       let found : atom m (get_or line i 0 ∷ drop (suc i) line) ≡ none = ap (atom m) (sym (drop-cons line i 0 h)) ∙ a.nowhere k in
       record {
         is = t.is ∙ ap (longer (part line at i)) (ap (piece m list) (drop-cons line i 0 h) ∙ piece_none m list (get_or line i 0) (drop (suc i) line) (sym b.is ∙ e) found);
-        low = t.low;
-        high = t.high;
-        within = omega arith;
-        delimiter = omega arith;
-        ahead = λ l. l;
+        bounds = tt;
+        fault = with_list list l;
       }
 
-  pub taking_ends : {i : ℕ} → Taking m line at list i → length line ≤ i → Takes m line at list (record { ok = true; end = i; delimiter = 256; rest = i })
-  unfolding piece_at longer
+  pub taking_ends : {i : ℕ} → Taking m line at list i → length line ≤ i → Takes m line at list (Ok (up_to i))
+  unfolding piece_at longer delimiter_bytes
   taking_ends {i} t h =
       let n : drop i line ≡ [] = drop_of_length-le line {i = i} h in
       record {
         is = t.is ∙ ap (λ (s : Bytes). longer (part line at i) (piece m list s)) n ∙ ap (longer (part line at i)) (piece_end m list)
-            ∙ ap₂ (λ (p s : Bytes). some (record { piece = p; delimiter = []; rest = s })) (append-nil (part line at i)) (sym n)
-            ∙ ap (λ (d : Bytes). some (record { piece = part line at i; delimiter = d; rest = drop i line })) (sym (delimiter_none 256 (omega arith)));
-        low = t.low;
-        high = omega arith;
-        within = t.high;
-        delimiter = omega arith;
-        ahead = λ l. omega arith;
+            ∙ ap₂ (λ (p s : Bytes). some (record { piece = p; delimiter = []; rest = s })) (append-nil (part line at i)) (sym n);
+        bounds = record { low = t.low; high = omega arith; within = t.high; ahead = λ l. omega arith };
+        fault = tt;
       }
 
 -- ---- with no list
@@ -165,51 +156,45 @@ pass_none : (m : Marks) (x : ℕ) (s : Bytes) → character (x ∷ s) ≡ none �
 unfolding pass_of one_pass
 pass_none m x s e = ap one_pass e
 
-pass_one : (m : Marks) (x : ℕ) (s : Bytes) (c : Character) → character (x ∷ s) ≡ some c → pass_of m [] (x ∷ s) ≡ some (record { piece = c.bytes; delimiter = []; rest = c.rest })
+pass_one : (m : Marks) (x : ℕ) (s : Bytes) (c : Utf8.Character) → character (x ∷ s) ≡ some c → pass_of m [] (x ∷ s) ≡ some (record { piece = c.bytes; delimiter = []; rest = c.rest })
 unfolding pass_of one_pass
 pass_one m x s c e = ap one_pass e
 
-module _ {line : Bytes} {at : ℕ} {d : Decoded} (k : ReadsCharacter line at d) where
+module _ {line : Bytes} {at : ℕ} {d : Found} (k : ReadsCharacter line at d) where
   -- a character
-  pub takes_one : {code len : ℕ} → d ≡ One code len → TakesCharacter line at (record { ok = true; end = at + len; delimiter = 256; rest = at + len })
-  unfolding piece_at
-  takes_one {code} {len} e =
+  pub takes_one : {c : Character} → d ≡ Ok (Some c) → TakesCharacter line at (Ok (up_to (at + c.len)))
+  unfolding piece_at delimiter_bytes
+  takes_one {c} e =
       let b = one_bounds k e in
       let low = b.1.0 in
       let high = b.1.1.1 in
       let n : drop at line ≡ get_or line at 0 ∷ drop (suc at) line = drop-cons line at 0 (omega arith) in
-      let c : Character = record { code = code; bytes = part line at (at + len); rest = drop (at + len) line } in
+      let x : Utf8.Character = record { code = c.code; bytes = part line at (at + c.len); rest = drop (at + c.len) line } in
       record {
         takes = λ m. record {
-          is = ap (pass_of m []) n ∙ pass_one m (get_or line at 0) (drop (suc at) line) c (ap character (sym n) ∙ one_is k e)
-              ∙ ap (λ (x : Bytes). some (record { piece = c.bytes; delimiter = x; rest = c.rest })) (sym (delimiter_none 256 (omega arith)));
-          low = omega arith;
-          high = omega arith;
-          within = high;
-          delimiter = omega arith;
-          ahead = λ _. omega arith;
+          is = ap (pass_of m []) n ∙ pass_one m (get_or line at 0) (drop (suc at) line) x (ap character (sym n) ∙ one_is k e);
+          bounds = record { low = omega arith; high = omega arith; within = high; ahead = λ _. omega arith };
+          fault = tt;
         };
       }
 
   -- malformed bytes
-  pub takes_malformed : at ≤ length line → d ≡ Malformed → TakesCharacter line at (record { ok = false; end = at; delimiter = 256; rest = length line })
+  pub takes_malformed : {z : Malformed} {r : Result Taken RunFault} → d ≡ Err z → IsErrAnd r (λ f. f ≡ BadCharacter) → TakesCharacter line at r
   unfolding piece_at
-  takes_malformed h e =
+  takes_malformed {r = Ok t} e g = absurd g
+  takes_malformed {r = Err f} e g =
       let n : drop at line ≡ get_or line at 0 ∷ drop (suc at) line = drop-cons line at 0 (malformed_bounds k e) in
       record {
         takes = λ m. record {
           is = ap (pass_of m []) n ∙ pass_none m (get_or line at 0) (drop (suc at) line) (ap character (sym n) ∙ malformed_is k e);
-          low = omega arith;
-          high = h;
-          within = omega arith;
-          delimiter = omega arith;
-          ahead = λ l. l;
+          bounds = tt;
+          fault = ap run_number g;
         };
       }
 
   -- nothing at the line's end
-  pub takes_nothing : at ≤ length line → d ≡ Nothing → TakesCharacter line at (record { ok = true; end = at; delimiter = 256; rest = at })
-  unfolding pass_of piece_at delimiter_of
+  pub takes_nothing : at ≤ length line → d ≡ Ok None → TakesCharacter line at (Ok (up_to at))
+  unfolding pass_of piece_at delimiter_bytes
   takes_nothing h e =
       let l = nothing_bounds k e in
       let n : drop at line ≡ [] = drop_of_length-le line {i = at} l in
@@ -217,40 +202,35 @@ module _ {line : Bytes} {at : ℕ} {d : Decoded} (k : ReadsCharacter line at d) 
       record {
         takes = λ m. record {
           is = rw (n, pass_of, z) refl;
-          low = omega arith;
-          high = omega arith;
-          within = h;
-          delimiter = omega arith;
-          ahead = λ q. absurd (omega arith);
+          bounds = record { low = omega arith; high = omega arith; within = h; ahead = λ q. absurd (omega arith) };
+          fault = tt;
         };
       }
 
 -- an empty list is no list
-no_list : (list : Bytes) → length list ≤ 0 → list ≡ []
+no_list : (list : Bytes) → length list ≡ 0 → list ≡ []
 no_list [] h = refl
 no_list (d ∷ ds) h = absurd (omega arith)
 
 -- what a pass takes with an empty list
-pub takes_character : {m : Marks} {line : Bytes} {at : ℕ} {list : Bytes} {r : Taken} → length list ≤ 0 → TakesCharacter line at r → Takes m line at list r
-takes_character {m} {line} {at} {list} {r} h t = subst (λ (l : Bytes). Takes m line at l r) (sym (no_list list h)) (t.takes m)
+pub takes_character : {m : Marks} {line : Bytes} {at : ℕ} {list : Bytes} {r : Result Taken RunFault} {q : Bool} → q ≡ eqb (length list) 0 → q ≡ true → TakesCharacter line at r
+    → Takes m line at list r
+takes_character {m} {line} {at} {list} {r} e f t = subst (λ (l : Bytes). Takes m line at l r) (sym (no_list list (eqb-true (length list) 0 (sym e ∙ f)))) (t.takes m)
 
--- ---- the number of a pass that finds nothing
+-- ---- what a caller learns
 
-pub fault_with : {list : Bytes} → 0 < length list → ChoosesFault list 17
-fault_with {list = []} h = absurd (omega arith)
-fault_with {list = d ∷ ds} h = record { is = refl }
+module _ {m : Marks} {line : Bytes} {at : ℕ} {list : Bytes} {r : Result Taken RunFault} (k : Takes m line at list r) where
+  pub piece_taken : {t : Taken} → r ≡ Ok t
+      → pass_of m list (drop at line) ≡ some (record { piece = part line at t.end; delimiter = delimiter_bytes t.delimiter; rest = drop t.rest line })
+  unfolding piece_at
+  piece_taken e = k.is ∙ ap (piece_at line at) e
 
-pub fault_without : {list : Bytes} → length list ≤ 0 → ChoosesFault list 21
-fault_without {list = []} h = record { is = refl }
-fault_without {list = d ∷ ds} h = absurd (omega arith)
+  pub taken_in : {t : Taken} → r ≡ Ok t → TakenIn line at t
+  taken_in e = subst (λ (x : Result Taken RunFault). IfOk x (λ t. TakenIn line at t)) e k.bounds
 
--- ---- what a caller learns by the flag
+  pub piece_lacking : {e : RunFault} → r ≡ Err e → pass_of m list (drop at line) ≡ none
+  unfolding piece_at
+  piece_lacking e = k.is ∙ ap (piece_at line at) e
 
-pub piece_taken : (line : Bytes) (at : ℕ) (t : Taken) → t.ok ≡ true
-    → piece_at line at t ≡ some (record { piece = part line at t.end; delimiter = delimiter_of t.delimiter; rest = drop t.rest line })
-unfolding piece_at
-piece_taken line at t e = rw (e, piece_at) refl
-
-pub piece_lacking : (line : Bytes) (at : ℕ) (t : Taken) → t.ok ≡ false → piece_at line at t ≡ none
-unfolding piece_at
-piece_lacking line at t e = rw (e, piece_at) refl
+  pub lacking_fault : {e : RunFault} → r ≡ Err e → run_number e ≡ no_pass list
+  lacking_fault e = subst (λ (x : Result Taken RunFault). IfErr x (λ f. run_number f ≡ no_pass list)) e k.fault

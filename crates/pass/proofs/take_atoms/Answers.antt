@@ -5,8 +5,8 @@ use Rattle.atom.proofs.Atoms.{atom-by-brackets}
 use Rattle.pass.proofs.Pieces.{taking_begins, taking_goes_on, taking_falls, taking_delimiter, taking_fails, taking_ends}
 use Rattle.pass.proofs.take_atoms.Goals as goal
 
-pub loop-i-init : goal.loop-i-init
-loop-i-init c = search taking_begins
+pub loop-end-init : goal.loop-end-init
+loop-end-init c = search taking_begins
 
 pub returns-then-has_byte : goal.returns-then-has_byte
 returns-then-has_byte c = search (taking_delimiter, rules)
@@ -14,11 +14,11 @@ returns-then-has_byte c = search (taking_delimiter, rules)
 pub returns-then-next-eq0 : goal.returns-then-next-eq0
 returns-then-next-eq0 c = search (taking_fails, atom-by-brackets, rules)
 
-pub loop-i-smaller : goal.loop-i-smaller
-loop-i-smaller c = search (taking_falls, rules)
+pub loop-end-smaller : goal.loop-end-smaller
+loop-end-smaller c = search (taking_falls, rules)
 
-pub loop-i-preserved : goal.loop-i-preserved
-loop-i-preserved c = search (taking_goes_on, atom-by-brackets, rules)
+pub loop-end-preserved : goal.loop-end-preserved
+loop-end-preserved c = search (taking_goes_on, atom-by-brackets, rules)
 
 pub returns : goal.returns
 returns c = search (taking_ends, rules)

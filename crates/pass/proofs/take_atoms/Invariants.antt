@@ -5,8 +5,8 @@ use lib.ListN.{length}
 use Rattle.pass.proofs.Pieces.{Taking}
 use Rattle.pass.proofs.take_atoms.Given as goal
 
-abbrev pub invariant-loop-i : goal.invariant-loop-i
-invariant-loop-i l = Taking l.m l.line l.at l.list l.i
+abbrev pub invariant-loop-end : goal.invariant-loop-end
+invariant-loop-end l = Taking l.m l.line l.at l.list l.end
 
-abbrev pub decreases-loop-i : goal.decreases-loop-i
-decreases-loop-i l = length l.line - l.i
+abbrev pub decreases-loop-end : goal.decreases-loop-end
+decreases-loop-end l = length l.line - l.end
