@@ -12,8 +12,9 @@ use Rattle.store.specs.Memory.{held, packed, Kept}
 use Rattle.store.specs.Seek.{Locates}
 use Rattle.store.specs.Put.{Puts}
 use Rattle.store.specs.declared.Index.{Index}
-use Rattle.store.specs.declared.Place.TheVariants.{Nowhere}
-use Rattle.store.specs.declared.Stored.TheVariants.{Now, Full}
+use Rattle.std.specs.Prelude.{None}
+use Rattle.std.specs.Prelude.{Ok, Err}
+use Rattle.store.specs.declared.Full.{Full}
 use Rattle.store.proofs.Packed.{packed_append, size-packed, filled}
 use Rattle.store.proofs.Entry.{missing}
 use Rattle.store.proofs.Holding.{holds_by, puts_done, puts_full, too_many, too_large}
@@ -25,7 +26,7 @@ record Grown (m : List ℕ) (x : Index) (name text : List ℕ) : Type 0 where
   count : length (put name text (held x.count m)) ≡ suc x.count
   long : length (packed (put name text (held x.count m))) ≡ x.used + 2 + length name + length text
 
-grown : {m : List ℕ} {x : Index} {name : List ℕ} (text : List ℕ) → Kept m x → Locates m x name Nowhere → Grown m x name text
+grown : {m : List ℕ} {x : Index} {name : List ℕ} (text : List ℕ) → Kept m x → Locates m x name None → Grown m x name text
 unfolding packed
 grown {m} {x} {name} text k e =
     let es : Store = held x.count m in
@@ -45,12 +46,12 @@ grown {m} {x} {name} text k e =
       long = omega arith;
     }
 
-pub appends : {m : List ℕ} {x : Index} {name text m1 m2 : List ℕ} {b c : ℕ} → Kept m x → Locates m x name Nowhere
+pub appends : {m : List ℕ} {x : Index} {name text m1 m2 : List ℕ} {b c : ℕ} → Kept m x → Locates m x name None
     → (x.count ≡ 256 → ⊥) → x.used + 2 + length name + length text ≤ 8194 + 2 * x.count
     → b ≡ length name → c ≡ length text
     → Pasted (set (set m x.used b) (x.used + 1) c) (x.used + 2) name (length name) m1
     → Pasted m1 (x.used + 2 + length name) text (length text) m2
-    → Puts m x name text m2 (Now (record { count = x.count + 1; used = x.used + 2 + length name + length text }))
+    → Puts m x name text m2 (Ok (record { count = x.count + 1; used = x.used + 2 + length name + length text }))
 appends {m} {x} {name} {text} {m1} {m2} {b} {c} k e f r eb ec g1 g2 =
     let w = grown text k e in
     let u : ℕ = x.used in
@@ -76,14 +77,14 @@ appends {m} {x} {name} {text} {m1} {m2} {b} {c} k e f r eb ec g1 g2 =
     (t4 ∙ t5 ∙ ap₂ (λ (i j : ℕ). F ++ (i ∷ j ∷ (name ++ text))) eb ec ∙ sym w.bytes)
     (omega arith) (omega arith) (omega arith) (omega arith) (omega arith))
 
-pub no_more : {m : List ℕ} {x : Index} {name text : List ℕ} → Kept m x → Locates m x name Nowhere → x.count ≡ 256 → Puts m x name text m Full
-no_more {m} {x} {name} {text} k e f =
+pub no_more : {m : List ℕ} {x : Index} {name text : List ℕ} {f : Full} → Kept m x → Locates m x name None → x.count ≡ 256 → Puts m x name text m (Err f)
+no_more {m} {x} {name} {text} k e q =
     let w = grown text k e in
     puts_full (too_many (put name text (held x.count m)) (omega arith))
 
-pub no_room : {m : List ℕ} {x : Index} {name text : List ℕ} → Kept m x → Locates m x name Nowhere → (x.count ≡ 256 → ⊥)
-    → 8194 + 2 * x.count < x.used + 2 + length name + length text → Puts m x name text m Full
-no_room {m} {x} {name} {text} k e f r =
+pub no_room : {m : List ℕ} {x : Index} {name text : List ℕ} {f : Full} → Kept m x → Locates m x name None → (x.count ≡ 256 → ⊥)
+    → 8194 + 2 * x.count < x.used + 2 + length name + length text → Puts m x name text m (Err f)
+no_room {m} {x} {name} {text} k e q r =
     let w = grown text k e in
     let s = size-packed (put name text (held x.count m)) in
     puts_full (too_large (put name text (held x.count m)) (omega arith) (omega arith))

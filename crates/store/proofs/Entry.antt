@@ -1,23 +1,21 @@
 -- The entry of a name: among the entries, in memory, and as `seek` answers it.
-use mathlib.Core.Path.{◌≡◌, refl, sym, ap, ap₂, ◌∙◌}
+use mathlib.Core.Path.{◌≡◌, refl, sym, ap, ap₂, ◌∙◌, subst}
 use mathlib.Core.Bool.{Bool, true, false}
 use mathlib.Core.Option.{none, some}
 use mathlib.Core.List.{List, [], ◌∷◌, ◌++◌, append_assoc}
-use Prim.Native.Nat.{ℕ, suc, ◌+◌, ◌-◌, ◌≤◌}
+use Prim.Native.Nat.{ℕ, suc, ◌+◌, ◌-◌, ◌≤◌, ◌<◌}
 use native.Mathlib.Omega.{arith}
 use lib.ListN.{length, get_or, take, drop, length-append}
 use lib.Seq.{take-append_seam, drop-append_seam, drop-append-add, get_or-append-add, get_or_at}
-use Rattle.model.specs.Text.{same}
+use Rattle.model.specs.Text.{same, part}
 use Rattle.model.specs.Store.{Store, find, put}
-use Rattle.model.specs.Machine.{or_nothing}
 use Rattle.model.proofs.Choices.{when_true, when_false}
 use Rattle.buffer.proofs.Same.{same_eq}
 use Rattle.store.specs.Memory.{held, packed, Kept}
-use Rattle.store.specs.Seek.{EntryAt, place_in, Locates, is_there, SeeksName}
+use Rattle.store.specs.Seek.{EntryAt, Place, place_in, Locates, SeeksName}
 use Rattle.store.specs.declared.Index.{Index}
 use Rattle.store.specs.declared.Bounds.{Bounds}
-use Rattle.store.specs.declared.Place.{Place}
-use Rattle.store.specs.declared.Place.TheVariants.{At, Nowhere}
+use Rattle.std.specs.Prelude.{Some, None}
 use Rattle.store.proofs.Packed.{packed_append, filled}
 
 -- ---- among the entries
@@ -33,8 +31,8 @@ record Spot (name : List ℕ) (a : ℕ) (es : Store) (p : ℕ) : Type 0 where
   puts : (v : List ℕ) → put name v es ≡ front ++ ((name, v) ∷ back)
 
 spot_cons : (name : List ℕ) (a p : ℕ) (e : List ℕ × List ℕ) (es : Store) (q : Bool) → same e.0 name ≡ q
-    → elim q as (λ _. Place) [ true ↦ At a | false ↦ place_in name (a + 2 + length e.0 + length e.1) es ] ≡ At p
-    → (place_in name (a + 2 + length e.0 + length e.1) es ≡ At p → Spot name (a + 2 + length e.0 + length e.1) es p)
+    → elim q as (λ _. Place) [ true ↦ Some a | false ↦ place_in name (a + 2 + length e.0 + length e.1) es ] ≡ Some p
+    → (place_in name (a + 2 + length e.0 + length e.1) es ≡ Some p → Spot name (a + 2 + length e.0 + length e.1) es p)
     → Spot name a (e ∷ es) p
 unfolding packed find put
 spot_cons name a p e es true q h f =
@@ -63,7 +61,7 @@ spot_cons name a p e es false q h f =
       puts = λ v. when_false ((name, v) ∷ es) (e ∷ put name v es) q ∙ ap (λ (x : Store). e ∷ x) (s.puts v);
     }
 
-spot : (name : List ℕ) (es : Store) (a p : ℕ) → place_in name a es ≡ At p → Spot name a es p
+spot : (name : List ℕ) (es : Store) (a p : ℕ) → place_in name a es ≡ Some p → Spot name a es p
 unfolding place_in
 spot name [] a p h = let z : ◌≡◌ {A = ℕ} 0 1 = cc in absurd (omega arith)
 spot name (e ∷ es) a p h =
@@ -75,8 +73,8 @@ pub record Missing (name : List ℕ) (es : Store) : Type 0 where
   pub puts : (v : List ℕ) → put name v es ≡ es ++ ((name, v) ∷ [])
 
 missing_cons : (name : List ℕ) (a : ℕ) (e : List ℕ × List ℕ) (es : Store) (q : Bool) → same e.0 name ≡ q
-    → elim q as (λ _. Place) [ true ↦ At a | false ↦ place_in name (a + 2 + length e.0 + length e.1) es ] ≡ Nowhere
-    → (place_in name (a + 2 + length e.0 + length e.1) es ≡ Nowhere → Missing name es)
+    → elim q as (λ _. Place) [ true ↦ Some a | false ↦ place_in name (a + 2 + length e.0 + length e.1) es ] ≡ None
+    → (place_in name (a + 2 + length e.0 + length e.1) es ≡ None → Missing name es)
     → Missing name (e ∷ es)
 unfolding find put
 missing_cons name a e es true q h f = let z : ◌≡◌ {A = ℕ} 0 1 = cc in absurd (omega arith)
@@ -87,7 +85,7 @@ missing_cons name a e es false q h f =
       puts = λ v. when_false ((name, v) ∷ es) (e ∷ put name v es) q ∙ ap (λ (x : Store). e ∷ x) (s.puts v);
     }
 
-pub missing : (name : List ℕ) (es : Store) (a : ℕ) → place_in name a es ≡ Nowhere → Missing name es
+pub missing : (name : List ℕ) (es : Store) (a : ℕ) → place_in name a es ≡ None → Missing name es
 unfolding place_in find put
 missing name [] a h = record { finds = refl; puts = λ v. refl }
 missing name (e ∷ es) a h = missing_cons name a e es (same e.0 name) refl h (missing name es (a + 2 + length e.0 + length e.1))
@@ -114,7 +112,7 @@ packed-long before name text after =
     let c = length-append text after in
     omega arith
 
-pub entry : {m : List ℕ} {x : Index} {name : List ℕ} {p : ℕ} {r : Place} → Kept m x → Locates m x name r → r ≡ At p → Entry m x name p
+pub entry : {m : List ℕ} {x : Index} {name : List ℕ} {p : ℕ} {r : Place} → Kept m x → Locates m x name r → r ≡ Some p → Entry m x name p
 unfolding packed
 entry {m} {x} {name} {p} k e f =
     let es : Store = held x.count m in
@@ -166,37 +164,28 @@ module _ {m : List ℕ} {x : Index} {name : List ℕ} {p : ℕ} (e : Entry m x n
 
 -- ---- as the functions ask it
 
-pub entry_within : {m : List ℕ} {x : Index} {name : List ℕ} {p : ℕ} {r : Place} → Kept m x → Locates m x name r → r ≡ At p
+pub entry_within : {m : List ℕ} {x : Index} {name : List ℕ} {p : ℕ} {r : Place} → Kept m x → Locates m x name r → r ≡ Some p
     → p + 2 + get_or m p 0 + get_or m (p + 1) 0 ≤ length m
 entry_within k e f = let y = entry k e f in let n = entry_name y in let t = entry_text y in omega arith
 
-pub entry_used : {m : List ℕ} {x : Index} {name : List ℕ} {p : ℕ} {h : Bounds} → Kept m x → Locates m x name (At p) → EntryAt m p h → h.next ≤ x.used
+pub entry_used : {m : List ℕ} {x : Index} {name : List ℕ} {p : ℕ} {h : Bounds} → Kept m x → Locates m x name (Some p) → EntryAt m p h → h.next ≤ x.used
 entry_used k e g = let y = entry k e refl in let n = entry_name y in let t = entry_text y in omega arith
 
 pub placed_as : {m : List ℕ} {x : Index} {name : List ℕ} {r s : Place} → Locates m x name r → r ≡ s → Locates m x name s
 placed_as e f = record { is = sym f ∙ e.is }
 
-pub sees_some : {m : List ℕ} {x : Index} {name : List ℕ} {p : ℕ} {h : Bounds} {r : Place} → Kept m x → Locates m x name r → r ≡ At p → EntryAt m p h
-    → SeeksName m x name (record { there = true; at = h.text; len = h.next - h.text })
-unfolding or_nothing is_there
+pub sees_some : {m : List ℕ} {x : Index} {name : List ℕ} {p : ℕ} {h : Bounds} {r : Place} → Kept m x → Locates m x name r → r ≡ Some p → EntryAt m p h
+    → SeeksName m x name (Some (part m h.text h.next))
 sees_some {m} {x} {name} {p} {h} k e f g =
     let y = entry k e f in
     let n = entry_name y in
     let t = entry_text y in
     let za : h.text ≡ p + 2 + length name = omega arith in
-    let zl : h.text + (h.next - h.text) - h.text ≡ length y.text = omega arith in
-    let w = sym y.finds in
-    record {
-      text = ap₂ (λ (i j : ℕ). take i (drop j m)) zl za ∙ ap (λ (l : List ℕ). take (length y.text) l) (entry_from-text y)
-          ∙ take-append_seam y.text (y.after ++ drop x.used m) ∙ ap or_nothing w;
-      there = ap is_there w;
-      within = omega arith;
-      short = omega arith;
-    }
+    let zl : h.next - h.text ≡ length y.text = omega arith in
+    let w : part m h.text h.next ≡ y.text =
+    ap₂ (λ (i j : ℕ). take i (drop j m)) zl za ∙ ap (λ (l : List ℕ). take (length y.text) l) (entry_from-text y)
+    ∙ take-append_seam y.text (y.after ++ drop x.used m) in
+    record { is = ap some w ∙ sym y.finds; short = subst (λ (l : List ℕ). length l < 256) (sym w) (omega arith) }
 
-pub sees_none : {m : List ℕ} {x : Index} {name : List ℕ} {r : Place} → Locates m x name r → r ≡ Nowhere
-    → SeeksName m x name (record { there = false; at = 0; len = 0 })
-unfolding or_nothing is_there
-sees_none {m} {x} {name} e f =
-    let g = sym (missing name (held x.count m) 0 (sym e.is ∙ f)).finds in
-    record { text = ap or_nothing g; there = ap is_there g; within = omega arith; short = omega arith }
+pub sees_none : {m : List ℕ} {x : Index} {name : List ℕ} {r : Place} → Locates m x name r → r ≡ None → SeeksName m x name None
+sees_none {m} {x} {name} e f = record { is = sym (missing name (held x.count m) 0 (sym e.is ∙ f)).finds; short = tt }

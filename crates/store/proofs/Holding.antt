@@ -11,7 +11,8 @@ use Rattle.model.specs.Store.{Store, put, size, within, memory_fault}
 use Rattle.store.specs.Memory.{held, extent, packed, Holds}
 use Rattle.store.specs.Put.{Puts}
 use Rattle.store.specs.declared.Index.{Index}
-use Rattle.store.specs.declared.Stored.TheVariants.{Now, Full}
+use Rattle.std.specs.Prelude.{Ok, Err}
+use Rattle.store.specs.declared.Full.{Full}
 use Rattle.store.proofs.Packed.{held-packed, extent-packed, size-packed}
 
 -- memory that begins with the bytes of entries holds them
@@ -36,18 +37,18 @@ pub nothing_yet : (m : List ℕ) → length m ≡ 8704 → Holds m (record { cou
 unfolding packed
 nothing_yet m l = holds_by [] m (record { count = 0; used = 0 }) refl l refl refl (omega arith) (omega arith)
 
-pub puts_done : {m : List ℕ} {x : Index} {name text m' : List ℕ} {y : Index} → Holds m' y (put name text (held x.count m)) → Puts m x name text m' (Now y)
+pub puts_done : {m : List ℕ} {x : Index} {name text m' : List ℕ} {y : Index} → Holds m' y (put name text (held x.count m)) → Puts m x name text m' (Ok y)
 puts_done {m} {x} {name} {text} {m'} {y} h = record {
   number = ap memory_fault (sym h.fits);
   done = λ z e. let q : y ≡ z = cc in subst (λ (i : Index). Holds m' i (put name text (held x.count m))) q h;
-  full = λ e. let z : ◌≡◌ {A = ℕ} 0 1 = cc in absurd (omega arith);
+  full = λ f e. let z : ◌≡◌ {A = ℕ} 0 1 = cc in absurd (omega arith);
 }
 
-pub puts_full : {m : List ℕ} {x : Index} {name text : List ℕ} → within (put name text (held x.count m)) ≡ false → Puts m x name text m Full
-puts_full {m} {x} {name} {text} h = record {
+pub puts_full : {m : List ℕ} {x : Index} {name text : List ℕ} {f : Full} → within (put name text (held x.count m)) ≡ false → Puts m x name text m (Err f)
+puts_full {m} {x} {name} {text} {f} h = record {
   number = ap memory_fault (sym h);
   done = λ y e. let z : ◌≡◌ {A = ℕ} 0 1 = cc in absurd (omega arith);
-  full = λ e. (refl, h);
+  full = λ g e. (refl, h);
 }
 
 pub too_many : (es : Store) → 256 < length es → within es ≡ false

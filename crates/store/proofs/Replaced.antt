@@ -13,8 +13,9 @@ use Rattle.store.specs.Seek.{EntryAt, Locates}
 use Rattle.store.specs.Put.{Puts}
 use Rattle.store.specs.declared.Index.{Index}
 use Rattle.store.specs.declared.Bounds.{Bounds}
-use Rattle.store.specs.declared.Place.TheVariants.{At}
-use Rattle.store.specs.declared.Stored.TheVariants.{Now, Full}
+use Rattle.std.specs.Prelude.{Some}
+use Rattle.std.specs.Prelude.{Ok, Err}
+use Rattle.store.specs.declared.Full.{Full}
 use Rattle.store.proofs.Packed.{size-packed}
 use Rattle.store.proofs.Entry.{Entry, entry, entry_name, entry_text, entry_from-text, packed-long}
 use Rattle.store.proofs.Holding.{holds_by, puts_done, puts_full, too_large}
@@ -62,12 +63,12 @@ module _ {m : List ℕ} {x : Index} {name : List ℕ} {p : ℕ} (y : Entry m x n
       let l2 = packed-long b name text a in
       ap (λ (l : List ℕ). take (e + length a) l) e6 ∙ take_at k j (e + length a) (omega arith)
 
-pub replaces : {m : List ℕ} {x : Index} {name : List ℕ} {p : ℕ} {h : Bounds} {text m1 m2 : List ℕ} {b : ℕ} → Kept m x → Locates m x name (At p) → EntryAt m p h
+pub replaces : {m : List ℕ} {x : Index} {name : List ℕ} {p : ℕ} {h : Bounds} {text m1 m2 : List ℕ} {b : ℕ} → Kept m x → Locates m x name (Some p) → EntryAt m p h
     → h.text + length text + (x.used - h.next) ≤ 8192 + 2 * x.count
     → Pasted m (h.text + length text) (drop h.next m) (x.used - h.next) m1
     → Pasted m1 h.text text (length text) m2
     → b ≡ length text
-    → Puts m x name text (set m2 (p + 1) b) (Now (record { count = x.count; used = h.text + length text + (x.used - h.next) }))
+    → Puts m x name text (set m2 (p + 1) b) (Ok (record { count = x.count; used = h.text + length text + (x.used - h.next) }))
 replaces {m} {x} {name} {p} {h} {text} {m1} {m2} {b} k e g r g1 g2 eb =
     let es : Store = put name text (held x.count m) in
     let y = entry k e refl in
@@ -92,8 +93,8 @@ replaces {m} {x} {name} {p} {h} {text} {m1} {m2} {b} k e g r g1 g2 eb =
     (ap₂ (λ (i v : ℕ). take i (set m2 (p + 1) v)) zu eb ∙ rewritten y (omega arith) p1 p2 ∙ sym (y.puts text))
     (omega arith) (omega arith) (omega arith) (omega arith) (omega arith))
 
-pub too_long : {m : List ℕ} {x : Index} {name : List ℕ} {p : ℕ} {h : Bounds} {text : List ℕ} → Kept m x → Locates m x name (At p) → EntryAt m p h
-    → 8192 + 2 * x.count < h.text + length text + (x.used - h.next) → Puts m x name text m Full
+pub too_long : {m : List ℕ} {x : Index} {name : List ℕ} {p : ℕ} {h : Bounds} {text : List ℕ} {f : Full} → Kept m x → Locates m x name (Some p) → EntryAt m p h
+    → 8192 + 2 * x.count < h.text + length text + (x.used - h.next) → Puts m x name text m (Err f)
 too_long {m} {x} {name} {p} {h} {text} k e g r =
     let es : Store = put name text (held x.count m) in
     let y = entry k e refl in

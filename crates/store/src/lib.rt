@@ -3,13 +3,15 @@
 // the order in which their names were first stored, with nothing between them.
 #![tactic(auto)]
 
-ghost use Rattle.std.specs.Prelude.{◌≡◌, [], ◌+◌, ◌≤◌, ◌<◌, length, get_or};
+ghost use Rattle.std.specs.Prelude.{◌≡◌, [], ◌+◌, ◌≤◌, ◌<◌, length, get_or, option_copied};
 ghost use Rattle.store.specs.Memory.{held, Kept, Holds};
 ghost use Rattle.store.specs.Seek.{EntryAt, Locates, SeeksName};
 ghost use Rattle.store.specs.Put.{Puts};
 ghost use Rattle.store.specs.List.{each, Parts, Marked, WritesEach, ClosesNames, Lists};
 ghost use Rattle.model.specs.Limits.{store_least};
+ghost use Rattle.faults.specs.declared.RunFault.TheVariants.{FullStore};
 
+use faults::RunFault;
 use model::{MEMORY_MOST, NAMES_MOST};
 
 // How many entries there are, and how many bytes they take.
@@ -19,26 +21,18 @@ pub struct Index {
     pub used: usize,
 }
 
-// Whether a name is stored, and where its text lies: a part with no byte where it is not.
+// There is no room for a name or its text.
 #[derive(Clone, Copy)]
-pub struct Seen {
-    pub there: bool,
-    pub at: usize,
-    pub len: usize,
-}
+pub struct Full;
 
-// The index after a text was stored, or no room for it.
-#[derive(Clone, Copy)]
-pub enum Stored {
-    Now(Index),
-    Full,
-}
+impl From<Full> for RunFault {
+    ghost from_gives = { λ _ fault. fault ≡ FullStore };
 
-// Where an entry begins.
-#[derive(Clone, Copy)]
-enum Place {
-    At(usize),
-    Nowhere,
+    fn from(_full: Full) -> RunFault
+        ensures { result ≡ RunFault.FullStore }
+    {
+        RunFault::FullStore
+    }
 }
 
 // Where an entry's name and its text begin, and the next entry.
@@ -70,13 +64,13 @@ fn read_entry(memory: &[u8], at: usize) -> Bounds
     ensures { EntryAt memory.now at result }
 {
     let name = at + 2;
-    let text = name + buffer::wide(memory[at]);
-    let next = text + buffer::wide(memory[at + 1]);
+    let text = name + usize::from(memory[at]);
+    let next = text + usize::from(memory[at + 1]);
     Bounds { name, text, next }
 }
 
-// Where the entry of a name begins.
-fn locate(memory: &[u8], index: Index, name: &[u8]) -> Place
+// Where the entry of a name begins, if it is stored.
+fn locate(memory: &[u8], index: Index, name: &[u8]) -> Option<usize>
     requires { Kept memory.now index }
     ensures { Locates memory.now index name.now result }
 {
@@ -87,41 +81,35 @@ fn locate(memory: &[u8], index: Index, name: &[u8]) -> Place
         let from = h.name;
         let to = h.text;
         if buffer::same_bytes(&memory[from..to], name) {
-            return Place::At(at);
+            return Some(at);
         }
         at = h.next;
         left -= 1;
     }
-    Place::Nowhere
+    None
 }
 
-// Where the text of a name lies.
-pub fn seek(memory: &[u8], index: Index, name: &[u8]) -> Seen
+// The text that is stored under a name.
+pub fn seek<'a>(memory: &'a [u8], index: Index, name: &[u8]) -> Option<&'a [u8]>
     requires { Kept memory.now index }
-    ensures { SeeksName memory.now index name.now result }
+    ensures { SeeksName memory.now index name.now (option_copied result) }
 {
-    match locate(memory, index, name) {
-        Place::At(at) => {
-            let h = read_entry(memory, at);
-            let from = h.text;
-            let to = h.next;
-            Seen {
-                there: true,
-                at: from,
-                len: to - from,
-            }
-        }
-        Place::Nowhere => Seen {
-            there: false,
-            at: 0,
-            len: 0,
-        },
-    }
+    let at = locate(memory, index, name)?;
+    let h = read_entry(memory, at);
+    let from = h.text;
+    let to = h.next;
+    Some(&memory[from..to])
 }
 
 // The text of the name whose entry begins at offset at is replaced.
-fn replace(memory: &mut [u8], index: Index, at: usize, name: &[u8], text: &[u8]) -> Stored
-    requires kept { Kept memory.old index × Locates memory.old index name.now (Place.At at) }
+fn replace(
+    memory: &mut [u8],
+    index: Index,
+    at: usize,
+    name: &[u8],
+    text: &[u8],
+) -> Result<Index, Full>
+    requires kept { Kept memory.old index × Locates memory.old index name.now (Some at) }
     requires text_len_bound { length text.now < 256 }
     ensures { Puts memory.old index name.now text.now memory.new result }
 {
@@ -133,53 +121,53 @@ fn replace(memory: &mut [u8], index: Index, at: usize, name: &[u8], text: &[u8])
     let end = from + text.len();
     let tail = used - next;
     if MEMORY_MOST + 2 * count < end + tail {
-        return Stored::Full;
+        return Err(Full);
     }
     buffer::shift(memory, end, next, tail);
     buffer::copy(memory, from, text);
-    memory[at + 1] = buffer::narrow(text.len());
-    Stored::Now(Index {
-        count,
+    memory[at + 1] = text.len() as u8;
+    Ok(Index {
         used: end + tail,
+        ..index
     })
 }
 
 // A new name and its text come last.
-fn append_entry(memory: &mut [u8], index: Index, name: &[u8], text: &[u8]) -> Stored
-    requires kept { Kept memory.old index × Locates memory.old index name.now Place.Nowhere }
+fn append_entry(memory: &mut [u8], index: Index, name: &[u8], text: &[u8]) -> Result<Index, Full>
+    requires kept { Kept memory.old index × Locates memory.old index name.now None }
     requires name_len_bound { (length name.now < 256) × (length text.now < 256) }
     ensures { Puts memory.old index name.now text.now memory.new result }
 {
     let count = index.count;
     let used = index.used;
     if count == NAMES_MOST {
-        return Stored::Full;
+        return Err(Full);
     }
     let from = used + 2;
     let middle = from + name.len();
     let end = middle + text.len();
     if 8194 + 2 * count < end {
-        return Stored::Full;
+        return Err(Full);
     }
-    memory[used] = buffer::narrow(name.len());
-    memory[used + 1] = buffer::narrow(text.len());
+    memory[used] = name.len() as u8;
+    memory[used + 1] = text.len() as u8;
     buffer::copy(memory, from, name);
     buffer::copy(memory, middle, text);
-    Stored::Now(Index {
+    Ok(Index {
         count: count + 1,
         used: end,
     })
 }
 
 // The text is stored under the name, in place of the one before. Where there is no room, nothing changes.
-pub fn put(memory: &mut [u8], index: Index, name: &[u8], text: &[u8]) -> Stored
+pub fn put(memory: &mut [u8], index: Index, name: &[u8], text: &[u8]) -> Result<Index, Full>
     requires kept { Kept memory.old index }
     requires name_len_bound { (length name.now < 256) × (length text.now < 256) }
     ensures { Puts memory.old index name.now text.now memory.new result }
 {
     match locate(memory, index, name) {
-        Place::At(at) => replace(memory, index, at, name, text),
-        Place::Nowhere => append_entry(memory, index, name, text),
+        Some(at) => replace(memory, index, at, name, text),
+        None => append_entry(memory, index, name, text),
     }
 }
 

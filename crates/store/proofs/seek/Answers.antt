@@ -2,11 +2,11 @@
 use Rattle.store.proofs.Entry.{entry_within, sees_some, sees_none}
 use Rattle.store.proofs.seek.Goals as goal
 
+pub returns-in_err-at : goal.returns-in_err-at
+returns-in_err-at c = rw c.from_residual.ensures (sees_none c.locate.ensures c.in_err-at.was)
+
 pub read_entry-h-requires : goal.read_entry-h-requires
-read_entry-h-requires c = search entry_within
+read_entry-h-requires c = entry_within c.requires c.locate.ensures c.in_ok-at.was
 
-pub returns-in-At : goal.returns-in-At
-returns-in-At c = search sees_some
-
-pub returns-in-Nowhere : goal.returns-in-Nowhere
-returns-in-Nowhere c = search sees_none
+pub returns : goal.returns
+returns c = sees_some c.requires c.locate.ensures c.in_ok-at.was c.read_entry-h.ensures
