@@ -10,7 +10,8 @@ use lib.Dec.{eqb}
 use lib.ListN.{length, get_or, drop, drop_of_length-le, length-drop}
 use lib.Seq.{drop-cons}
 use borrow.Author.Tests.{eqb-true}
-use Rattle.std.specs.Prelude.{Result, Ok, Err, Some, None, IfOk, IfErr, IsErrAnd}
+use Rattle.std.specs.Prelude as Std
+use Rattle.std.specs.Prelude.{Result, IsNone, IfSome, Ok, Err, Some, None, IfOk, IfErr, IsErrAnd}
 use Rattle.faults.specs.declared.RunFault.{RunFault}
 use Rattle.faults.specs.declared.RunFault.TheVariants.{NoAtom, BadCharacter}
 use Rattle.faults.specs.Numbers.{run_number}
@@ -23,7 +24,7 @@ use Rattle.model.specs.Machine.{Piece, longer, piece_of, one_pass, pass_of, no_p
 use Rattle.model.proofs.Text.{part_join}
 use Rattle.model.proofs.Depth.{piece_enough}
 use Rattle.atom.specs.declared.Scanned.{Scanned}
-use Rattle.atom.specs.Atoms.{AtomAt}
+use Rattle.atom.specs.Atoms.{EndsAtom, AtomAt}
 use Rattle.scan.specs.Lines.{Has}
 use Rattle.character.specs.declared.Character.{Character}
 use Rattle.character.specs.declared.Malformed.{Malformed}
@@ -88,9 +89,16 @@ pub record Taking (m : Marks) (line : Bytes) (at : ℕ) (list : Bytes) (i : ℕ)
   pub high : i ≤ length line
   pub is : pass_of m list (drop at line) ≡ longer (part line at i) (piece m list (drop i line))
 
+-- where an atom ends, and that none does
+atom_ends : {m : Marks} {line : Bytes} {i n : ℕ} {r : Scanned} → AtomAt m line i r → r.end ≡ Some n → EndsAtom m line i n
+atom_ends {m} {line} {i} a e = subst (λ (x : Std.Option ℕ). IfSome x (EndsAtom m line i)) e a.found
+
+no_atom : {m : Marks} {line : Bytes} {i : ℕ} {r : Scanned} → AtomAt m line i r → r.end ≡ None → atom m (drop i line) ≡ none
+no_atom a e = a.nowhere (subst (λ (x : Std.Option ℕ). IsNone x) (sym e) refl)
+
 -- a turn passes an atom
-pub taking_falls : {m : Marks} {line : Bytes} {i : ℕ} {r : Scanned} → i < length line → AtomAt m line i r → ¬ (r.end ≡ 0) → length line - r.end < length line - i
-taking_falls h a k = let far = a.ahead (omega arith) in omega arith
+pub taking_falls : {m : Marks} {line : Bytes} {i n : ℕ} {r : Scanned} → i < length line → AtomAt m line i r → r.end ≡ Some n → length line - n < length line - i
+taking_falls h a e = let far = (atom_ends a e).ahead in omega arith
 
 module _ {m : Marks} {line : Bytes} {at : ℕ} {list : Bytes} where
   pub taking_begins : at ≤ length line → 0 < length list → Taking m line at list at
@@ -98,15 +106,15 @@ module _ {m : Marks} {line : Bytes} {at : ℕ} {list : Bytes} where
       let z : at - at ≡ 0 = omega arith in
       record { low = omega arith; high = h; is = pass_piece m list (drop at line) k ∙ rw z (sym (longer_nil (piece m list (drop at line)))) }
 
-  pub taking_goes_on : {i : ℕ} {r : Scanned} {q : Bool} → Taking m line at list i → i < length line → Has list (get_or line i 0) q → q ≡ false → AtomAt m line i r → ¬ (r.end ≡ 0)
-      → Taking m line at list r.end
-  taking_goes_on {i} {r} t h b e a k =
-      let n = r.end in
-      let far = a.ahead (omega arith) in
-      let high = a.within in
+  pub taking_goes_on : {i n : ℕ} {r : Scanned} {q : Bool} → Taking m line at list i → i < length line → Has list (get_or line i 0) q → q ≡ false → AtomAt m line i r → r.end ≡ Some n
+      → Taking m line at list n
+  taking_goes_on {i} {n} {r} t h b e a k =
+      let x = atom_ends a k in
+      let far = x.ahead in
+      let high = x.within in
       let d = length-drop (suc i) line in
       let f = length-drop n line in
-      let found : atom m (get_or line i 0 ∷ drop (suc i) line) ≡ some (part line i n, drop n line) = ap (atom m) (sym (drop-cons line i 0 h)) ∙ a.found (omega arith) in
+      let found : atom m (get_or line i 0 ∷ drop (suc i) line) ≡ some (part line i n, drop n line) = ap (atom m) (sym (drop-cons line i 0 h)) ∙ x.is in
       record {
         low = omega arith;
         high = high;
@@ -128,10 +136,10 @@ module _ {m : Marks} {line : Bytes} {at : ℕ} {list : Bytes} where
   }
 
   pub taking_fails : {i : ℕ} {r : Scanned} {q : Bool} → Taking m line at list i → i < length line → 0 < length list → Has list (get_or line i 0) q → q ≡ false → AtomAt m line i r
-      → r.end ≡ 0 → Takes m line at list (Err NoAtom)
+      → r.end ≡ None → Takes m line at list (Err NoAtom)
   unfolding piece_at longer
   taking_fails {i} t h l b e a k =
-      let found : atom m (get_or line i 0 ∷ drop (suc i) line) ≡ none = ap (atom m) (sym (drop-cons line i 0 h)) ∙ a.nowhere k in
+      let found : atom m (get_or line i 0 ∷ drop (suc i) line) ≡ none = ap (atom m) (sym (drop-cons line i 0 h)) ∙ no_atom a k in
       record {
         is = t.is ∙ ap (longer (part line at i)) (ap (piece m list) (drop-cons line i 0 h) ∙ piece_none m list (get_or line i 0) (drop (suc i) line) (sym b.is ∙ e) found);
         bounds = tt;

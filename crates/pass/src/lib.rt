@@ -49,11 +49,10 @@ fn take_atoms(m: Marks, line: &[u8], at: usize, list: &[u8]) -> Result<Taken, Ru
                 rest: end + 1,
             });
         }
-        let next = scan_atom(line, end, m.left, m.right);
-        if next.end == 0 {
+        let Some(next) = scan_atom(line, end, m.left, m.right).end else {
             return Err(RunFault::NoAtom);
-        }
-        end = next.end;
+        };
+        end = next;
     }
     Ok(Taken::up_to(end))
 }

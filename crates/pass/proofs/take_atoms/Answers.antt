@@ -11,8 +11,8 @@ loop-end-init c = search taking_begins
 pub returns-then-has_byte : goal.returns-then-has_byte
 returns-then-has_byte c = search (taking_delimiter, rules)
 
-pub returns-then-next-eq0 : goal.returns-then-next-eq0
-returns-then-next-eq0 c = search (taking_fails, atom-by-brackets, rules)
+pub returns-in_default : goal.returns-in_default
+returns-in_default c = search (taking_fails, atom-by-brackets, rules)
 
 pub loop-end-smaller : goal.loop-end-smaller
 loop-end-smaller c = search (taking_falls, rules)
