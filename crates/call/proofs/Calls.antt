@@ -3,19 +3,22 @@ use mathlib.Core.Path.{◌≡◌, refl, sym, ap, ap₂, subst, ◌∙◌}
 use mathlib.Core.List.{List, [], ◌∷◌, ◌++◌, map}
 use Prim.Native.Nat.{ℕ, zero, suc, ◌+◌, ◌-◌, ◌*◌, ◌≤◌, ◌<◌, min}
 use native.Mathlib.Omega.{arith}
-use borrow.Author.Count.{below_more}
-use lib.ListN.{length, get_or, set, take, drop, replicate, length-set, length-drop, get_or-replicate}
-use lib.Seq.{paste, take-length, take-take, ext_get_or, take-set-le, take-set-lt, drop-set-add, drop-set-lt, get_or-take, get_or-drop, get_or-set_same, get_or-set_other, length-take-le}
+use borrow.Author.Tests.{lt-ltb, le-ltb}
+use borrow.Rule.Slice.PartMut.{put_mid, same_len_mid}
+use lib.ListN.{length, get_or, set, take, drop, replicate, length-set, length-drop, length-append, length-replicate}
+use lib.Seq.{paste, take-length, take-take, take_at, drop_at, take-set-le, take-set-lt, drop-set-add, drop-set-lt, get_or-take, get_or-drop, get_or-set_other, length-take-le}
+use Rattle.std.specs.Prelude.{Option, Some, None, Result, Ok, Err}
+use Rattle.std.specs.Result.{OkIff, result_ok}
 use Rattle.model.specs.Text.{Bytes, part}
 use Rattle.model.specs.Load.{body_at}
 use Rattle.model.specs.Machine.{param, with_param, resume_at}
 use Rattle.model.proofs.Text.{part-long}
 use Rattle.buffer.specs.Pasted.{Pasted}
 use Rattle.buffer.proofs.Pasted.{pasted_long}
-use Rattle.pass.specs.Pass.{delimiter_of}
 use Rattle.call.specs.declared.Call.{Call}
 use Rattle.call.specs.declared.Head.{Head}
-use Rattle.call.specs.Call.{Capped, slots, loops_of}
+use Rattle.call.specs.Call.{delimiter_of, slots, loops_of}
+use Rattle.pass.specs.Pass.{delimiter_bytes}
 use Rattle.call.specs.Params.{CopiesAll, Opens, Lays, Lies, Sets, Delimiter, with_delimiter, Delimits, Moves}
 use Rattle.call.proofs.Loops.{placed_agree, loops_agree, texts_past}
 use Rattle.call.proofs.Slots.{slots_get, slots_set, slots_front}
@@ -31,67 +34,64 @@ opens {number} {next} p = record {
 
 -- ---- lay_out
 
--- the first i lengths and delimiters are laid out
-pub record Laying (lens : List ℕ) (i : ℕ) (nums : List ℕ) : Type 0 where
-  pub upto : i ≤ 9
-  pub long : length nums ≡ 50
-  pub lens_are : (j : ℕ) → j < i → get_or nums j 0 ≡ get_or lens j 0
-  pub none_are : (j : ℕ) → j < i → get_or nums (9 + j) 0 ≡ 256
-
-pub laying_none : {lens nums : List ℕ} → length nums ≡ 50 → Laying lens 0 nums
-laying_none l = record { upto = omega arith; long = l; lens_are = λ j u. absurd (omega arith); none_are = λ j u. absurd (omega arith) }
-
-pub laying_more : {lens nums : List ℕ} {i : ℕ} → Laying lens i nums → i < 9 → Laying lens (i + 1) (set (set nums i (get_or lens i 0)) (9 + i) 256)
-laying_more {lens} {nums} {i} h u =
-    let v : ℕ = get_or lens i 0 in
-    let l = h.long in
-    let k = length-set nums i v in
-    record {
-      upto = omega arith;
-      long = length-set (set nums i v) (9 + i) 256 ∙ k ∙ l;
-      lens_are = below_more _ i
-          (λ j w. get_or-set_other (set nums i v) (9 + i) j 256 0 (λ z. omega arith) ∙ get_or-set_other nums i j v 0 (λ z. omega arith) ∙ h.lens_are j w)
-          (get_or-set_other (set nums i v) (9 + i) i 256 0 (λ z. omega arith) ∙ get_or-set_same nums i v 0 (omega arith));
-      none_are = below_more _ i
-          (λ j w. get_or-set_other (set nums i v) (9 + i) (9 + j) 256 0 (λ z. omega arith) ∙ get_or-set_other nums i (9 + j) v 0 (λ z. omega arith) ∙ h.none_are j w)
-          (get_or-set_same (set nums i v) (9 + i) 256 0 (omega arith));
-    }
-
 pub call_fits : (bytes params : Bytes) → length bytes ≡ 1800 → length params ≡ 3400 → 0 + length bytes ≤ length params
 call_fits bytes params b l = omega arith
 
-pub delimiter_fits : (lens nums : List ℕ) (i v : ℕ) → Laying lens i nums → i < 9 → 9 + i < length (set nums i v)
-delimiter_fits lens nums i v h u = omega (arith, length-set nums i v, h.long)
+-- the lengths in front, then fs in the place of the delimiters
+module _ (c : Call) (nums ls fs : List ℕ) (l : length nums ≡ 50) (k : length c.lens ≡ 9) (e : ls ≡ c.lens)
+    (f : fs ≡ replicate (length (take 9 (drop 9 (ls ++ drop 9 nums)))) 256) where
+  abbrev nums' : List ℕ
+  nums' = put_mid 9 9 (ls ++ drop 9 nums) fs
 
-pub lays : {c : Call} {nums : List ℕ} {bytes bytes' : Bytes} {i : ℕ} → Laying c.lens i nums → 9 ≤ i → length c.lens ≡ 9 → length c.bytes ≡ 1800 → length bytes ≡ 3400
-    → Pasted bytes 0 c.bytes (length c.bytes) bytes' → Lays c (record { number = c.number; next = c.next; depth = 0 }) nums bytes'
-unfolding loops_of delimiter_of
-lays {c} {nums} {bytes} {bytes'} {i} h u l b w g =
-    let long = h.long in
-    let nine = length-take-le 9 nums (omega arith) in
-    let more = length-take-le 9 (drop 9 nums) (omega (arith, length-drop 9 nums)) in
-    let lens : take 9 nums ≡ c.lens = ext_get_or 0 (take 9 nums) c.lens (omega arith) (λ j v. get_or-take 9 nums j 0 (omega arith) ∙ h.lens_are j (omega arith)) in
-    let none : take 9 (drop 9 nums) ≡ replicate 9 256 =
-    ext_get_or 0 (take 9 (drop 9 nums)) (replicate 9 256) (omega arith)
-    (λ j v. get_or-take 9 (drop 9 nums) j 0 (omega arith) ∙ get_or-drop 9 nums j 0 ∙ h.none_are j (omega arith) ∙ sym (get_or-replicate 9 j 256 0 (omega arith))) in
-    let e : slots c.lens bytes' ≡ slots c.lens c.bytes =
-    ap (λ (x : Bytes). slots c.lens x) (g.is ∙ ap (λ (x : Bytes). x ++ drop (0 + length c.bytes) bytes) (take-length c.bytes))
-    ∙ slots_front c.lens c.bytes (drop (0 + length c.bytes) bytes) (omega arith) in
-    record {
-      frame = λ m text. rw (lens, none, e) refl;
-      placed = λ text p q. record { number = p; next = q; depth = omega arith; nums = long; bytes = pasted_long g (omega arith) (omega arith) ∙ w; iterations = λ j v. absurd (omega arith) };
-    }
+  long : length (ls ++ drop 9 nums) ≡ 50
+  long = omega (arith, ap length e, length-append ls (drop 9 nums), length-drop 9 nums)
+
+  few : length fs ≡ 9
+  few =
+      let n = length-take-le 9 (drop 9 (ls ++ drop 9 nums)) (omega (arith, long, length-drop 9 (ls ++ drop 9 nums))) in
+      ap length f ∙ length-replicate (length (take 9 (drop 9 (ls ++ drop 9 nums)))) 256 ∙ n
+
+  front : length (take 9 (ls ++ drop 9 nums)) ≡ 9
+  front = length-take-le 9 (ls ++ drop 9 nums) (omega (arith, long))
+
+  are_lens : take 9 nums' ≡ c.lens
+  are_lens = take_at (take 9 (ls ++ drop 9 nums)) _ 9 front ∙ take_at ls (drop 9 nums) 9 (ap length e ∙ k) ∙ e
+
+  are_none : take 9 (drop 9 nums') ≡ replicate 9 256
+  are_none =
+      let n = length-take-le 9 (drop 9 (ls ++ drop 9 nums)) (omega (arith, long, length-drop 9 (ls ++ drop 9 nums))) in
+      ap (take 9) (drop_at (take 9 (ls ++ drop 9 nums)) _ 9 front) ∙ take_at fs _ 9 few ∙ f ∙ ap (λ (i : ℕ). replicate i 256) n
+
+  pub lays : {bytes bytes' : Bytes} → length c.bytes ≡ 1800 → length bytes ≡ 3400 → Pasted bytes 0 c.bytes (length c.bytes) bytes'
+      → Lays c (record { number = c.number; next = c.next; depth = 0 }) nums' bytes'
+  unfolding loops_of delimiter_of
+  lays {bytes} {bytes'} b w g =
+      let n = length-take-le 9 (drop 9 (ls ++ drop 9 nums)) (omega (arith, long, length-drop 9 (ls ++ drop 9 nums))) in
+      let same : slots c.lens bytes' ≡ slots c.lens c.bytes =
+      ap (λ (x : Bytes). slots c.lens x) (g.is ∙ ap (λ (x : Bytes). x ++ drop (0 + length c.bytes) bytes) (take-length c.bytes))
+      ∙ slots_front c.lens c.bytes (drop (0 + length c.bytes) bytes) (omega arith) in
+      record {
+        frame = λ m text. rw (are_lens, are_none, same) refl;
+        placed = λ text p q. record {
+          number = p;
+          next = q;
+          depth = omega arith;
+          nums = same_len_mid 9 9 (ls ++ drop 9 nums) fs (few ∙ sym n) ∙ long;
+          bytes = pasted_long g (omega arith) (omega arith) ∙ w;
+          iterations = λ j v. absurd (omega arith);
+        };
+      }
 
 -- ---- param_len, set_param, regain
 
-pub lies : {nums : List ℕ} {d r : ℕ} → length nums ≡ 50 → 1 ≤ d → d ≤ 9 → Capped (get_or nums (d - 1) 0) r → Lies nums d r
+pub lies : {nums : List ℕ} {d r : ℕ} → length nums ≡ 50 → 1 ≤ d → d ≤ 9 → r ≡ min (get_or nums (d - 1) 0) 200 → Lies nums d r
 unfolding param
 lies {nums} {d} {r} l h k e =
     let a : ℕ = 200 * (d - 1) in
-    let z : min (get_or (take 9 nums) (d - 1) 0) 200 ≡ a + r - a = ap (λ (n : ℕ). min n 200) (get_or-take 9 nums (d - 1) 0 (omega arith)) ∙ sym e.is ∙ omega arith in
+    let z : min (get_or (take 9 nums) (d - 1) 0) 200 ≡ a + r - a = ap (λ (n : ℕ). min n 200) (get_or-take 9 nums (d - 1) 0 (omega arith)) ∙ sym e ∙ omega arith in
     record {
       is = λ m text c bytes. slots_get (take 9 nums) bytes (d - 1) (omega (arith, length-take-le 9 nums (omega arith))) ∙ ap (λ (n : ℕ). take n (drop a bytes)) z;
-      short = e.short;
+      short = omega arith;
     }
 
 pub sets : {nums : List ℕ} {bytes : Bytes} {d : ℕ} {s bytes' : Bytes} → length nums ≡ 50 → length bytes ≡ 3400 → 1 ≤ d → d ≤ 9 → length s ≤ 200
@@ -132,33 +132,59 @@ regains {nums} {bytes} {d} at n {bytes'} l b h k s u g =
 
 -- ---- latest_delimiter, set_delimiter
 
+delimiter_none : (d : ℕ) → 256 ≤ d → delimiter_of d ≡ []
+unfolding delimiter_of
+delimiter_none d h = rw (le-ltb d 256 h, delimiter_of) refl
+
+delimiter_byte : (d : ℕ) → d < 256 → delimiter_of d ≡ d ∷ []
+unfolding delimiter_of
+delimiter_byte d h = rw (lt-ltb d 256 h, delimiter_of) refl
+
+-- a delimiter as the number in its place, and back
+pub written_some : {b d : ℕ} {o : Option ℕ} → d < 256 → b ≡ d → o ≡ Some d → delimiter_of b ≡ delimiter_bytes o
+unfolding delimiter_bytes
+written_some {b} {d} h e f = rw (f, e, delimiter_byte d h, delimiter_bytes) refl
+
+pub written_none : {o : Option ℕ} → o ≡ None → delimiter_of 256 ≡ delimiter_bytes o
+unfolding delimiter_bytes
+written_none f = rw (f, delimiter_none 256 (omega arith), delimiter_bytes) refl
+
 map_get : (ns : List ℕ) (i : ℕ) → i < length ns → get_or (map delimiter_of ns) i [] ≡ delimiter_of (get_or ns i 0)
 map_get [] i h = absurd (omega arith)
 map_get (n ∷ ns) zero h = refl
 map_get (n ∷ ns) (suc i) h = map_get ns i (omega arith)
 
-pub delimiter_read : {nums : List ℕ} {d : ℕ} → length nums ≡ 50 → 1 ≤ d → d ≤ 9 → Delimiter nums d (get_or nums (8 + d) 0)
-delimiter_read {nums} {d} l h k =
+-- what the number in a place says
+read_back : {E : Type 0} (n : ℕ) (r : Result ℕ E) → OkIff r (n < 256) n → delimiter_of n ≡ delimiter_bytes (result_ok r)
+unfolding delimiter_bytes
+read_back n (Ok x) h = delimiter_byte n h.0 ∙ ap (λ (i : ℕ). i ∷ []) (sym h.1)
+read_back n (Err e) h = delimiter_none n (omega (arith, h))
+
+pub delimiter_read : {E : Type 0} {nums : List ℕ} {d : ℕ} (r : Result ℕ E) {o : Option ℕ} → length nums ≡ 50 → 1 ≤ d → d ≤ 9 → OkIff r (get_or nums (8 + d) 0 < 256) (get_or nums (8 + d) 0)
+    → o ≡ result_ok r → Delimiter nums d o
+delimiter_read {nums = nums} {d = d} r l h k f e =
     let nine = length-take-le 9 (drop 9 nums) (omega (arith, length-drop 9 nums)) in
     let z : 9 + (d - 1) ≡ 8 + d = omega arith in
     let g : get_or (take 9 (drop 9 nums)) (d - 1) 0 ≡ get_or nums (8 + d) 0 =
     get_or-take 9 (drop 9 nums) (d - 1) 0 (omega arith) ∙ get_or-drop 9 nums (d - 1) 0 ∙ ap (λ (n : ℕ). get_or nums n 0) z in
-    record { is = λ m text c bytes. map_get (take 9 (drop 9 nums)) (d - 1) (omega arith) ∙ ap delimiter_of g }
+    record {
+      is = λ m text c bytes. map_get (take 9 (drop 9 nums)) (d - 1) (omega arith) ∙ ap delimiter_of g ∙ read_back (get_or nums (8 + d) 0) r f ∙ ap delimiter_bytes (sym e);
+    }
 
 map-set_at : (ns : List ℕ) (i b : ℕ) → map delimiter_of (set ns i b) ≡ set (map delimiter_of ns) i (delimiter_of b)
 map-set_at [] i b = refl
 map-set_at (n ∷ ns) zero b = refl
 map-set_at (n ∷ ns) (suc i) b = ap (λ (x : List Bytes). delimiter_of n ∷ x) (map-set_at ns i b)
 
-pub delimits : {nums : List ℕ} {d b : ℕ} → length nums ≡ 50 → 1 ≤ d → d ≤ 9 → Delimits nums d b (set nums (8 + d) b)
+pub delimits : {nums : List ℕ} {d : ℕ} (b : ℕ) {o : Option ℕ} → length nums ≡ 50 → 1 ≤ d → d ≤ 9 → delimiter_of b ≡ delimiter_bytes o → Delimits nums d o (set nums (8 + d) b)
 unfolding with_delimiter
-delimits {nums} {d} {b} l h k =
+delimits {nums} {d} b {o} l h k w =
     let z : 8 + d ≡ 9 + (d - 1) = omega arith in
     let e : take 9 (set nums (8 + d) b) ≡ take 9 nums = take-set-le 9 nums (8 + d) b (omega arith) in
     let f : take 9 (drop 9 (set nums (8 + d) b)) ≡ set (take 9 (drop 9 nums)) (d - 1) b =
     ap (λ (n : ℕ). take 9 (drop 9 (set nums n b))) z ∙ ap (λ (x : List ℕ). take 9 x) (drop-set-add 9 nums (d - 1) b) ∙ take-set-lt 9 (drop 9 nums) (d - 1) b (omega arith) in
-    let g : map delimiter_of (take 9 (drop 9 (set nums (8 + d) b))) ≡ set (map delimiter_of (take 9 (drop 9 nums))) (d - 1) (delimiter_of b) =
-    ap (map delimiter_of) f ∙ map-set_at (take 9 (drop 9 nums)) (d - 1) b in
+    let g : map delimiter_of (take 9 (drop 9 (set nums (8 + d) b))) ≡ set (map delimiter_of (take 9 (drop 9 nums))) (d - 1) (delimiter_bytes o) =
+    ap (map delimiter_of) f ∙ map-set_at (take 9 (drop 9 nums)) (d - 1) b ∙ ap (λ (s : Bytes). set (map delimiter_of (take 9 (drop 9 nums))) (d - 1) s) w in
     let other : (q : ℕ) → 18 ≤ q → get_or (set nums (8 + d) b) q 0 ≡ get_or nums q 0 = λ q u. get_or-set_other nums (8 + d) q b 0 (λ w. omega arith) in
     record {
       frame = λ m text c bytes.

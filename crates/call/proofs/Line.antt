@@ -1,27 +1,22 @@
--- A line that is built, and the texts it is built from.
+-- A line that is built.
 use mathlib.Core.Path.{◌≡◌, sym, ap, ap₂, ◌∙◌}
-use mathlib.Core.Bool.{Bool, true, false, cond}
 use mathlib.Core.List.{◌++◌}
 use Prim.Native.Nat.{ℕ, ◌+◌, ◌-◌, ◌≤◌, ◌<◌}
 use native.Mathlib.Omega.{arith}
 use borrow.Author.Tests.{le-leb, lt-leb}
 use lib.ListN.{length, take}
 use lib.Seq.{take-paste, take-length, length-take-le}
+use Rattle.std.specs.Prelude.{Ok, Err}
+use Rattle.faults.specs.declared.RunFault.TheVariants.{LongLine}
 use Rattle.model.specs.Text.{Bytes, part}
 use Rattle.model.specs.Machine.{built, failed, add}
 use Rattle.model.proofs.Choices.{when_true, when_false}
 use Rattle.model.proofs.Text.{part_front}
 use Rattle.buffer.specs.Pasted.{Pasted}
-use Rattle.call.specs.Line.{Brings, line_step, Appends}
-
-pub brings_memory : {params memory : Bytes} {stored : Bool} {at len : ℕ} → stored ≡ true → Brings params memory stored at len (part memory at (at + len))
-brings_memory {params} {memory} {stored} {at} {len} e = record { is = ap (λ (b : Bool). part (cond b memory params) at (at + len)) (sym e) }
-
-pub brings_params : {params memory : Bytes} {stored : Bool} {at len : ℕ} → stored ≡ false → Brings params memory stored at len (part params at (at + len))
-brings_params {params} {memory} {stored} {at} {len} e = record { is = ap (λ (b : Bool). part (cond b memory params) at (at + len)) (sym e) }
+use Rattle.call.specs.Line.{line_step, Appends}
 
 module _ {line : Bytes} {n : ℕ} {s : Bytes} (h : n ≤ 200) (l : length line ≡ 200) where
-  pub appends : {line' : Bytes} → length s ≤ 200 - n → Pasted line n s (length s) line' → Appends line n s line' (record { ok = true; len = n + length s })
+  pub appends : {line' : Bytes} → length s ≤ 200 - n → Pasted line n s (length s) line' → Appends line n s line' (Ok (n + length s))
   unfolding add line_step
   appends {line'} k g =
       let e = length-take-le n line (omega arith) in
@@ -35,9 +30,9 @@ module _ {line : Bytes} {n : ℕ} {s : Bytes} (h : n ≤ 200) (l : length line �
         short = omega arith;
       }
 
-  pub too_long : 200 - n < length s → Appends line n s line (record { ok = false; len = n })
+  pub too_long : 200 - n < length s → Appends line n s line (Err LongLine)
   unfolding add line_step
   too_long k =
       let e = length-take-le n line (omega arith) in
       let q = ap (λ (x : Bytes). length x) (part_front line n) in
-      record { is = λ w. when_false (built (part line 0 n ++ s) w) (failed 12 w) (lt-leb (length (part line 0 n) + length s) 200 (omega arith)); short = h }
+      record { is = λ w. when_false (built (part line 0 n ++ s) w) (failed 12 w) (lt-leb (length (part line 0 n) + length s) 200 (omega arith)); short = tt }

@@ -1,12 +1,11 @@
 -- What an open call stands for in the expansion: its head goes by value, its numbers and bytes lie in two lent slices. Each definition is total: a length
 -- counts as at most 200, so that none asks an invariant.
-use Rattle.std.specs.Prelude.{◌≡◌, true, false, List, [], ◌∷◌, map, ℕ, zero, suc, ◌+◌, ◌*◌, ◌≤◌, ◌<◌, min, eqb, length, get_or, take, drop, replicate}
+use Rattle.std.specs.Prelude.{◌≡◌, true, false, List, [], ◌∷◌, map, ℕ, zero, suc, ◌+◌, ◌*◌, ◌≤◌, ◌<◌, min, eqb, ltb, length, get_or, take, drop, replicate}
 use Rattle.model.specs.Limits.{line_most, fuel_most}
 use Rattle.model.specs.declared.Marks.{Marks}
 use Rattle.model.specs.Text.{Bytes, part}
 use Rattle.model.specs.Load.{body_at}
 use Rattle.model.specs.Machine.{Loop, by_pieces, by_count, Frame}
-use Rattle.pass.specs.Pass.{delimiter_of}
 use Rattle.call.specs.declared.Call.{Call}
 use Rattle.call.specs.declared.Head.{Head}
 
@@ -34,10 +33,9 @@ call_bytes = 3400
 abbrev pub Sized : List ℕ → Bytes → Type 0
 Sized nums bytes = (length nums ≡ call_numbers) × (length bytes ≡ call_bytes)
 
--- r is the length n, or 200 where that is more
-pub record Capped (n r : ℕ) : Type 0 where
-  pub is : r ≡ min n line_most
-  pub short : r ≤ line_most
+-- a delimiter as bytes, from the number in its place: a number that is no byte is none
+unfoldable pub delimiter_of : ℕ → Bytes
+delimiter_of d = elim (ltb d 256) [ true ↦ d ∷ [] | false ↦ [] ]
 
 -- a text for each length, from every two hundred bytes
 unfoldable pub slots : List ℕ → Bytes → List Bytes

@@ -1,12 +1,12 @@
 -- What the functions over a call's parameters and its place answer.
-use Rattle.std.specs.Prelude.{◌≡◌, List, [], ◌∷◌, ℕ, ◌+◌, ◌-◌, ◌*◌, ◌≤◌, ◌<◌, length, get_or, set, replicate}
+use Rattle.std.specs.Prelude.{◌≡◌, List, [], ◌∷◌, ℕ, ◌+◌, ◌-◌, ◌*◌, ◌≤◌, ◌<◌, length, get_or, set, replicate, Option}
 use Rattle.model.specs.Limits.{line_most, fuel_most}
 use Rattle.model.specs.declared.Marks.{Marks}
 use Rattle.model.specs.Text.{Bytes, part}
 use Rattle.model.specs.Load.{body_at}
 use Rattle.model.specs.Machine.{Frame, param, with_param, resume_at}
 use Rattle.buffer.specs.Pasted.{Pasted}
-use Rattle.pass.specs.Pass.{delimiter_of}
+use Rattle.pass.specs.Pass.{delimiter_bytes}
 use Rattle.call.specs.declared.Call.{Call}
 use Rattle.call.specs.declared.Head.{Head}
 use Rattle.call.specs.Call.{slots, opened_of, laid, frame_of, Placed}
@@ -55,15 +55,15 @@ pub record Sets (nums : List ℕ) (bytes : Bytes) (d : ℕ) (s : Bytes) (nums' :
   pub placed : (text : Bytes) (c : Head) → Placed text (laid c nums bytes) → Placed text (laid c nums' bytes')
 
 -- r is the latest delimiter of parameter d
-pub record Delimiter (nums : List ℕ) (d r : ℕ) : Type 0 where
-  pub is : (m : Marks) (text : Bytes) (c : Head) (bytes : Bytes) → get_or (frame_of m text (laid c nums bytes)).delimiters (d - 1) [] ≡ delimiter_of r
+pub record Delimiter (nums : List ℕ) (d : ℕ) (r : Option ℕ) : Type 0 where
+  pub is : (m : Marks) (text : Bytes) (c : Head) (bytes : Bytes) → get_or (frame_of m text (laid c nums bytes)).delimiters (d - 1) [] ≡ delimiter_bytes r
 
 -- the call with another latest delimiter of parameter d
 unfoldable pub with_delimiter : Frame → ℕ → Bytes → Frame
 with_delimiter f d b = record { number = f.number; params = f.params; delimiters = set f.delimiters (d - 1) b; next = f.next; loops = f.loops }
 
-pub record Delimits (nums : List ℕ) (d b : ℕ) (nums' : List ℕ) : Type 0 where
-  pub frame : (m : Marks) (text : Bytes) (c : Head) (bytes : Bytes) → frame_of m text (laid c nums' bytes) ≡ with_delimiter (frame_of m text (laid c nums bytes)) d (delimiter_of b)
+pub record Delimits (nums : List ℕ) (d : ℕ) (b : Option ℕ) (nums' : List ℕ) : Type 0 where
+  pub frame : (m : Marks) (text : Bytes) (c : Head) (bytes : Bytes) → frame_of m text (laid c nums' bytes) ≡ with_delimiter (frame_of m text (laid c nums bytes)) d (delimiter_bytes b)
   pub placed : (text : Bytes) (c : Head) (bytes : Bytes) → Placed text (laid c nums bytes) → Placed text (laid c nums' bytes)
 
 -- r is c, at place `next`

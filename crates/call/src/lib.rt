@@ -1,7 +1,7 @@
 // An open call, and the line that its code builds (document 01, "A call's code"). A call is opened by value. While its body runs, its
 // numbers and bytes lie in two lent slices.
 //   numbers  0 to 8    the parameters' lengths
-//            9 to 17   their latest delimiters, 256 where there is none
+//            9 to 17   their latest delimiters, more than a byte where there is none
 //            18 on     eight for each of four iterations; `iterate` says which
 //   bytes    0 on      200 for each parameter
 //            1800 on   400 for each iteration: the line that an ed7 goes over, and from offset 200 on the parameter's old value
@@ -10,16 +10,17 @@
 // say is free: a length counts as at most 200.
 #![tactic(auto)]
 
-ghost use Rattle.std.specs.Prelude.{cond, ◌≡◌, ◌+◌, ◌≤◌, length};
+ghost use Rattle.std.specs.Prelude.{◌≡◌, ◌+◌, ◌≤◌, length};
 ghost use Rattle.model.specs.Text.{part};
-ghost use Rattle.call.specs.Call.{Capped, Sized, param_bytes, call_numbers, call_bytes};
+ghost use Rattle.pass.specs.Pass.{delimiter_bytes};
+ghost use Rattle.call.specs.Call.{delimiter_of, Sized, param_bytes, call_numbers, call_bytes};
 ghost use Rattle.call.specs.Params.{PieceInside, Copies, PiecesInside, CopiesAll, Opens, Lays, Lies, Sets, Delimiter, Delimits, Moves};
-ghost use Rattle.call.specs.Line.{Brings, Appends, HasBuilt};
+ghost use Rattle.call.specs.Line.{Appends, HasBuilt};
 ghost use Rattle.model.specs.Limits.{line_most};
 
 use buffer::{copy, shift};
+use faults::RunFault;
 use model::LINE_MOST;
-use pass::NO_DELIMITER;
 
 // The bytes of nine parameters.
 pub const PARAM_BYTES: usize = 1800;
@@ -29,6 +30,9 @@ pub const LOOP_BYTES: usize = 400;
 
 // Where the latest delimiters stand among the numbers, and the iterations, each of which has so many.
 const DELIMITERS: usize = 9;
+
+// In place of a delimiter: none.
+const NO_DELIMITER: usize = 256;
 
 pub const LOOPS: usize = 18;
 
@@ -60,20 +64,6 @@ pub struct Head {
     pub depth: usize,
 }
 
-// The length of a line after a part was appended, unless that would pass 200 bytes.
-#[derive(Clone, Copy)]
-pub struct Appended {
-    pub ok: bool,
-    pub len: usize,
-}
-
-// A length, at most 200.
-fn cap(n: usize) -> usize
-    ensures { Capped n result }
-{
-    if n <= LINE_MOST { n } else { LINE_MOST }
-}
-
 // A piece of a line is copied to offset `to` of the bytes.
 fn copy_piece(line: &[u8], at: usize, len: usize, bytes: &mut [u8], to: usize)
     requires piece_inside { PieceInside line.now at len }
@@ -90,10 +80,8 @@ fn copy_pieces(line: &[u8], starts: [usize; 9], lens: [usize; 9], bytes: &mut [u
     requires bytes_len { length bytes.old ≡ param_bytes }
     ensures { CopiesAll line.now starts lens bytes.new }
 {
-    let mut i = 0;
-    while i < 9 {
+    for i in 0..9 {
         copy_piece(line, starts[i], lens[i], bytes, LINE_MOST * i);
-        i += 1;
     }
 }
 
@@ -123,15 +111,9 @@ pub fn lay_out(c: Call, nums: &mut [usize], params: &mut [u8]) -> Head
     requires { Sized nums.old params.old }
     ensures { Lays c result nums.new params.new }
 {
-    let bytes = c.bytes;
-    let lens = c.lens;
-    copy(params, 0, &bytes);
-    let mut i = 0;
-    while i < 9 {
-        nums[i] = lens[i];
-        nums[DELIMITERS + i] = NO_DELIMITER;
-        i += 1;
-    }
+    copy(params, 0, &c.bytes);
+    nums[..DELIMITERS].copy_from_slice(&c.lens);
+    nums[DELIMITERS..LOOPS].fill(NO_DELIMITER);
     Head {
         number: c.number,
         next: c.next,
@@ -144,7 +126,7 @@ pub fn param_len(nums: &[usize], d: usize) -> usize
     requires { (1 ≤ d) × (d ≤ 9) × (length nums.now ≡ call_numbers) }
     ensures { Lies nums.now d result }
 {
-    cap(nums[d - 1])
+    nums[d - 1].min(LINE_MOST)
 }
 
 // Parameter d becomes a part.
@@ -169,63 +151,47 @@ pub fn regain(nums: &mut [usize], params: &mut [u8], d: usize, at: usize, n: usi
     nums[i] = n;
 }
 
-// The latest delimiter of parameter d; 256 or more is none.
-pub fn latest_delimiter(nums: &[usize], d: usize) -> usize
+// The latest delimiter of parameter d.
+pub fn latest_delimiter(nums: &[usize], d: usize) -> Option<u8>
     requires { (1 ≤ d) × (d ≤ 9) × (length nums.now ≡ call_numbers) }
     ensures { Delimiter nums.now d result }
 {
-    nums[8 + d]
+    u8::try_from(nums[8 + d]).ok()
+}
+
+// The number that stands for a delimiter.
+fn write_down(delimiter: Option<u8>) -> usize
+    ensures { delimiter_of result ≡ delimiter_bytes delimiter }
+{
+    match delimiter {
+        Some(b) => usize::from(b),
+        None => NO_DELIMITER,
+    }
 }
 
 // It becomes another.
-pub fn set_delimiter(nums: &mut [usize], d: usize, delimiter: usize)
+pub fn set_delimiter(nums: &mut [usize], d: usize, delimiter: Option<u8>)
     requires { (1 ≤ d) × (d ≤ 9) × (length nums.old ≡ call_numbers) }
     ensures { Delimits nums.old d delimiter nums.new }
 {
-    nums[8 + d] = delimiter;
+    nums[8 + d] = write_down(delimiter);
 }
 
 // The call goes on at another code line.
 pub fn move_to(c: Head, next: usize) -> Head
     ensures { Moves c next result }
 {
-    Head {
-        number: c.number,
-        next,
-        depth: c.depth,
-    }
-}
-
-// A part of the parameters' bytes, or of memory's.
-pub fn bring<'a>(
-    params: &'a [u8],
-    memory: &'a [u8],
-    stored: bool,
-    at: usize,
-    len: usize,
-) -> &'a [u8]
-    requires { at + len ≤ length (cond stored memory.now params.now) }
-    ensures { Brings params.now memory.now stored at len result.now }
-{
-    if stored {
-        let end = at + len;
-        return &memory[at..end];
-    }
-    let end = at + len;
-    &params[at..end]
+    Head { next, ..c }
 }
 
 // A part comes at the end of a line that is built, of which n bytes are there.
-pub fn append(line: &mut [u8], n: usize, part: &[u8]) -> Appended
+pub fn append(line: &mut [u8], n: usize, part: &[u8]) -> Result<usize, RunFault>
     requires { HasBuilt line.old n }
     ensures { Appends line.old n part.now line.new result }
 {
     if LINE_MOST - n < part.len() {
-        return Appended { ok: false, len: n };
+        return Err(RunFault::LongLine);
     }
     copy(line, n, part);
-    Appended {
-        ok: true,
-        len: n + part.len(),
-    }
+    Ok(n + part.len())
 }
