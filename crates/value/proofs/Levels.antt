@@ -23,33 +23,30 @@ use Rattle.model.specs.Store.{Store}
 use Rattle.model.specs.Value.{value_fault, Read, and_then, giving, is_mark, closing, expression, sum, product, factors, operand, whole, value_of}
 use Rattle.store.specs.Memory.{held}
 use Rattle.store.specs.declared.Index.{Index}
-use Rattle.number.specs.Number.{width, end, step_value, Gives, number_of}
-use Rattle.number.specs.declared.Valued.{Valued}
-use Rattle.number.specs.declared.Valued.TheVariants.{Number, Fault}
+use Rattle.std.specs.Prelude.{Some, None}
+use Rattle.number.specs.Number.{width, end, step_value, Gives, Valued, number_of}
 use Rattle.number.specs.declared.Step.{Step}
 use Rattle.number.specs.declared.Step.TheVariants.{First, Negated, Plus, Minus, Times, Divide}
 use Rattle.number.proofs.Signed.{told_in}
 use Rattle.value.specs.declared.Join.{Join}
 use Rattle.value.specs.declared.Join.TheVariants.{Go, Done}
-use Rattle.value.specs.declared.Lead.{Lead}
-use Rattle.value.specs.declared.Lead.TheVariants.{Digits, Bracket, Name, Nothing}
+use Rattle.value.specs.declared.Lead.TheVariants.{Digits, Bracket, Name}
 use Rattle.value.specs.declared.Parsed.{Parsed}
-use Rattle.value.specs.declared.Parsed.TheVariants.{Value, Failed}
-use Rattle.value.specs.Place.{start_at, join_at, sum_at, factor_at, place_of, Joins, lead_at, Leads, closed_at}
+use Rattle.value.specs.Place.{start_at, join_at, sum_at, factor_at, place_of, Joins, Leading, lead_at, Leads, Parsing, closed_at}
 use Rattle.value.specs.Reads.{read_of, EndsWithin, ReadsValue, ReadsAbove, Values, numeral_at, name_at}
-use Rattle.value.proofs.Operands.{reads_above}
+use Rattle.value.proofs.Operands.{reads_above, whole_failed}
 
 -- ---- where values end
 
-pub ended_at : {r : Parsed} {μ lo : ℕ} {s : List ℕ} {F : ℕ → Read} {v : ℤ} {e : ℕ} → r ≡ Value v e → ReadsAbove μ lo s r F → (lo ≤ e) × (e ≤ length s)
+pub ended_at : {r : Parsing} {μ lo : ℕ} {s : List ℕ} {F : ℕ → Read} {p : Parsed} → r ≡ Some p → ReadsAbove μ lo s r F → (lo ≤ p.end) × (p.end ≤ length s)
 ended_at q c = rw q at c.ends
 
-pub ended_before : {r : Parsed} {μ lo : ℕ} {s : List ℕ} {F : ℕ → Read} {v : ℤ} {e : ℕ} → r ≡ Value v e → ReadsAbove μ lo s r F → e ≤ length s
+pub ended_before : {r : Parsing} {μ lo : ℕ} {s : List ℕ} {F : ℕ → Read} {p : Parsed} → r ≡ Some p → ReadsAbove μ lo s r F → p.end ≤ length s
 ended_before q c = (ended_at q c).1
 
-wider : (r : Parsed) (lo lo' hi : ℕ) → lo ≤ lo' → EndsWithin lo' hi r → EndsWithin lo hi r
-wider (Value v e) lo lo' hi l w = (le_trans l w.0, w.1)
-wider Failed lo lo' hi l w = tt
+wider : (r : Parsing) (lo lo' hi : ℕ) → lo ≤ lo' → EndsWithin lo' hi r → EndsWithin lo hi r
+wider (Some p) lo lo' hi l w = (le_trans l w.0, w.1)
+wider None lo lo' hi l w = tt
 
 pub placed : {j : Join} {k : Step} {at : ℕ} → j ≡ Go k at → place_of j ≡ at
 placed q = rw q
@@ -91,45 +88,45 @@ pub record Level (s : List ℕ) : Type 0 where
   pub on : (n : ℕ) (a : ℤ) (e : ℕ) → h n a (drop e s) ≡ joined g h s n a (more e)
 
 -- r comes of the value a and the join j
-abbrev pub From : {s : List ℕ} → Level s → Parsed → ℤ → Join → Type 0
+abbrev pub From : {s : List ℕ} → Level s → Parsing → ℤ → Join → Type 0
 From {s} L r a j = ReadsAbove (3 * (length s - place_of j) + L.d) (least_of j) s r (λ n. joined L.g L.h s n a j)
 
 -- r comes of the level below at `at`
-abbrev pub Below : {s : List ℕ} → Level s → Parsed → ℕ → Type 0
+abbrev pub Below : {s : List ℕ} → Level s → Parsing → ℕ → Type 0
 Below {s} L r at = ReadsAbove (3 * (length s - at) + L.d') (at + 1) s r (λ n. L.g n (drop at s))
 
 module _ {s : List ℕ} (L : Level s) (a : ℤ) {j : Join} where
   open L use {d, d', g, h, more, down, on}
 
-  pub done : {at : ℕ} → j ≡ Done at → place_of j ≤ length s → From L (Value a at) a j
+  pub done : {at : ℕ} → j ≡ Done at → place_of j ≤ length s → From L (Some (record { value = a; end = at })) a j
   done {at} q l = rw q (reads_above
       (from_suc (λ n. joined g h s n a (Done at)) (some (a, drop at s)) (3 * (length s - at) + d) (λ n _. refl))
       (le_refl _, rw q at l))
 
-  module _ {k : Step} {at : ℕ} (q : j ≡ Go k at) {r : Parsed} (b : Below L r at) where
-    pub fails : r ≡ Failed → From L Failed a j
+  module _ {k : Step} {at : ℕ} (q : j ≡ Go k at) {r : Parsing} (b : Below L r at) where
+    pub fails : r ≡ None → From L None a j
     unfolding and_then
     fails e = rw q (reads_above (from_suc (λ n. joined g h s n a (Go k at)) none (3 * (length s - at) + d) (λ n l. sym (rw (← b.is n (omega arith), e)))) tt)
 
     -- x is what `apply` gives of a value that is read back from its bits
-    module _ {v : ℤ} {e : ℕ} (w : r ≡ Value v e) (in-v : mag v < end) {x : Valued} (made : Gives x (step_value k a (to_z width (of_z width v)))) where
-      step_is : number_of x ≡ step_value k a v
-      step_is = rw (told_in v in-v) at made.is
+    module _ {p : Parsed} (w : r ≡ Some p) (in-v : mag p.value < end) {x : Valued} (made : Gives x (step_value k a (to_z width (of_z width p.value)))) where
+      step_is : number_of x ≡ step_value k a p.value
+      step_is = rw (told_in p.value in-v) at made.is
 
-      pub faults : x ≡ Fault → From L Failed a j
+      pub faults : x ≡ None → From L None a j
       unfolding and_then giving
-      faults p =
-          let f : none ≡ step_value k a v = rw p at step_is in
+      faults c =
+          let f : none ≡ step_value k a p.value = rw c at step_is in
           rw q (reads_above (from_suc (λ n. joined g h s n a (Go k at)) none (3 * (length s - at) + d) (λ n l. sym (rw (← b.is n (omega arith), w, ← f)))) tt)
 
-      pub goes_on : {z : ℤ} → x ≡ Number z → mag z < end → {j' : Join} → Joins s e j' (more e) → {r' : Parsed} → From L r' (to_z width (of_z width z)) j' → From L r' a j
+      pub goes_on : {z : ℤ} → x ≡ Some z → mag z < end → {j' : Join} → Joins s p.end j' (more p.end) → {r' : Parsing} → From L r' (to_z width (of_z width z)) j' → From L r' a j
       unfolding and_then giving
-      goes_on {z} p in-z {j'} u {r'} c =
+      goes_on {z} i in-z {j'} u {r'} c =
           let past = ended_at w b in
-          let f : some z ≡ step_value k a v = rw p at step_is in
+          let f : some z ≡ step_value k a p.value = rw i at step_is in
           rw q (reads_above
           (from_suc (λ n. joined g h s n a (Go k at)) (read_of s r') (3 * (length s - at) + d)
-          (λ n l. rw (told_in z in-z) at (c.is n (omega (arith, u.from, u.upto))) ∙ ap (joined g h s n z) u.is ∙ sym (on n z e) ∙ sym (rw (← b.is n (omega arith), w, ← f))))
+          (λ n l. rw (told_in z in-z) at (c.is n (omega (arith, u.from, u.upto))) ∙ ap (joined g h s n z) u.is ∙ sym (on n z p.end) ∙ sym (rw (← b.is n (omega arith), w, ← f))))
           (wider r' (at + 1) (least_of j') (length s) (omega (arith, place-least j', u.from)) c.ends))
 
 -- The invariant of both loops: what comes of the join j with the value so far comes of F, the whole from `at` on. s is the text, and L
@@ -137,26 +134,26 @@ module _ {s : List ℕ} (L : Level s) (a : ℤ) {j : Join} where
 pub record Going {s : List ℕ} (L : Level s) (μ lo : ℕ) (F : ℕ → Read) (at : ℕ) (so_far : ℤ) (j : Join) : Type 0 where
   pub from : at ≤ place_of j
   pub upto : place_of j ≤ length s
-  pub gives : (r : Parsed) → From L r so_far j → ReadsAbove μ lo s r F
+  pub gives : (r : Parsing) → From L r so_far j → ReadsAbove μ lo s r F
 
 module _ {s : List ℕ} {L : Level s} {μ lo : ℕ} {F : ℕ → Read} {at : ℕ} {so_far : ℤ} {j : Join} (going : Going L μ lo F at so_far j) where
-  pub going_done : {e : ℕ} → j ≡ Done e → ReadsAbove μ lo s (Value so_far e) F
+  pub going_done : {e : ℕ} → j ≡ Done e → ReadsAbove μ lo s (Some (record { value = so_far; end = e })) F
   going_done q = going.gives _ (done L so_far q going.upto)
 
-  module _ {k : Step} {p : ℕ} (q : j ≡ Go k p) {r : Parsed} (b : Below L r p) where
-    pub going_fails : r ≡ Failed → ReadsAbove μ lo s Failed F
+  module _ {k : Step} {p : ℕ} (q : j ≡ Go k p) {r : Parsing} (b : Below L r p) where
+    pub going_fails : r ≡ None → ReadsAbove μ lo s None F
     going_fails e = going.gives _ (fails L so_far q b e)
 
-    module _ {v : ℤ} {e : ℕ} (w : r ≡ Value v e) where
-      pub going_faults : mag v < end → {x : Valued} → Gives x (step_value k so_far (to_z width (of_z width v))) → x ≡ Fault → ReadsAbove μ lo s Failed F
+    module _ {v : Parsed} (w : r ≡ Some v) where
+      pub going_faults : mag v.value < end → {x : Valued} → Gives x (step_value k so_far (to_z width (of_z width v.value))) → x ≡ None → ReadsAbove μ lo s None F
       going_faults in-v made p = going.gives _ (faults L so_far q b w in-v made p)
 
       -- a turn goes forward
-      module _ {j' : Join} (u : Joins s e j' (L.more e)) where
+      module _ {j' : Join} (u : Joins s v.end j' (L.more v.end)) where
         pub going_less : length s - place_of j' < length s - place_of j
         going_less = omega (arith, placed q, ended_at w b, u.from, u.upto)
 
-        pub going_on : mag v < end → {x : Valued} → Gives x (step_value k so_far (to_z width (of_z width v))) → {z : ℤ} → x ≡ Number z → mag z < end → Going L μ lo F at (to_z width (of_z width z)) j'
+        pub going_on : mag v.value < end → {x : Valued} → Gives x (step_value k so_far (to_z width (of_z width v.value))) → {z : ℤ} → x ≡ Some z → mag z < end → Going L μ lo F at (to_z width (of_z width z)) j'
         going_on in-v made p in-z = record {
           from = omega (arith, going.from, placed q, ended_at w b, u.from);
           upto = u.upto;
@@ -165,14 +162,14 @@ module _ {s : List ℕ} {L : Level s} {μ lo : ℕ} {F : ℕ → Read} {at : ℕ
 
 -- ---- what is known of the text at an operand
 
-module _ {m : Marks} {s : List ℕ} {at : ℕ} {l o : Lead} (lead : Leads m s at l o) where
-  pub at_digits : l ≡ Digits → (at < length s) × (is_digit (get_or s at 0) ≡ true)
+module _ {m : Marks} {s : List ℕ} {at : ℕ} {l o : Leading} (lead : Leads m s at l o) where
+  pub at_digits : l ≡ Some Digits → (at < length s) × (is_digit (get_or s at 0) ≡ true)
   at_digits q = rw q at lead.to
 
-  pub at_name : l ≡ Name → (at < length s) × (is_mark m (get_or s at 0) ≡ false)
+  pub at_name : l ≡ Some Name → (at < length s) × (is_mark m (get_or s at 0) ≡ false)
   at_name q = rw q at lead.to
 
-  pub inside : {i : ℕ} → l ≡ Bracket i → (i ≡ at + 1) × (i ≤ length s)
+  pub inside : {i : ℕ} → l ≡ Some (Bracket i) → (i ≡ at + 1) × (i ≤ length s)
   inside q = rw q at lead.to
 
 -- ---- the definitions, by the tests that the code makes
@@ -264,7 +261,7 @@ module _ (m : Marks) (st : Store) (s : List ℕ) where
 
   -- ---- an expression and a product from their starts
 
-  abbrev pub Whole : Parsed → ℕ → Type 0
+  abbrev pub Whole : Parsing → ℕ → Type 0
   Whole r at = ReadsAbove (3 * (length s - at) + 3) at s r (λ n. expression n m st (drop at s))
 
   abbrev pub Summing : ℕ → ℤ → Join → Type 0
@@ -291,67 +288,79 @@ module _ (m : Marks) (st : Store) (s : List ℕ) where
 
   -- ---- an operand
 
-  led : ℕ → ℕ → Lead → Read
-  led n at Digits = numeral_at (drop at s)
-  led n at (Bracket i) = and_then (expression n m st (drop i s)) (λ v r. closing m v r)
-  led n at Name = name_at m st (drop at s)
-  led n at Nothing = none
+  led : ℕ → ℕ → Leading → Read
+  led n at (Some Digits) = numeral_at (drop at s)
+  led n at (Some (Bracket i)) = and_then (expression n m st (drop i s)) (λ v r. closing m v r)
+  led n at (Some Name) = name_at m st (drop at s)
+  led n at None = none
 
-  closed-reads : (v : Parsed) → read_of s (closed_at m s v) ≡ and_then (read_of s v) (λ z r. closing m z r)
-  unfolding closed_at closing and_then
-  closed-reads Failed = refl
-  closed-reads (Value z e) =
-      sym (by_place (closing m z) (read_of s) s e _ Failed
-      (λ first. by_test (read_of s) (eqb (get_or s e 0) m.right) _ _ (Value z (e + 1)) Failed (ap (λ l. some (z, l)) (past s e)) refl)
+  closed-reads : (p : Parsed) → read_of s (closed_at m s p) ≡ closing m p.value (drop p.end s)
+  unfolding closed_at closing
+  closed-reads p =
+      sym (by_place (closing m p.value) (read_of s) s p.end _ None
+      (λ first. by_test (read_of s) (eqb (get_or s p.end 0) m.right) _ _ (Some (record p { end = p.end + 1 })) None (ap (λ l. some (p.value, l)) (past s p.end)) refl)
       (λ end. refl))
 
-  closed-within : (lo : ℕ) (r : Parsed) → EndsWithin lo (length s) r → EndsWithin lo (length s) (closed_at m s r)
+  closed-within : (lo : ℕ) (p : Parsed) → lo ≤ p.end → EndsWithin lo (length s) (closed_at m s p)
   unfolding closed_at
-  closed-within lo (Value v e) w = go (ltb e (length s)) refl (eqb (get_or s e 0) m.right)
+  closed-within lo p w = go (ltb p.end (length s)) refl (eqb (get_or s p.end 0) m.right)
     where
-      go : (t : Bool) → ltb e (length s) ≡ t → (u : Bool) → EndsWithin lo (length s) (cond t (cond u (Value v (e + 1)) Failed) Failed)
-      go true q true = omega (arith, ltb-true e (length s) q, w.0)
+      go : (t : Bool) → ltb p.end (length s) ≡ t → (u : Bool) → EndsWithin lo (length s) (cond t (cond u (Some (record p { end = p.end + 1 })) None) None)
+      go true q true = omega (arith, ltb-true p.end (length s) q, w)
       go true q false = tt
       go false q u = tt
-  closed-within lo Failed w = tt
 
   operand_starts : (n at : ℕ) → operand (suc n) m st (drop at s) ≡ led n at (lead_at m s at)
   unfolding operand lead_at led
   operand_starts n at =
-      by_place (operand (suc n) m st) (led n at) s at _ Nothing
+      by_place (operand (suc n) m st) (led n at) s at _ None
       (λ first.
-      by_test (led n at) (is_digit (get_or s at 0)) _ _ Digits _ (ap numeral_at (sym first))
-      (by_test (led n at) (eqb (get_or s at 0) m.left) _ _ (Bracket (at + 1)) _ (ap (λ l. and_then (expression n m st l) (λ v r. closing m v r)) (past s at))
-      (by_test (led n at) (is_mark m (get_or s at 0)) _ _ Nothing Name refl (ap (name_at m st) (sym first)))))
+      by_test (led n at) (is_digit (get_or s at 0)) _ _ (Some Digits) _ (ap numeral_at (sym first))
+      (by_test (led n at) (eqb (get_or s at 0) m.left) _ _ (Some (Bracket (at + 1))) _ (ap (λ l. and_then (expression n m st l) (λ v r. closing m v r)) (past s at))
+      (by_test (led n at) (is_mark m (get_or s at 0)) _ _ None (Some Name) refl (ap (name_at m st) (sym first)))))
       (λ end. refl)
 
-  module _ {at : ℕ} {l : Lead} (lead : Leads m s at l (lead_at m s at)) where
-    by_lead : {o : Lead} → l ≡ o → (n : ℕ) → operand (suc n) m st (drop at s) ≡ led n at o
+  module _ {at : ℕ} {l : Leading} (lead : Leads m s at l (lead_at m s at)) where
+    by_lead : {o : Leading} → l ≡ o → (n : ℕ) → operand (suc n) m st (drop at s) ≡ led n at o
     by_lead q n = operand_starts n at ∙ ap (led n at) (sym lead.is ∙ q)
 
-    pub nothing : l ≡ Nothing → Below product_level Failed at
+    pub nothing : l ≡ None → Below product_level None at
     unfolding led
     nothing q = reads_above (from_suc (λ n. operand n m st (drop at s)) none (3 * (length s - at) + 1) (λ n h. sym (by_lead q n))) tt
 
-    pub digits_read : l ≡ Digits → {r : Parsed} → ReadsValue s (at + 1) r (numeral_at (drop at s)) → Below product_level r at
+    pub digits_read : l ≡ Some Digits → {r : Parsing} → ReadsValue s (at + 1) r (numeral_at (drop at s)) → Below product_level r at
     unfolding led
     digits_read q {r} x = reads_above (from_suc (λ n. operand n m st (drop at s)) (read_of s r) (3 * (length s - at) + 1) (λ n h. x.is ∙ sym (by_lead q n))) x.ends
 
-    pub name_read : l ≡ Name → {r : Parsed} → ReadsValue s (at + 1) r (name_at m st (drop at s)) → Below product_level r at
+    pub name_read : l ≡ Some Name → {r : Parsing} → ReadsValue s (at + 1) r (name_at m st (drop at s)) → Below product_level r at
     unfolding led
     name_read q {r} x = reads_above (from_suc (λ n. operand n m st (drop at s)) (read_of s r) (3 * (length s - at) + 1) (λ n h. x.is ∙ sym (by_lead q n))) x.ends
 
-    pub bracketed : {i : ℕ} → l ≡ Bracket i → {r : Parsed} → Whole r i → {r' : Parsed} → r' ≡ closed_at m s r → Below product_level r' at
-    unfolding led
-    bracketed {i} q {r} c {r'} u = reads_above
-        (from_suc (λ n. operand n m st (drop at s)) (read_of s r') (3 * (length s - at) + 1)
-        (λ n b. ap (read_of s) u ∙ closed-reads r ∙ ap (λ x. and_then x (λ v t. closing m v t)) (c.is n (omega (arith, inside lead q))) ∙ sym (by_lead q n)))
-        (rw u (closed-within (at + 1) r (wider r (at + 1) i (length s) (omega (arith, inside lead q)) c.ends)))
+    module _ {i : ℕ} (q : l ≡ Some (Bracket i)) {r : Parsing} (c : Whole r i) where
+      pub unread : r ≡ None → Below product_level None at
+      unfolding led and_then
+      unread w = reads_above
+          (from_suc (λ n. operand n m st (drop at s)) none (3 * (length s - at) + 1)
+          (λ n b. sym (by_lead q n ∙ ap (λ x. and_then x (λ v t. closing m v t)) (sym (rw w at c.is n (omega (arith, inside lead q)))))))
+          tt
+
+      pub bracketed : {p : Parsed} → r ≡ Some p → {r' : Parsing} → r' ≡ closed_at m s p → Below product_level r' at
+      unfolding led and_then
+      bracketed {p} w {r'} u = reads_above
+          (from_suc (λ n. operand n m st (drop at s)) (read_of s r') (3 * (length s - at) + 1)
+          (λ n b. ap (read_of s) u ∙ closed-reads p ∙ sym (by_lead q n ∙ ap (λ x. and_then x (λ v t. closing m v t)) (sym (rw w at c.is n (omega (arith, inside lead q)))))))
+          (rw u (closed-within (at + 1) p (omega (arith, inside lead q, ended_at w c))))
 
 -- ---- the text whole
 
-pub valued : {m : Marks} {memory : List ℕ} {x : Index} {s : List ℕ} {v : Parsed} → Whole m (held x.count memory) s v 0 → {r : Valued} → Gives r (whole (read_of s v)) → Values m memory x s r
+pub valued : {m : Marks} {memory : List ℕ} {x : Index} {s : List ℕ} {v : Parsing} → Whole m (held x.count memory) s v 0 → {r : Valued} → Gives r (whole (read_of s v)) → Values m memory x s r
 unfolding value_of
 valued {s = s} c g =
     let e = ap whole (c.is (5 * (length s + 1)) (omega arith)) in
     record { is = sym (g.is ∙ e); number = g.number ∙ ap value_fault e; fits = g.fits }
+
+pub no-value : {m : Marks} {memory : List ℕ} {x : Index} {s : List ℕ} {v : Parsing} → Whole m (held x.count memory) s v 0 → v ≡ None → Values m memory x s None
+no-value {s = s} c q = valued c (whole_failed s q)
+
+pub value_read : {m : Marks} {memory : List ℕ} {x : Index} {s : List ℕ} {v : Parsing} {p : Parsed} → Whole m (held x.count memory) s v 0 → v ≡ Some p → {r : Valued} → Gives r (whole (read_of s (Some p))) → Values m memory x s r
+value_read c q g = valued c (rw q g)

@@ -1,11 +1,10 @@
 -- Names in a text: bytes that are no marks, and the loop that looks for their end.
 use mathlib.Core.Path.{◌≡◌, refl, sym, ap, ◌∙◌}
-use mathlib.Core.Bool.{Bool, true, false, cond, not, ◌||◌}
+use mathlib.Core.Bool.{Bool, true, false, cond, ◌||◌}
 use mathlib.Core.List.{List, [], ◌∷◌}
 use Prim.Native.Nat.{ℕ, suc, ◌+◌, ◌-◌, ◌≤◌, ◌<◌}
 use native.Mathlib.Numerals.{add-one}
 use native.Mathlib.Omega.{arith}
-use borrow.Author.Tests.{not-true, not-false}
 use lib.Dec.{eqb}
 use lib.ListN.{length, get_or, take, drop}
 use lib.Seq.{drop-cons, drop-length, drop-drop}
@@ -14,13 +13,10 @@ use Rattle.model.specs.Text.{has, part}
 use Rattle.model.specs.Store.{find}
 use Rattle.model.specs.Value.{is_mark, name_of, of_stored, stored_number}
 use Rattle.store.specs.Memory.{held}
-use Rattle.store.specs.Seek.{SeeksName}
+use Rattle.store.specs.Seek.{Found, SeeksName}
 use Rattle.store.specs.declared.Index.{Index}
-use Rattle.store.specs.declared.Seen.{Seen}
-use Rattle.store.proofs.Callers.{there_some, there_none}
-use Rattle.number.specs.Number.{Gives}
-use Rattle.number.specs.declared.Valued.{Valued}
-use Rattle.number.specs.declared.Valued.TheVariants.{Fault}
+use Rattle.std.specs.Prelude.{Some, None}
+use Rattle.number.specs.Number.{Gives, Valued}
 use Rattle.number.proofs.Signed.{gives_value}
 use Rattle.value.specs.Place.{name_length, EndsName}
 
@@ -115,14 +111,11 @@ module _ {m : Marks} {s : List ℕ} {at e : ℕ} (n : EndsName m s at e) where
 
 -- ---- the text stored under it
 
-module _ {memory : List ℕ} {x : Index} {name : List ℕ} {r : Seen} (m : Marks) (s : SeeksName memory x name r) where
-  pub not-stored : not r.there ≡ true → Gives Fault (of_stored m (find name (held x.count memory)))
+module _ {memory : List ℕ} {x : Index} {name : List ℕ} {r : Found} (m : Marks) (s : SeeksName memory x name r) where
+  pub not-stored : r ≡ None → Gives None (of_stored m (find name (held x.count memory)))
   unfolding of_stored
-  not-stored e = gives_value (rw (there_none _ (sym s.there ∙ not-true _ e))) tt
+  not-stored e = gives_value (rw (← s.is, e)) tt
 
-  by-text : not r.there ≡ false → of_stored m (find name (held x.count memory)) ≡ stored_number m (part memory r.at (r.at + r.len))
+  pub stored_value : {t : List ℕ} → r ≡ Some t → {v : Valued} → Gives v (stored_number m t) → Gives v (of_stored m (find name (held x.count memory)))
   unfolding of_stored
-  by-text e = ap (of_stored m) (there_some _ (sym s.there ∙ not-false _ e)) ∙ ap (stored_number m) (sym s.text)
-
-  pub stored_value : not r.there ≡ false → {v : Valued} → Gives v (stored_number m (part memory r.at (r.at + r.len))) → Gives v (of_stored m (find name (held x.count memory)))
-  stored_value e g = rw (by-text e) g
+  stored_value e g = rw (← s.is, e) g

@@ -1,18 +1,15 @@
 -- What stands at an offset of a text: the tests that the code makes, in its order.
-use Rattle.std.specs.Prelude.{◌≡◌, true, false, cond, List, [], ◌∷◌, ℕ, suc, ◌+◌, ◌≤◌, ◌<◌, ltb, eqb, length, get_or, drop}
+use Rattle.std.specs.Prelude.{◌≡◌, true, false, cond, List, [], ◌∷◌, ℕ, suc, ◌+◌, ◌≤◌, ◌<◌, ltb, eqb, length, get_or, drop, Option as Answered, Some, None}
 use Rattle.model.specs.declared.Marks.{Marks}
 use Rattle.model.specs.Text.{is_digit}
 use Rattle.model.specs.Value.{is_mark}
-use Rattle.number.specs.declared.Valued.{Valued}
-use Rattle.number.specs.declared.Valued.TheVariants.{Number, Fault}
 use Rattle.number.specs.declared.Step.{Step}
 use Rattle.number.specs.declared.Step.TheVariants.{First, Negated, Plus, Minus, Times, Divide}
 use Rattle.value.specs.declared.Join.{Join}
 use Rattle.value.specs.declared.Join.TheVariants.{Go, Done}
 use Rattle.value.specs.declared.Lead.{Lead}
-use Rattle.value.specs.declared.Lead.TheVariants.{Digits, Bracket, Name, Nothing}
+use Rattle.value.specs.declared.Lead.TheVariants.{Digits, Bracket, Name}
 use Rattle.value.specs.declared.Parsed.{Parsed}
-use Rattle.value.specs.declared.Parsed.TheVariants.{Value, Failed}
 
 -- how an expression begins: it is empty, or has a sign, or its first product stands there
 unfoldable pub start_at : Marks → List ℕ → ℕ → Join
@@ -47,23 +44,26 @@ pub record Joins (s : List ℕ) (at : ℕ) (r j : Join) : Type 0 where
   pub from : at ≤ place_of r
   pub upto : place_of r ≤ length s
 
--- what an operand begins with
-unfoldable pub lead_at : Marks → List ℕ → ℕ → Lead
+-- what an operand begins with, or none
+abbrev pub Leading : Type 0
+Leading = Answered Lead
+
+unfoldable pub lead_at : Marks → List ℕ → ℕ → Leading
 lead_at m s at =
     cond (ltb at (length s))
-    (cond (is_digit (get_or s at 0)) Digits
-    (cond (eqb (get_or s at 0) m.left) (Bracket (at + 1))
-    (cond (is_mark m (get_or s at 0)) Nothing Name)))
-    Nothing
+    (cond (is_digit (get_or s at 0)) (Some Digits)
+    (cond (eqb (get_or s at 0) m.left) (Some (Bracket (at + 1)))
+    (cond (is_mark m (get_or s at 0)) None (Some Name))))
+    None
 
 -- what is known of the text then
-abbrev pub LeadsTo : Marks → List ℕ → ℕ → Lead → Type 0
-LeadsTo m s at Digits = (at < length s) × (is_digit (get_or s at 0) ≡ true)
-LeadsTo m s at (Bracket i) = (i ≡ at + 1) × (i ≤ length s)
-LeadsTo m s at Name = (at < length s) × (is_mark m (get_or s at 0) ≡ false)
-LeadsTo m s at Nothing = Unit {0}
+abbrev pub LeadsTo : Marks → List ℕ → ℕ → Leading → Type 0
+LeadsTo m s at (Some Digits) = (at < length s) × (is_digit (get_or s at 0) ≡ true)
+LeadsTo m s at (Some (Bracket i)) = (i ≡ at + 1) × (i ≤ length s)
+LeadsTo m s at (Some Name) = (at < length s) × (is_mark m (get_or s at 0) ≡ false)
+LeadsTo m s at None = Unit {0}
 
-pub record Leads (m : Marks) (s : List ℕ) (at : ℕ) (r l : Lead) : Type 0 where
+pub record Leads (m : Marks) (s : List ℕ) (at : ℕ) (r l : Leading) : Type 0 where
   pub is : r ≡ l
   pub to : LeadsTo m s at r
 
@@ -77,12 +77,10 @@ pub record EndsName (m : Marks) (s : List ℕ) (at e : ℕ) : Type 0 where
   pub is : e ≡ at + name_length m (drop at s)
   pub upto : e ≤ length s
 
--- a value with the right bracket after it
-unfoldable pub closed_at : Marks → List ℕ → Parsed → Parsed
-closed_at m s (Value v e) = cond (ltb e (length s)) (cond (eqb (get_or s e 0) m.right) (Value v (e + 1)) Failed) Failed
-closed_at m s Failed = Failed
+-- a value and where it ends, or none
+abbrev pub Parsing : Type 0
+Parsing = Answered Parsed
 
--- a value that ends at e
-abbrev pub at-end : ℕ → Valued → Parsed
-at-end e (Number v) = Value v e
-at-end e Fault = Failed
+-- a value with the right bracket after it
+unfoldable pub closed_at : Marks → List ℕ → Parsed → Parsing
+closed_at m s p = cond (ltb p.end (length s)) (cond (eqb (get_or s p.end 0) m.right) (Some (record p { end = p.end + 1 })) None) None

@@ -1,39 +1,37 @@
 -- What is read from an offset of a text, as the definitions of model's Value have it: a value and the bytes after it.
-use Rattle.std.specs.Prelude.{◌≡◌, List, ℕ, ◌≤◌, ◌<◌, pos, length, drop}
+use Rattle.std.specs.Prelude.{◌≡◌, List, ℕ, ◌≤◌, ◌<◌, pos, length, drop, Some, None}
 use Rattle.std.proofs.Math.Option.{none, some}
 use Rattle.model.specs.declared.Marks.{Marks}
 use Rattle.model.specs.Store.{Store, find}
 use Rattle.model.specs.Value.{value_fault, Read, read_fault, giving, checked, number, name_of, of_stored, value_of}
 use Rattle.store.specs.Memory.{held}
 use Rattle.store.specs.declared.Index.{Index}
-use Rattle.number.specs.Number.{number_of, valued_fault, InRange}
-use Rattle.number.specs.declared.Valued.{Valued}
-use Rattle.value.specs.declared.Parsed.{Parsed}
-use Rattle.value.specs.declared.Parsed.TheVariants.{Value, Failed}
+use Rattle.number.specs.Number.{Valued, number_of, valued_fault, InRange}
+use Rattle.value.specs.Place.{Parsing}
 
 -- the value, and the bytes of s after it
-abbrev pub read_of : List ℕ → Parsed → Read
-read_of s (Value v e) = some (v, drop e s)
-read_of s Failed = none
+abbrev pub read_of : List ℕ → Parsing → Read
+read_of s (Some p) = some (p.value, drop p.end s)
+read_of s None = none
 
 -- and document 01's number for it: a failure is 15
-abbrev pub parsed_fault : Parsed → ℕ
-parsed_fault (Value v e) = 0
-parsed_fault Failed = 15
+abbrev pub parsed_fault : Parsing → ℕ
+parsed_fault (Some p) = 0
+parsed_fault None = 15
 
 -- a value ends from lo to hi
-abbrev pub EndsWithin : ℕ → ℕ → Parsed → Type 0
-EndsWithin lo hi (Value v e) = (lo ≤ e) × (e ≤ hi)
-EndsWithin lo hi Failed = Unit {0}
+abbrev pub EndsWithin : ℕ → ℕ → Parsing → Type 0
+EndsWithin lo hi (Some p) = (lo ≤ p.end) × (p.end ≤ hi)
+EndsWithin lo hi None = Unit {0}
 
 -- r is what x reads from s, and ends from lo on
-pub record ReadsValue (s : List ℕ) (lo : ℕ) (r : Parsed) (x : Read) : Type 0 where
+pub record ReadsValue (s : List ℕ) (lo : ℕ) (r : Parsing) (x : Read) : Type 0 where
   pub is : read_of s r ≡ x
   pub number : parsed_fault r ≡ read_fault x
   pub ends : EndsWithin lo (length s) r
 
 -- r is what f reads from s at every bound above μ, and ends from lo on
-pub record ReadsAbove (μ lo : ℕ) (s : List ℕ) (r : Parsed) (f : ℕ → Read) : Type 0 where
+pub record ReadsAbove (μ lo : ℕ) (s : List ℕ) (r : Parsing) (f : ℕ → Read) : Type 0 where
   pub is : (n : ℕ) → μ < n → read_of s r ≡ f n
   pub number : (n : ℕ) → μ < n → parsed_fault r ≡ read_fault (f n)
   pub ends : EndsWithin lo (length s) r

@@ -9,11 +9,11 @@ ghost use Rattle.model.specs.Store.{find};
 ghost use Rattle.model.specs.Value.{is_mark, of_stored, expression, product, operand, whole};
 ghost use Rattle.store.specs.Memory.{held, Kept};
 ghost use Rattle.number.specs.Number.{Gives};
-ghost use Rattle.value.specs.Place.{Joins, Leads, EndsName, start_at, join_at, lead_at, closed_at, at-end};
+ghost use Rattle.value.specs.Place.{Joins, Leads, EndsName, start_at, join_at, lead_at, closed_at};
 ghost use Rattle.value.specs.Reads.{read_of, ReadsValue, ReadsAbove, Values, numeral_at, name_at};
 
 use model::{Integer, Marks};
-use number::{Step, Valued};
+use number::Step;
 use store::Index;
 
 // How a sum or a product goes on: by a step with the value at an offset, or not, and the bytes after it are at an offset.
@@ -29,14 +29,13 @@ pub enum Lead {
     Digits,
     Bracket(usize),
     Name,
-    Nothing,
 }
 
-// A value and the offset after it, or none.
+// A value and the offset after it.
 #[derive(Clone, Copy)]
-pub enum Parsed {
-    Value(Integer, usize),
-    Failed,
+pub struct Parsed {
+    pub value: Integer,
+    pub end: usize,
 }
 
 // Whether a byte is one of the marks 6 to 12.
@@ -107,103 +106,86 @@ fn next(text: &[u8], at: usize, one: u8, first: Step, two: u8, second: Step) -> 
 }
 
 // What the operand at `at` begins with.
-fn opening(m: Marks, text: &[u8], at: usize) -> Lead
+fn opening(m: Marks, text: &[u8], at: usize) -> Option<Lead>
     requires { at ≤ length text.now }
     ensures { Leads m text.now at result (lead_at m text.now at) }
 {
     if at >= text.len() {
-        return Lead::Nothing;
+        return None;
     }
     let b = text[at];
     if number::is_digit(b) {
-        return Lead::Digits;
+        return Some(Lead::Digits);
     }
     if b == m.left {
-        return Lead::Bracket(at + 1);
+        return Some(Lead::Bracket(at + 1));
     }
     if is_mark(m, b) {
-        return Lead::Nothing;
+        return None;
     }
-    Lead::Name
+    Some(Lead::Name)
 }
 
 // The value before the right bracket, and the offset after it.
-fn closed(m: Marks, text: &[u8], v: Parsed) -> Parsed
+fn close(m: Marks, text: &[u8], v: Parsed) -> Option<Parsed>
     ensures { result ≡ closed_at m text.now v }
 {
-    let Parsed::Value(z, e) = v else {
-        return Parsed::Failed;
-    };
-    if e >= text.len() {
-        return Parsed::Failed;
+    if v.end >= text.len() {
+        return None;
     }
-    let b = text[e];
-    if b == m.right {
-        return Parsed::Value(z, e + 1);
+    if text[v.end] != m.right {
+        return None;
     }
-    Parsed::Failed
+    Some(Parsed {
+        end: v.end + 1,
+        ..v
+    })
 }
 
-// The value v with the offset e after it.
-fn ended(v: Valued, e: usize) -> Parsed
-    ensures { result ≡ at-end e v }
+// The value with no byte after it.
+fn all_read(text: &[u8], v: Parsed) -> Option<Integer>
+    ensures { Gives result (whole (read_of text.now (Some v))) }
 {
-    match v {
-        Valued::Number(z) => Parsed::Value(z, e),
-        Valued::Fault => Parsed::Failed,
+    if v.end < text.len() {
+        return None;
     }
-}
-
-// A value with no byte after it.
-fn all_read(text: &[u8], v: Parsed) -> Valued
-    ensures { Gives result (whole (read_of text.now v)) }
-{
-    let Parsed::Value(z, e) = v else {
-        return Valued::Fault;
-    };
-    if e < text.len() {
-        return Valued::Fault;
-    }
-    Valued::Number(z)
+    Some(v.value)
 }
 
 // The value of the text stored under a name.
-fn find_value(m: Marks, memory: &[u8], index: Index, name: &[u8]) -> Valued
+fn find_value(m: Marks, memory: &[u8], index: Index, name: &[u8]) -> Option<Integer>
     requires { Kept memory.now index }
     ensures { Gives result (of_stored m (find name.now (held index.count memory.now))) }
 {
-    let seen = store::seek(memory, index, name);
-    if !seen.there {
-        return Valued::Fault;
-    }
-    let at = seen.at;
-    let end = at + seen.len;
-    number::read_stored(m, &memory[at..end])
+    number::read_stored(m, store::seek(memory, index, name)?)
 }
 
 // The digits at `at`.
-fn read_numeral(text: &[u8], at: usize) -> Parsed
+fn read_numeral(text: &[u8], at: usize) -> Option<Parsed>
     requires { (at < length text.now) × (is_digit (get_or text.now at 0) ≡ true) }
     ensures { ReadsValue text.now (at + 1) result (numeral_at (drop at text.now)) }
 {
     let n = number::read_number(text, at);
-    let v = n.value;
-    ended(v, n.end)
+    Some(Parsed {
+        value: n.value?,
+        end: n.end,
+    })
 }
 
 // The name at `at`.
-fn read_name(m: Marks, memory: &[u8], index: Index, text: &[u8], at: usize) -> Parsed
+fn read_name(m: Marks, memory: &[u8], index: Index, text: &[u8], at: usize) -> Option<Parsed>
     requires kept { Kept memory.now index }
     requires at_in_bounds { (at < length text.now) × (is_mark m (get_or text.now at 0) ≡ false) }
     ensures { ReadsValue text.now (at + 1) result (name_at m (held index.count memory.now) (drop at text.now)) }
 {
-    let e = name_end(m, text, at);
-    ended(find_value(m, memory, index, &text[at..e]), e)
+    let end = name_end(m, text, at);
+    let value = find_value(m, memory, index, &text[at..end])?;
+    Some(Parsed { value, end })
 }
 
 // The expression at `at`: up to a right bracket that is not its own, a byte that does not go on, or the text's end.
 #[cycle(expression_operand_product)]
-fn expression(m: Marks, memory: &[u8], index: Index, text: &[u8], at: usize) -> Parsed
+fn expression(m: Marks, memory: &[u8], index: Index, text: &[u8], at: usize) -> Option<Parsed>
     requires { Kept memory.now index × (at ≤ length text.now) }
     ensures { ReadsAbove (3 * (length text.now - at) + 3) at text.now result
         (λ n. expression n m (held index.count memory.now) (drop at text.now)) }
@@ -212,30 +194,21 @@ fn expression(m: Marks, memory: &[u8], index: Index, text: &[u8], at: usize) -> 
     let mut j = start(m, text, at);
     loop {
         match j {
-            Join::Done(e) => {
-                return Parsed::Value(sum, e);
+            Join::Done(end) => {
+                return Some(Parsed { value: sum, end });
             }
-            Join::Go(k, p) => match product(m, memory, index, text, p) {
-                Parsed::Failed => {
-                    return Parsed::Failed;
-                }
-                Parsed::Value(v, e) => match number::apply(k, sum, v) {
-                    Valued::Fault => {
-                        return Parsed::Failed;
-                    }
-                    Valued::Number(z) => {
-                        sum = z;
-                        j = next(text, e, m.plus, Step::Plus, m.minus, Step::Minus);
-                    }
-                },
-            },
+            Join::Go(k, p) => {
+                let v = product(m, memory, index, text, p)?;
+                sum = number::apply(k, sum, v.value)?;
+                j = next(text, v.end, m.plus, Step::Plus, m.minus, Step::Minus);
+            }
         }
     }
 }
 
 // The product at `at`.
 #[cycle(expression_operand_product)]
-fn product(m: Marks, memory: &[u8], index: Index, text: &[u8], at: usize) -> Parsed
+fn product(m: Marks, memory: &[u8], index: Index, text: &[u8], at: usize) -> Option<Parsed>
     requires { Kept memory.now index × (at ≤ length text.now) }
     ensures { ReadsAbove (3 * (length text.now - at) + 2) (at + 1) text.now result
         (λ n. product n m (held index.count memory.now) (drop at text.now)) }
@@ -244,46 +217,36 @@ fn product(m: Marks, memory: &[u8], index: Index, text: &[u8], at: usize) -> Par
     let mut j = Join::Go(Step::First, at);
     loop {
         match j {
-            Join::Done(e) => {
-                return Parsed::Value(value, e);
+            Join::Done(end) => {
+                return Some(Parsed { value, end });
             }
-            Join::Go(k, p) => match operand(m, memory, index, text, p) {
-                Parsed::Failed => {
-                    return Parsed::Failed;
-                }
-                Parsed::Value(v, e) => match number::apply(k, value, v) {
-                    Valued::Fault => {
-                        return Parsed::Failed;
-                    }
-                    Valued::Number(z) => {
-                        value = z;
-                        j = next(text, e, m.times, Step::Times, m.divide, Step::Divide);
-                    }
-                },
-            },
+            Join::Go(k, p) => {
+                let v = operand(m, memory, index, text, p)?;
+                value = number::apply(k, value, v.value)?;
+                j = next(text, v.end, m.times, Step::Times, m.divide, Step::Divide);
+            }
         }
     }
 }
 
 // The operand at `at`: digits, a name, or an expression in brackets.
 #[cycle(expression_operand_product)]
-fn operand(m: Marks, memory: &[u8], index: Index, text: &[u8], at: usize) -> Parsed
+fn operand(m: Marks, memory: &[u8], index: Index, text: &[u8], at: usize) -> Option<Parsed>
     requires { Kept memory.now index × (at ≤ length text.now) }
     ensures { ReadsAbove (3 * (length text.now - at) + 1) (at + 1) text.now result
         (λ n. operand n m (held index.count memory.now) (drop at text.now)) }
 {
-    match opening(m, text, at) {
-        Lead::Nothing => Parsed::Failed,
+    match opening(m, text, at)? {
         Lead::Digits => read_numeral(text, at),
         Lead::Name => read_name(m, memory, index, text, at),
-        Lead::Bracket(inside) => closed(m, text, expression(m, memory, index, text, inside)),
+        Lead::Bracket(inside) => close(m, text, expression(m, memory, index, text, inside)?),
     }
 }
 
 // The value of `text`, with the names that memory holds.
-pub fn value(m: Marks, memory: &[u8], index: Index, text: &[u8]) -> Valued
+pub fn value(m: Marks, memory: &[u8], index: Index, text: &[u8]) -> Option<Integer>
     requires { Kept memory.now index }
     ensures { Values m memory.now index text.now result }
 {
-    all_read(text, expression(m, memory, index, text, 0))
+    all_read(text, expression(m, memory, index, text, 0)?)
 }

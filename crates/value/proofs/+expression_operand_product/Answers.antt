@@ -1,4 +1,6 @@
 -- The answers of the cycle {expression, operand, product}, by the laws of levels and of operands.
+use borrow.Author.Rules.{rules}
+use Rattle.std.proofs.Common.{Some, ap, ◌∙◌}
 use Rattle.store.specs.Memory.{held}
 use Rattle.value.proofs.Levels as levels
 use Rattle.value.proofs.+expression_operand_product.Goals as goal
@@ -9,34 +11,39 @@ expression-loop-j-init t c = search levels.begins
 pub expression-returns-in-Done : goal.expression-returns-in-Done
 expression-returns-in-Done t c = search levels.going_done
 
-pub expression-returns-in-Failed : goal.expression-returns-in-Failed
-expression-returns-in-Failed t c = search levels.going_fails
+pub expression-returns-in_err-v-in-Go : goal.expression-returns-in_err-v-in-Go
+expression-returns-in_err-v-in-Go t c = rw c.from_residual.ensures (levels.going_fails c.loop-j.invariant c.in-Go.is c.product.ensures c.in_err-v-in-Go.was)
 
-pub expression-returns-in-Fault : goal.expression-returns-in-Fault
-expression-returns-in-Fault t c = search levels.going_faults
+pub expression-returns-in_err-sum-in-Go : goal.expression-returns-in_err-sum-in-Go
+expression-returns-in_err-sum-in-Go t c =
+    rw c.from_residual-in_err-sum-in-Go.ensures
+    (levels.going_faults c.loop-j.invariant c.in-Go.is c.product.ensures c.in_ok-v-in-Go.was (search rules) c.apply.ensures c.in_err-sum-in-Go.was)
 
 pub expression-loop-j-preserved : goal.expression-loop-j-preserved
-expression-loop-j-preserved t c = search levels.going_on
+expression-loop-j-preserved t c =
+    levels.going_on c.loop-j.invariant c.in-Go.is c.product.ensures c.in_ok-v-in-Go.was c.next-j.ensures (search rules) c.apply.ensures c.in_ok-sum-in-Go.was (search rules)
 
-pub operand-returns-in-Nothing : goal.operand-returns-in-Nothing
-operand-returns-in-Nothing t c =
-    let a = c.args in
-    search (levels.nothing a.m (held a.index.count a.memory.now) a.text.now)
+pub operand-returns-in_err-opening : goal.operand-returns-in_err-opening
+operand-returns-in_err-opening t c = rw c.from_residual.ensures (levels.nothing c.args.m (held c.args.index.count c.args.memory.now) c.args.text.now c.opening.ensures c.in_err-opening.was)
 
 pub operand-returns-in-Digits : goal.operand-returns-in-Digits
 operand-returns-in-Digits t c =
-    let a = c.args in
-    search (levels.digits_read a.m (held a.index.count a.memory.now) a.text.now)
+    levels.digits_read c.args.m (held c.args.index.count c.args.memory.now) c.args.text.now c.opening.ensures (c.in_ok-opening.was ∙ ap Some c.in-Digits.is) c.read_numeral.ensures
 
 pub operand-returns-in-Name : goal.operand-returns-in-Name
 operand-returns-in-Name t c =
-    let a = c.args in
-    search (levels.name_read a.m (held a.index.count a.memory.now) a.text.now)
+    levels.name_read c.args.m (held c.args.index.count c.args.memory.now) c.args.text.now c.opening.ensures (c.in_ok-opening.was ∙ ap Some c.in-Name.is) c.read_name.ensures
 
-pub operand-returns-in-Bracket : goal.operand-returns-in-Bracket
-operand-returns-in-Bracket t c =
-    let a = c.args in
-    search (levels.bracketed a.m (held a.index.count a.memory.now) a.text.now)
+pub operand-returns-in_ok-expression-in-Bracket : goal.operand-returns-in_ok-expression-in-Bracket
+operand-returns-in_ok-expression-in-Bracket t c =
+    levels.bracketed c.args.m (held c.args.index.count c.args.memory.now) c.args.text.now c.opening.ensures (c.in_ok-opening.was ∙ ap Some c.in-Bracket.is)
+    c.expression.ensures c.in_ok-expression-in-Bracket.was c.close.ensures
+
+pub operand-returns-in_err-expression-in-Bracket : goal.operand-returns-in_err-expression-in-Bracket
+operand-returns-in_err-expression-in-Bracket t c =
+    rw c.from_residual-in_err-expression-in-Bracket.ensures
+    (levels.unread c.args.m (held c.args.index.count c.args.memory.now) c.args.text.now c.opening.ensures (c.in_ok-opening.was ∙ ap Some c.in-Bracket.is)
+    c.expression.ensures c.in_err-expression-in-Bracket.was)
 
 pub product-loop-j-init : goal.product-loop-j-init
 product-loop-j-init t c = search levels.begins_product
@@ -44,11 +51,14 @@ product-loop-j-init t c = search levels.begins_product
 pub product-returns-in-Done : goal.product-returns-in-Done
 product-returns-in-Done t c = search levels.going_done
 
-pub product-returns-in-Failed : goal.product-returns-in-Failed
-product-returns-in-Failed t c = search levels.going_fails
+pub product-returns-in_err-v-in-Go : goal.product-returns-in_err-v-in-Go
+product-returns-in_err-v-in-Go t c = rw c.from_residual.ensures (levels.going_fails c.loop-j.invariant c.in-Go.is c.operand.ensures c.in_err-v-in-Go.was)
 
-pub product-returns-in-Fault : goal.product-returns-in-Fault
-product-returns-in-Fault t c = search levels.going_faults
+pub product-returns-in_err-value-in-Go : goal.product-returns-in_err-value-in-Go
+product-returns-in_err-value-in-Go t c =
+    rw c.from_residual-in_err-value-in-Go.ensures
+    (levels.going_faults c.loop-j.invariant c.in-Go.is c.operand.ensures c.in_ok-v-in-Go.was (search rules) c.apply.ensures c.in_err-value-in-Go.was)
 
 pub product-loop-j-preserved : goal.product-loop-j-preserved
-product-loop-j-preserved t c = search levels.going_on
+product-loop-j-preserved t c =
+    levels.going_on c.loop-j.invariant c.in-Go.is c.operand.ensures c.in_ok-v-in-Go.was c.next-j.ensures (search rules) c.apply.ensures c.in_ok-value-in-Go.was (search rules)

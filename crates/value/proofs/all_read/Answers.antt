@@ -1,12 +1,10 @@
 -- all_read gives the value where no byte is left.
-use Rattle.value.proofs.Operands.{whole_failed, whole_left, whole_all}
+use borrow.Author.Rules.{rules}
+use Rattle.value.proofs.Operands.{whole_left, whole_all}
 use Rattle.value.proofs.all_read.Goals as goal
 
-pub returns-in_default : goal.returns-in_default
-returns-in_default c = search whole_failed
-
-pub returns-then-e-text : goal.returns-then-e-text
-returns-then-e-text c = search whole_left
+pub returns-then-v-text : goal.returns-then-v-text
+returns-then-v-text c = whole_left c.args.text.now c.args.v c.if-v-text.true
 
 pub returns : goal.returns
-returns c = search whole_all
+returns c = whole_all c.args.text.now c.args.v c.if-v-text.false (search rules)
