@@ -1,21 +1,23 @@
 -- Passes of iterations, by the calls that they make.
 use mathlib.Core.Path.{◌≡◌, refl, sym, ap, ap₂, subst, ◌∙◌}
-use mathlib.Core.Bool.{true, false}
-use mathlib.Core.Option.{Option}
+use mathlib.Core.Option as Math
 use mathlib.Core.List.{List, [], ◌∷◌}
 use Prim.Native.Nat.{ℕ, suc, ◌+◌, ◌-◌, ◌*◌, ◌≤◌, ◌<◌}
 use native.Mathlib.Omega.{arith}
 use lib.ListN.{length, set, drop}
+use Rattle.std.specs.Prelude.{Option, Result, Ok, Err, IsErrAnd}
+use Rattle.faults.specs.declared.RunFault.{RunFault}
+use Rattle.faults.specs.Numbers.{run_number}
 use Rattle.model.specs.declared.Marks.{Marks}
 use Rattle.model.specs.Text.{Bytes, part}
 use Rattle.model.specs.Load.{body_at}
-use Rattle.model.specs.Machine.{Loop, by_pieces, by_count, Frame, Shared, continues, halts, param, with_param, resume_at, Piece, pass_of, no_pass, take_pass, next_pass, end_pass}
+use Rattle.model.specs.Machine.{Loop, by_pieces, by_count, Frame, Shared, continues, halts, param, with_param, resume_at, Piece, pass_of, take_pass, next_pass, end_pass}
 use Rattle.model.proofs.Text.{part_length, part-long, part_empty}
 use Rattle.pass.specs.declared.Taken.{Taken}
-use Rattle.pass.specs.Pass.{delimiter_of, Takes, ChoosesFault}
-use Rattle.pass.proofs.Pieces.{piece_taken, piece_lacking}
+use Rattle.pass.specs.Pass.{delimiter_bytes, Takes}
+use Rattle.pass.proofs.Pieces.{piece_taken, taken_in, piece_lacking, lacking_fault}
 use Rattle.call.specs.declared.Head.{Head}
-use Rattle.call.specs.Call.{Iteration, iteration, texts_at, rest_of, old_of, loop_of, loops_of, Laid, laid, frame_of, PlacedLoop, Placed}
+use Rattle.call.specs.Call.{Iteration, iteration, texts_at, rest_of, old_of, loop_of, loops_of, laid, frame_of, PlacedLoop, Placed}
 use Rattle.call.specs.Params.{Sets, with_delimiter, Delimits}
 use Rattle.call.proofs.Loops.{loop-count, loop-pieces, loops_top}
 use Rattle.iterate.specs.Iterate.{pass_step, iteration_of, with_rest, Numbers, PassesAt, passed, SetsPass, Passes, OpensPass, StartsPass, EndsCount, EndsPiece, EndsPass}
@@ -24,7 +26,7 @@ use Rattle.iterate.proofs.Texts.{line_from, old_at, texts-long, piece-at}
 
 -- ---- set_pass
 
-pub sets_pass : {c : Head} {nums : List ℕ} {bytes : Bytes} {i : ℕ} {piece : Bytes} {delimiter rest : ℕ} {nums₁ nums₂ : List ℕ} {bytes₂ : Bytes} {nums₃ : List ℕ}
+pub sets_pass : {c : Head} {nums : List ℕ} {bytes : Bytes} {i : ℕ} {piece : Bytes} {delimiter : Option ℕ} {rest : ℕ} {nums₁ nums₂ : List ℕ} {bytes₂ : Bytes} {nums₃ : List ℕ}
     → i < 4 → 1 ≤ (iteration nums i).param → length nums ≡ 50 → length bytes ≡ 3400 → Numbers nums i (with_rest (iteration nums i) rest) nums₁
     → Sets nums₁ bytes (iteration nums i).param piece nums₂ bytes₂
     → Delimits nums₂ (iteration nums i).param delimiter nums₃
@@ -40,7 +42,7 @@ sets_pass {c} {nums} {bytes} {i} {piece} {delimiter} {rest} {nums₁} {nums₂} 
           let loop : loop_of m text (texts_at bytes i) (iteration nums₁ i) ≡ by_pieces x.param (part (texts_at bytes i) rest x.to) (part text x.list x.end) (old_of (texts_at bytes i) x) after =
           ap (λ (z : Iteration). loop_of m text (texts_at bytes i) z) mv.is ∙ loop-pieces m text (texts_at bytes i) (with_rest x rest) (λ z. omega arith) in
           dl.frame m text r bytes₂
-          ∙ ap (λ (f : Frame). with_delimiter f x.param (delimiter_of delimiter))
+          ∙ ap (λ (f : Frame). with_delimiter f x.param (delimiter_bytes delimiter))
           (st.frame m text r
           ∙ ap (λ (f : Frame). with_param f x.param piece)
           (frame_enters mv.before (bytes_same bytes i) l b (omega arith) m text c x.after ∙ ap (λ (l : Loop). resume_at (frame_of m text (laid c nums bytes)) (l ∷ ls) after) loop));
@@ -52,59 +54,52 @@ sets_pass {c} {nums} {bytes} {i} {piece} {delimiter} {rest} {nums₁} {nums₂} 
 
 -- ---- take_pass
 
--- the number of a pass that finds nothing to take is not 0
-halts_with : (m : Marks) (text : Bytes) (r : Laid) (w : Shared) {list : Bytes} {n : ℕ} → ChoosesFault list n → halts (no_pass list) w ≡ pass_step m text n r w
-unfolding pass_step
-halts_with m text r w {list} {n} f = by list ∙ ap (λ (k : ℕ). pass_step m text k r w) (sym f.is)
-  where
-    by : (ds : Bytes) → halts (no_pass ds) w ≡ pass_step m text (no_pass ds) r w
-    by [] = refl
-    by (d ∷ ds) = refl
-
-module _ {m : Marks} {text : Bytes} {c : Head} {nums : List ℕ} {bytes : Bytes} {i : ℕ} {t : Taken} (p : Placed text (laid c nums bytes)) (h : PassesAt text c nums i)
-    (k : Takes m (part bytes (1800 + 400 * i) (1800 + 400 * i + (iteration nums i).to)) (iteration nums i).from (part text (iteration nums i).list (iteration nums i).end) t) where
+module _ {m : Marks} {text : Bytes} {c : Head} {nums : List ℕ} {bytes : Bytes} {i : ℕ} {q : Result Taken RunFault} (p : Placed text (laid c nums bytes)) (h : PassesAt text c nums i)
+    (k : Takes m (part bytes (1800 + 400 * i) (1800 + 400 * i + (iteration nums i).to)) (iteration nums i).from (part text (iteration nums i).list (iteration nums i).end) q) where
   line_long : length (part bytes (1800 + 400 * i) (1800 + 400 * i + (iteration nums i).to)) ≡ (iteration nums i).to
   line_long = let a = h.place in let b = h.placed.to in let l = p.bytes in part-long bytes (1800 + 400 * i) (iteration nums i).to (omega arith)
 
   -- what the pass takes from
-  taken_from : (x : Option Piece) → pass_of m (part text (iteration nums i).list (iteration nums i).end)
+  taken_from : (x : Math.Option Piece) → pass_of m (part text (iteration nums i).list (iteration nums i).end)
       (drop (iteration nums i).from (part bytes (1800 + 400 * i) (1800 + 400 * i + (iteration nums i).to))) ≡ x
       → pass_of m (part text (iteration nums i).list (iteration nums i).end) (rest_of (texts_at bytes i) (iteration nums i)) ≡ x
   taken_from x e = ap (λ (s : Bytes). pass_of m (part text (iteration nums i).list (iteration nums i).end) s)
       (sym (line_from bytes i (iteration nums i).to (iteration nums i).from h.placed.to)) ∙ e
 
-  pub pass_fails : {n : ℕ} → t.ok ≡ false → ChoosesFault (part text (iteration nums i).list (iteration nums i).end) n → Passes m text (laid c nums bytes) i n (laid c nums bytes)
-  unfolding take_pass
-  pass_fails {n} e f =
+  pub pass_fails : {e : RunFault} {r : Result Head RunFault} → q ≡ Err e → IsErrAnd r (λ f. f ≡ e) → Passes m text (laid c nums bytes) i r nums bytes
+  unfolding take_pass pass_step
+  pass_fails {r = Ok a} e f = absurd f
+  pass_fails {e = z} {r = Err a} e f =
       let x : Iteration = iteration nums i in
       record {
         step = λ w.
-            ap (λ (o : Option Piece). take_pass x.param o (part text x.list x.end) (old_of (texts_at bytes i) x) (body_at m text x.after) (loops_of m text nums bytes i)
+            ap (λ (o : Math.Option Piece). take_pass x.param o (part text x.list x.end) (old_of (texts_at bytes i) x) (body_at m text x.after) (loops_of m text nums bytes i)
             (frame_of m text (laid c nums bytes)) w)
-            (taken_from _ (k.is ∙ piece_lacking _ _ t e))
-            ∙ halts_with m text (laid c nums bytes) w f;
+            (taken_from _ (piece_lacking k e))
+            ∙ ap (λ (n : ℕ). halts n w) (sym (ap run_number f ∙ lacking_fault k e));
         placed = p;
       }
 
-  pub pass_goes_on : {r : Laid} → t.ok ≡ true
-      → SetsPass (laid c nums bytes) i (part bytes (1800 + 400 * i + (iteration nums i).from) (1800 + 400 * i + (iteration nums i).from + (t.end - (iteration nums i).from))) t.delimiter t.rest r
-      → Passes m text (laid c nums bytes) i 0 r
+  pub pass_goes_on : {t : Taken} {r : Head} {nums' : List ℕ} {bytes' : Bytes} → q ≡ Ok t
+      → SetsPass (laid c nums bytes) i (part bytes (1800 + 400 * i + (iteration nums i).from) (1800 + 400 * i + (iteration nums i).from + (t.end - (iteration nums i).from))) t.delimiter t.rest
+      (laid r nums' bytes') → Passes m text (laid c nums bytes) i (Ok r) nums' bytes'
   unfolding take_pass pass_step
-  pass_goes_on {r} e s =
+  pass_goes_on {t} {r} {nums'} {bytes'} e s =
       let x : Iteration = iteration nums i in
       let line : Bytes = part bytes (1800 + 400 * i) (1800 + 400 * i + x.to) in
       let l = line_long in
-      let high = k.high in
-      let within = k.within in
-      let frame : frame_of m text r ≡ passed m text (laid c nums bytes) i (part line x.from t.end) (delimiter_of t.delimiter) (drop t.rest line) =
+      let b = taken_in k e in
+      let high = b.high in
+      let within = b.within in
+      let frame : frame_of m text (laid r nums' bytes') ≡ passed m text (laid c nums bytes) i (part line x.from t.end) (delimiter_bytes t.delimiter) (drop t.rest line) =
       s.frame m text
-      ∙ ap₂ (λ (a b : Bytes). passed m text (laid c nums bytes) i a (delimiter_of t.delimiter) b) (piece-at bytes (1800 + 400 * i) x.to x.from t.end k.low (omega arith))
+      ∙ ap₂ (λ (a b : Bytes). passed m text (laid c nums bytes) i a (delimiter_bytes t.delimiter) b) (piece-at bytes (1800 + 400 * i) x.to x.from t.end b.low (omega arith))
       (sym (line_from bytes i x.to t.rest h.placed.to)) in
       record {
         step = λ w.
-            ap (λ (o : Option Piece). take_pass x.param o (part text x.list x.end) (old_of (texts_at bytes i) x) (body_at m text x.after) (loops_of m text nums bytes i)
+            ap (λ (o : Math.Option Piece). take_pass x.param o (part text x.list x.end) (old_of (texts_at bytes i) x) (body_at m text x.after) (loops_of m text nums bytes i)
             (frame_of m text (laid c nums bytes)) w)
-            (taken_from _ (k.is ∙ piece_taken line x.from t e))
+            (taken_from _ (piece_taken k e))
             ∙ ap (λ (f : Frame). continues f w) (sym frame);
         placed = s.placed text p h (omega arith);
       }
@@ -127,8 +122,9 @@ module _ {text : Bytes} {c : Head} {nums : List ℕ} {bytes : Bytes} {d : ℕ} {
         placed = subst (λ (z : Iteration). PlacedLoop text z) (sym o.numbers.is) (record { param = b; after = q; list = e; end = f; from = omega arith; to = g; old = o.old.short });
       }
 
-  pub starts_pass : {m : Marks} {k : ℕ} {r : Laid} → Passes m text (laid c nums' bytes') c.depth k r → StartsPass m text (laid c nums bytes) d line list end k r
-  starts_pass {m} {k} {r} s =
+  pub starts_pass : {m : Marks} {r : Result Head RunFault} {nums₂ : List ℕ} {bytes₂ : Bytes} → Passes m text (laid c nums' bytes') c.depth r nums₂ bytes₂
+      → StartsPass m text (laid c nums bytes) d line list end r nums₂ bytes₂
+  starts_pass {m} s =
       let i : ℕ = c.depth in
       let x = o.numbers in
       let v = o.texts in
@@ -192,7 +188,8 @@ next-some m d [] ds old after ls f w h = absurd (omega arith)
 next-some m d (b ∷ s) ds old after ls f w h = refl
 
 module _ {m : Marks} {text : Bytes} {c : Head} {nums : List ℕ} {bytes : Bytes} {i : ℕ} (p : Placed text (laid c nums bytes)) (h : PassesAt text c nums i) where
-  pub piece_goes_on : {k : ℕ} {r : Laid} → (iteration nums i).from < (iteration nums i).to → Passes m text (laid c nums bytes) i k r → EndsPiece m text (laid c nums bytes) i k r
+  pub piece_goes_on : {r : Result Head RunFault} {nums' : List ℕ} {bytes' : Bytes} → (iteration nums i).from < (iteration nums i).to → Passes m text (laid c nums bytes) i r nums' bytes'
+      → EndsPiece m text (laid c nums bytes) i r nums' bytes'
   piece_goes_on u s =
       let x : Iteration = iteration nums i in
       let long = texts-long bytes i h.place p.bytes in
@@ -207,7 +204,7 @@ module _ {m : Marks} {text : Bytes} {c : Head} {nums : List ℕ} {bytes : Bytes}
 
   pub piece_ends : {nums' : List ℕ} {bytes' : Bytes} → (iteration nums i).to ≤ (iteration nums i).from
       → Sets nums bytes (iteration nums i).param (part bytes (2000 + 400 * i) (2000 + 400 * i + (iteration nums i).old)) nums' bytes'
-      → EndsPiece m text (laid c nums bytes) i 0 (laid (record { number = c.number; next = c.next; depth = i }) nums' bytes')
+      → EndsPiece m text (laid c nums bytes) i (Ok (record { number = c.number; next = c.next; depth = i })) nums' bytes'
   unfolding next_pass pass_step resume_at with_param
   piece_ends {nums'} {bytes'} u st =
       let x : Iteration = iteration nums i in
@@ -231,12 +228,12 @@ pub pieces-inside : {text : Bytes} {c : Head} {nums : List ℕ} {bytes : Bytes} 
 pieces-inside {c = c} p h e = let d = p.depth in record { place = omega arith; within = omega arith; param = omega arith; placed = p.iterations (c.depth - 1) (omega arith) }
 
 module _ {m : Marks} {text : Bytes} {c : Head} {nums : List ℕ} {bytes : Bytes} (p : Placed text (laid c nums bytes)) where
-  pub pass_outside : c.depth ≡ 0 → EndsPass m text (laid c nums bytes) 0 (laid c nums bytes)
+  pub pass_outside : c.depth ≡ 0 → EndsPass m text (laid c nums bytes) (Ok c) nums bytes
   unfolding end_pass pass_step loops_of
   pass_outside e = record { step = λ w. ap (λ (k : ℕ). end_pass m (loops_of m text nums bytes k) (frame_of m text (laid c nums bytes)) w) e; placed = p }
 
   pub pass_of_count : {r : Head} {nums' : List ℕ} → (c.depth ≡ 0 → ⊥) → (iteration nums (c.depth - 1)).param ≡ 0 → EndsCount c nums (c.depth - 1) r nums'
-      → EndsPass m text (laid c nums bytes) 0 (laid r nums' bytes)
+      → EndsPass m text (laid c nums bytes) (Ok r) nums' bytes
   unfolding pass_step
   pass_of_count h e q =
       let i : ℕ = c.depth - 1 in
@@ -248,8 +245,8 @@ module _ {m : Marks} {text : Bytes} {c : Head} {nums : List ℕ} {bytes : Bytes}
         placed = q.placed text bytes p (omega arith);
       }
 
-  pub pass_of_pieces : {k : ℕ} {r : Laid} → (c.depth ≡ 0 → ⊥) → ((iteration nums (c.depth - 1)).param ≡ 0 → ⊥) → EndsPiece m text (laid c nums bytes) (c.depth - 1) k r
-      → EndsPass m text (laid c nums bytes) k r
+  pub pass_of_pieces : {r : Result Head RunFault} {nums' : List ℕ} {bytes' : Bytes} → (c.depth ≡ 0 → ⊥) → ((iteration nums (c.depth - 1)).param ≡ 0 → ⊥)
+      → EndsPiece m text (laid c nums bytes) (c.depth - 1) r nums' bytes' → EndsPass m text (laid c nums bytes) r nums' bytes'
   unfolding end_pass
   pass_of_pieces h e q =
       let i : ℕ = c.depth - 1 in

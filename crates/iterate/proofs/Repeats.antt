@@ -1,19 +1,18 @@
 -- Counted iterations: a signed number as a number of passes, and how they begin.
 use mathlib.Core.Path.{◌≡◌, refl, sym, ap, subst, ◌∙◌}
-use mathlib.Core.Bool.{true, false}
 use mathlib.Core.Option.{some}
 use mathlib.Core.List.{List, ◌∷◌}
 use Prim.Native.Nat.{ℕ, zero, suc, ◌+◌, ◌-◌, ◌<◌}
 use native.Mathlib.Omega.{arith}
-use borrow.Author.Tests.{ltb-true}
 use lib.ListN.{length}
 use lib.IntN.{ℤ, pos, negsuc, nat_abs}
-use lib.Signed.{lt_z}
 use mir.Val.{SFits}
+use Rattle.std.specs.Prelude.{Result, Ok, Err}
+use Rattle.std.specs.Result.{OkIff, result_unwrap_or}
+use Rattle.std.specs.Int.{FitsUnsignedBits}
 use Rattle.model.specs.declared.Marks.{Marks}
 use Rattle.model.specs.Text.{Bytes}
 use Rattle.model.specs.Machine.{Loop, Frame, Shared, continues, resume_at, start_repeat, by_count}
-use Rattle.model.proofs.Choices.{false-not-true}
 use Rattle.number.specs.Number.{width}
 use Rattle.number.proofs.Signed.{read_back, told}
 use Rattle.body.specs.Steps.{Leaves}
@@ -26,22 +25,15 @@ use Rattle.iterate.proofs.Iterations.{bytes_same, frame_enters, placed_enters}
 
 -- ---- count_passes
 
-module _ {v : ℤ} (f : SFits width v) where
-  pub counts_none : lt_z (read_back v) (pos 0) ≡ true → CountsPasses v 0
-  unfolding pass_count
-  counts_none e = by v (rw (told f) at e)
-    where
-      by : (v : ℤ) → lt_z v (pos 0) ≡ true → CountsPasses v 0
-      by (pos n) e = absurd (omega (arith, ltb-true n 0 e))
-      by (negsuc n) e = record { is = refl }
-
-  pub counts_some : lt_z (read_back v) (pos 0) ≡ false → CountsPasses v (nat_abs (read_back v))
-  unfolding pass_count
-  counts_some e = rw (told f) (by v (rw (told f) at e))
-    where
-      by : (v : ℤ) → lt_z v (pos 0) ≡ false → CountsPasses v (nat_abs v)
-      by (pos n) e = record { is = refl }
-      by (negsuc n) e = false-not-true (sym e)
+pub counts_passes : {v : ℤ} {E : Type 0} (r : Result ℕ E) {n : ℕ} → SFits width v → OkIff r (FitsUnsignedBits 64 (read_back v)) (nat_abs (read_back v)) → n ≡ result_unwrap_or r 0 → CountsPasses v n
+unfolding pass_count
+counts_passes {v} {E} r {n} f h e = by v r f (rw (told f) at h) e
+  where
+    by : (v : ℤ) (r : Result ℕ E) → SFits width v → OkIff r (FitsUnsignedBits 64 v) (nat_abs v) → n ≡ result_unwrap_or r 0 → CountsPasses v n
+    by (pos k) (Ok x) f h e = record { is = e ∙ h.1 }
+    by (pos k) (Err y) f h e = absurd (h (omega (arith, f.sfits)))
+    by (negsuc k) (Ok x) f h e = absurd (h.0)
+    by (negsuc k) (Err y) f h e = record { is = e }
 
 -- ---- start_repeat
 

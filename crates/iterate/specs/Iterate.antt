@@ -1,19 +1,27 @@
 -- What the functions over a call's iterations answer.
-use Rattle.std.specs.Prelude.{◌≡◌, true, false, List, ◌∷◌, ℕ, ◌+◌, ◌-◌, ◌*◌, ◌≤◌, ◌<◌, eqb, ℤ, pos, negsuc, length, get_or, set, take}
+use Rattle.std.specs.Prelude.{◌≡◌, List, ◌∷◌, ℕ, ◌+◌, ◌-◌, ◌*◌, ◌≤◌, ◌<◌, ℤ, pos, negsuc, length, get_or, set, take, Option, Result, Ok, Err}
+use Rattle.faults.specs.declared.RunFault.{RunFault}
+use Rattle.faults.specs.Numbers.{run_number}
 use Rattle.std.proofs.Math.Option.{some}
 use Rattle.model.specs.Limits.{line_most}
 use Rattle.model.specs.declared.Marks.{Marks}
 use Rattle.model.specs.Text.{Bytes, part}
 use Rattle.model.specs.Load.{body_at}
 use Rattle.model.specs.Machine.{Frame, Shared, Step, continues, halts, param, pass_of, take_pass, next_pass, end_pass, start_repeat, by_pieces, by_count}
-use Rattle.pass.specs.Pass.{delimiter_of}
+use Rattle.pass.specs.Pass.{delimiter_bytes}
 use Rattle.call.specs.declared.Head.{Head}
 use Rattle.call.specs.Call.{first_loop, loop_numbers, Iteration, iteration, texts_at, rest_of, old_of, loops_of, Laid, laid, frame_of, PlacedLoop, Placed, param_bytes, loop_bytes, call_bytes}
 use Rattle.call.specs.Params.{Lies}
 
--- what an answer comes to: the call goes on, or a number ends the run
-unfoldable pub pass_step : Marks → Bytes → ℕ → Laid → Shared → Step
-pass_step m text k r w = elim (eqb k 0) [ true ↦ continues (frame_of m text r) w | false ↦ halts k w ]
+-- what an answer comes to, with the call's numbers and bytes at exit: the call goes on, or the number of a fault ends the run
+unfoldable pub pass_step : Marks → Bytes → Result Head RunFault → List ℕ → Bytes → Shared → Step
+pass_step m text (Ok c) nums bytes w = continues (frame_of m text (laid c nums bytes)) w
+pass_step m text (Err e) nums bytes w = halts (run_number e) w
+
+-- the call after an answer: where a fault ends the run, it is where it was
+abbrev pub call_after : Head → Result Head RunFault → Head
+call_after c (Ok r) = r
+call_after c (Err e) = c
 
 -- ---- numbers and texts
 
@@ -68,18 +76,18 @@ passed m text c i piece delimiter rest =
     }
 
 -- the ed7 at place i has taken a piece, and the rest of its line starts at `rest`: c is the call at entry, r at exit
-pub record SetsPass (c : Laid) (i : ℕ) (piece : Bytes) (delimiter rest : ℕ) (r : Laid) : Type 0 where
-  pub frame : (m : Marks) (text : Bytes) → frame_of m text r ≡ passed m text c i piece (delimiter_of delimiter) (part (texts_at c.bytes i) rest (iteration c.nums i).to)
+pub record SetsPass (c : Laid) (i : ℕ) (piece : Bytes) (delimiter : Option ℕ) (rest : ℕ) (r : Laid) : Type 0 where
+  pub frame : (m : Marks) (text : Bytes) → frame_of m text r ≡ passed m text c i piece (delimiter_bytes delimiter) (part (texts_at c.bytes i) rest (iteration c.nums i).to)
   pub placed : (text : Bytes) → Placed text c → PassesAt text c.head c.nums i → rest ≤ (iteration c.nums i).to → Placed text r
 
--- a pass of the ed7 at place i over the rest of its line; k is the number that ends the run, or 0
-pub record Passes (m : Marks) (text : Bytes) (c : Laid) (i : ℕ) (k : ℕ) (r : Laid) : Type 0 where
+-- a pass of the ed7 at place i over the rest of its line; r is the answer, and nums' and bytes' are the call's numbers and bytes at exit
+pub record Passes (m : Marks) (text : Bytes) (c : Laid) (i : ℕ) (r : Result Head RunFault) (nums' : List ℕ) (bytes' : Bytes) : Type 0 where
   pub step : (w : Shared)
       → take_pass (iteration c.nums i).param (pass_of m (part text (iteration c.nums i).list (iteration c.nums i).end) (rest_of (texts_at c.bytes i) (iteration c.nums i)))
       (part text (iteration c.nums i).list (iteration c.nums i).end) (old_of (texts_at c.bytes i) (iteration c.nums i)) (body_at m text (iteration c.nums i).after)
       (loops_of m text c.nums c.bytes i) (frame_of m text c) w
-      ≡ pass_step m text k r w
-  pub placed : Placed text r
+      ≡ pass_step m text r nums' bytes' w
+  pub placed : Placed text (laid (call_after c.head r) nums' bytes')
 
 -- the ed7 of parameter d is laid out at the next place, with n bytes as the old value. c is the call's head; nums and bytes are its
 -- numbers and bytes at entry, nums' and bytes' at exit; the iteration goes over `line`, with the delimiters text[list..end]
@@ -89,13 +97,13 @@ pub record OpensPass (c : Head) (nums : List ℕ) (bytes : Bytes) (d : ℕ) (lin
   pub texts : KeepsTexts bytes c.depth line (line_most * (d - 1)) n bytes'
   pub numbers : Numbers nums c.depth (iteration_of d c.next 0 list end (length line) n) nums'
 
--- ed7: the first pass of parameter d over `line`, with the delimiters text[list..end]. c is the call at entry and r at exit, both as
--- they are laid out, and k the number that ends the run, or 0
-pub record StartsPass (m : Marks) (text : Bytes) (c : Laid) (d : ℕ) (line : Bytes) (list end : ℕ) (k : ℕ) (r : Laid) : Type 0 where
+-- ed7: the first pass of parameter d over `line`, with the delimiters text[list..end]. c is the call at entry, as it is
+-- laid out, r the answer, and nums' and bytes' are the call's numbers and bytes at exit
+pub record StartsPass (m : Marks) (text : Bytes) (c : Laid) (d : ℕ) (line : Bytes) (list end : ℕ) (r : Result Head RunFault) (nums' : List ℕ) (bytes' : Bytes) : Type 0 where
   pub step : (w : Shared)
       → take_pass d (pass_of m (part text list end) line) (part text list end) (param (frame_of m text c) d) (frame_of m text c).next (frame_of m text c).loops (frame_of m text c) w
-      ≡ pass_step m text k r w
-  pub placed : Placed text r
+      ≡ pass_step m text r nums' bytes' w
+  pub placed : Placed text (laid (call_after c.head r) nums' bytes')
 
 -- eF8 of the eF7 at place i
 pub record EndsCount (c : Head) (nums : List ℕ) (i : ℕ) (r : Head) (nums' : List ℕ) : Type 0 where
@@ -105,17 +113,17 @@ pub record EndsCount (c : Head) (nums : List ℕ) (i : ℕ) (r : Head) (nums' : 
   pub placed : (text bytes : Bytes) → Placed text (laid c nums bytes) → i < c.depth → Placed text (laid r nums' bytes)
 
 -- eF8 of the ed7 at place i
-pub record EndsPiece (m : Marks) (text : Bytes) (c : Laid) (i : ℕ) (k : ℕ) (r : Laid) : Type 0 where
+pub record EndsPiece (m : Marks) (text : Bytes) (c : Laid) (i : ℕ) (r : Result Head RunFault) (nums' : List ℕ) (bytes' : Bytes) : Type 0 where
   pub step : (w : Shared)
       → next_pass m (iteration c.nums i).param (rest_of (texts_at c.bytes i) (iteration c.nums i)) (part text (iteration c.nums i).list (iteration c.nums i).end)
       (old_of (texts_at c.bytes i) (iteration c.nums i)) (body_at m text (iteration c.nums i).after) (loops_of m text c.nums c.bytes i) (frame_of m text c) w
-      ≡ pass_step m text k r w
-  pub placed : Placed text r
+      ≡ pass_step m text r nums' bytes' w
+  pub placed : Placed text (laid (call_after c.head r) nums' bytes')
 
 -- eF8
-pub record EndsPass (m : Marks) (text : Bytes) (c : Laid) (k : ℕ) (r : Laid) : Type 0 where
-  pub step : (w : Shared) → end_pass m (frame_of m text c).loops (frame_of m text c) w ≡ pass_step m text k r w
-  pub placed : Placed text r
+pub record EndsPass (m : Marks) (text : Bytes) (c : Laid) (r : Result Head RunFault) (nums' : List ℕ) (bytes' : Bytes) : Type 0 where
+  pub step : (w : Shared) → end_pass m (frame_of m text c).loops (frame_of m text c) w ≡ pass_step m text r nums' bytes' w
+  pub placed : Placed text (laid (call_after c.head r) nums' bytes')
 
 -- ---- counted iterations
 

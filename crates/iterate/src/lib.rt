@@ -16,8 +16,9 @@ use buffer::{copy, shift};
 use call::{
     Head, LOOP_BYTES, LOOP_NUMBERS, LOOPS, PARAM_BYTES, move_to, param_len, regain, set_delimiter,
 };
+use faults::RunFault;
 use model::{Integer, LINE_MOST, Marks};
-use pass::{choose_fault, take_piece};
+use pass::take_piece;
 
 // The numbers of an iteration, from its first on: the parameter of an ed7, or 0 for an eF7; then where the code line after the opening
 // line starts; an eF7's passes left; start and end of an ed7's list of delimiters in the text; from where to where the rest of its line
@@ -39,13 +40,6 @@ const OLD: usize = 7;
 // Where the first iteration keeps its parameter's old value among the bytes.
 const OLD_VALUES: usize = PARAM_BYTES + LINE_MOST;
 
-// The call after a pass was begun or its iteration ended, where the number is 0; otherwise the number that ends the run.
-#[derive(Clone, Copy)]
-pub struct Passing {
-    pub number: usize,
-    pub call: Head,
-}
-
 // The rest of the line of the ed7 at place i starts elsewhere.
 fn move_rest(nums: &mut [usize], i: usize, from: usize)
     requires { (i < nesting_most) × (length nums.old ≡ call_numbers) }
@@ -63,7 +57,7 @@ fn set_pass(
     i: usize,
     at: usize,
     n: usize,
-    delimiter: usize,
+    delimiter: Option<u8>,
     rest: usize,
 ) -> Head
     requires i_lt_nesting_most { (i < nesting_most) × ((1 ≤ (iteration nums.old i).param) × ((iteration nums.old i).param ≤ 9)) }
@@ -79,9 +73,9 @@ fn set_pass(
     regain(nums, params, d, at, n);
     set_delimiter(nums, d, delimiter);
     Head {
-        number: c.number,
         next: after,
         depth: i + 1,
+        ..c
     }
 }
 
@@ -93,10 +87,10 @@ fn take_pass(
     nums: &mut [usize],
     params: &mut [u8],
     i: usize,
-) -> Passing
+) -> Result<Head, RunFault>
     requires placed { Placed text.now (laid c nums.old params.old) }
     requires passes_at { PassesAt text.now c nums.old i }
-    ensures { Passes m text.now (laid c nums.old params.old) i result.number (laid result.call nums.new params.new) }
+    ensures { Passes m text.now (laid c nums.old params.old) i result nums.new params.new }
 {
     let x = LOOPS + LOOP_NUMBERS * i;
     let list = nums[x + LIST];
@@ -104,23 +98,18 @@ fn take_pass(
     let from = nums[x + FROM];
     let base = PARAM_BYTES + LOOP_BYTES * i;
     let to = base + nums[x + TO];
-    let taken = take_piece(m, &params[base..to], from, &text[list..end]);
-    if taken.ok {
-        let n = taken.end - from;
-        let call = set_pass(
-            c,
-            nums,
-            params,
-            i,
-            base + from,
-            n,
-            taken.delimiter,
-            taken.rest,
-        );
-        return Passing { number: 0, call };
-    }
-    let number = choose_fault(&text[list..end]);
-    Passing { number, call: c }
+    let taken = take_piece(m, &params[base..to], from, &text[list..end])?;
+    let n = taken.end - from;
+    Ok(set_pass(
+        c,
+        nums,
+        params,
+        i,
+        base + from,
+        n,
+        taken.delimiter,
+        taken.rest,
+    ))
 }
 
 // The numbers of the iteration at place i.
@@ -191,12 +180,11 @@ pub fn start_pass(
     line: &[u8],
     list: usize,
     end: usize,
-) -> Passing
+) -> Result<Head, RunFault>
     requires placed { Placed text.now (laid c nums.old params.old) }
     requires depth_lt_nesting_most { (c.depth < nesting_most) × ((1 ≤ d) × (d ≤ 9)) }
     requires line_len_bound { (length line.now ≤ line_most) × ((list ≤ end) × (end ≤ length text.now)) }
-    ensures { StartsPass m text.now (laid c nums.old params.old) d line.now list end
-        result.number (laid result.call nums.new params.new) }
+    ensures { StartsPass m text.now (laid c nums.old params.old) d line.now list end result nums.new params.new }
 {
     open_pass(c, nums, params, d, line, list, end);
     take_pass(m, text, c, nums, params, c.depth)
@@ -211,18 +199,14 @@ fn end_count(c: Head, nums: &mut [usize], i: usize) -> Head
     let x = LOOPS + LOOP_NUMBERS * i;
     let left = nums[x + LEFT];
     if left == 0 {
-        return Head {
-            number: c.number,
-            next: c.next,
-            depth: i,
-        };
+        return Head { depth: i, ..c };
     }
     let after = nums[x + AFTER];
     nums[x + LEFT] = left - 1;
     Head {
-        number: c.number,
         next: after,
         depth: i + 1,
+        ..c
     }
 }
 
@@ -234,10 +218,10 @@ fn end_piece(
     nums: &mut [usize],
     params: &mut [u8],
     i: usize,
-) -> Passing
+) -> Result<Head, RunFault>
     requires placed { Placed text.now (laid c nums.old params.old) }
     requires passes_at { PassesAt text.now c nums.old i }
-    ensures { EndsPiece m text.now (laid c nums.old params.old) i result.number (laid result.call nums.new params.new) }
+    ensures { EndsPiece m text.now (laid c nums.old params.old) i result nums.new params.new }
 {
     let x = LOOPS + LOOP_NUMBERS * i;
     if nums[x + FROM] < nums[x + TO] {
@@ -246,26 +230,26 @@ fn end_piece(
     let d = nums[x];
     let old = nums[x + OLD];
     regain(nums, params, d, OLD_VALUES + LOOP_BYTES * i, old);
-    let call = Head {
-        number: c.number,
-        next: c.next,
-        depth: i,
-    };
-    Passing { number: 0, call }
+    Ok(Head { depth: i, ..c })
 }
 
 // eF8: the innermost iteration's next pass, or its end.
-pub fn end_pass(m: Marks, text: &[u8], c: Head, nums: &mut [usize], params: &mut [u8]) -> Passing
+pub fn end_pass(
+    m: Marks,
+    text: &[u8],
+    c: Head,
+    nums: &mut [usize],
+    params: &mut [u8],
+) -> Result<Head, RunFault>
     requires { Placed text.now (laid c nums.old params.old) }
-    ensures { EndsPass m text.now (laid c nums.old params.old) result.number (laid result.call nums.new params.new) }
+    ensures { EndsPass m text.now (laid c nums.old params.old) result nums.new params.new }
 {
     if c.depth == 0 {
-        return Passing { number: 0, call: c };
+        return Ok(c);
     }
     let i = c.depth - 1;
     if nums[LOOPS + LOOP_NUMBERS * i] == 0 {
-        let call = end_count(c, nums, i);
-        return Passing { number: 0, call };
+        return Ok(end_count(c, nums, i));
     }
     end_piece(m, text, c, nums, params, i)
 }
@@ -274,10 +258,7 @@ pub fn end_pass(m: Marks, text: &[u8], c: Head, nums: &mut [usize], params: &mut
 fn count_passes(v: Integer) -> usize
     ensures { CountsPasses v result }
 {
-    if v < 0 {
-        return 0;
-    }
-    v as usize
+    usize::try_from(v).unwrap_or(0)
 }
 
 // eF7: so many passes; 0 or less skips past the matching eF8.
@@ -292,8 +273,7 @@ pub fn start_repeat(m: Marks, text: &[u8], c: Head, nums: &mut [usize], v: Integ
     }
     set_iteration(nums, c.depth, 0, c.next, n - 1, 0, 0, 0, 0);
     Head {
-        number: c.number,
-        next: c.next,
         depth: c.depth + 1,
+        ..c
     }
 }
