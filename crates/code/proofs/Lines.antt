@@ -6,19 +6,23 @@ use Prim.Native.Nat.{ℕ, ◌+◌, ◌-◌, ◌≤◌, ◌<◌}
 use native.Mathlib.Omega.{arith}
 use borrow.Author.Tests.{eq-eqb, ne_eqb}
 use lib.Dec.{eqb}
-use lib.ListN.{length, get_or}
+use lib.Seq.{drop-cons}
+use lib.ListN.{length, get_or, take, drop, length-drop}
 use Rattle.model.specs.Text.{Bytes, part}
 use Rattle.model.specs.Code as Code
 use Rattle.model.specs.declared.Marks.{Marks}
 use Rattle.model.specs.declared.Effect.{Effect}
 use Rattle.model.proofs.Choices.{when_true, when_false}
-use Rattle.model.proofs.Text.{part_most, part_empty, part_first}
+use Rattle.std.specs.Prelude.{Option, Some, None, unwrap_or}
+use Rattle.std.proofs.lemmas.List.{take_rest}
+use Rattle.model.proofs.Text.{part_length, part-drop}
 use Rattle.code.specs.declared.Part.{Part}
 use Rattle.code.specs.declared.Part.TheVariants.{Byte}
 use Rattle.code.specs.declared.Ending.{Ending}
 use Rattle.code.specs.declared.Ending.TheVariants.{Offer, Assign, Iterate, Stop, Write, Layout, Copy, Save, Skip, SkipText, SkipValue, Repeat, Again, Leave, Malformed}
 use Rattle.code.specs.declared.Token.{Token}
 use Rattle.code.specs.declared.Token.TheVariants.{Ends, Has}
+use Rattle.code.proofs.Laws.{empty, first_is}
 use Rattle.code.specs.Tokens.{ending_of, part_of, token_code, Ranged, RangedPart, RangedToken, Forms, ReadsToken, ReadsEnding, Affects}
 
 -- ---- one token
@@ -62,47 +66,67 @@ ranged_from to Again h g = tt
 ranged_from to Leave h g = tt
 ranged_from to Malformed h g = tt
 
-three : (text : Bytes) (at to : ℕ) → 3 ≤ to - at → to ≤ length text → part text at to ≡ get_or text at 0 ∷ get_or text (at + 1) 0 ∷ get_or text (at + 2) 0 ∷ part text (at + 3) to
-three text at to h k =
-    let two : at + 1 + 1 ≡ at + 2 = omega arith in
-    let more : at + 2 + 1 ≡ at + 3 = omega arith in
-    let e = part_first text (at + 1) to (omega arith) k ∙ ap (λ i. get_or text (at + 1) 0 ∷ part text i to) two in
-    let f = part_first text (at + 2) to (omega arith) k ∙ ap (λ i. get_or text (at + 2) 0 ∷ part text i to) more in
-    part_first text at to (omega arith) k ∙ ap (λ s. get_or text at 0 ∷ s) (e ∙ ap (λ s. get_or text (at + 1) 0 ∷ s) f)
+-- the bytes from `at` on up to `to`
+module _ (text : Bytes) (at to : ℕ) (within : to ≤ length text) where
+  pub long : {n : ℕ} → n ≤ length (part text at to) → 1 ≤ n → at + n ≤ to
+  long h k = omega (arith, part_length text at to within)
+
+  -- what follows the first three
+  pub after : take (length (part text at to) - 3) (drop 3 (part text at to)) ≡ part text (at + 3) to
+  after = take_rest (part text at to) 3 ∙ part-drop text at to 3
+
+-- a list of three bytes or more
+three : (s : Bytes) → 3 ≤ length s → s ≡ get_or s 0 0 ∷ get_or s 1 0 ∷ get_or s 2 0 ∷ take (length s - 3) (drop 3 s)
+three s h =
+    let third = drop-cons s 2 0 (omega arith) ∙ ap (λ t. get_or s 2 0 ∷ t) (sym (take_rest s 3)) in
+    let second = drop-cons s 1 0 (omega arith) ∙ ap (λ t. get_or s 1 0 ∷ t) third in
+    first_is s (omega arith) ∙ ap (λ t. get_or s 0 0 ∷ t) second
 
 module _ {m : Marks} {text : Bytes} {at to : ℕ} {first : Bool} where
-  pub token_end : to ≤ at → ReadsToken m text at to first (Ends Offer)
+  pub token_end : length (part text at to) < 1 → ReadsToken m text at to first (Ends Offer)
   unfolding Code.parse
-  token_end h = record { is = ap (λ s. Code.parse m first s) (part_empty text at to h); ranged = tt }
+  token_end h = record { is = ap (λ s. Code.parse m first s) (empty _ h); ranged = tt }
 
-  pub token_byte : at < to → to ≤ length text → (get_or text at 0 ≡ m.escape → ⊥) → ReadsToken m text at to first (Has (Byte (get_or text at 0)) (at + 1))
-  token_byte h k n =
+  pub token_byte : to ≤ length text → 1 ≤ length (part text at to) → (get_or (part text at to) 0 0 ≡ m.escape → ⊥)
+      → ReadsToken m text at to first (Has (Byte (get_or (part text at to) 0 0)) (at + 1))
+  token_byte w h n =
+      let k = long text at to w h (omega arith) in
       record {
-        is = ap (λ s. Code.parse m first s) (part_first text at to h k) ∙ parse_byte m first _ _ (ne_eqb _ _ n);
+        is = ap (λ s. Code.parse m first s) (first_is _ h) ∙ parse_byte m first _ _ (ne_eqb _ _ n)
+            ∙ ap (λ s. Code.onto (Code.byte (get_or (part text at to) 0 0)) (Code.parse m false s)) (part-drop text at to 1);
         ranged = (tt, (omega arith, omega arith));
       }
 
-  pub token_short : at < to → to ≤ length text → get_or text at 0 ≡ m.escape → to - at < 3 → ReadsToken m text at to first (Ends Malformed)
-  token_short h k e l =
+  pub token_short : 1 ≤ length (part text at to) → get_or (part text at to) 0 0 ≡ m.escape → length (part text at to) < 3 → ReadsToken m text at to first (Ends Malformed)
+  token_short h e l =
       record {
-        is = ap (λ s. Code.parse m first s) (part_first text at to h k) ∙ parse_short m first _ _ (eq-eqb _ _ e) (omega (arith, part_most text (at + 1) to));
+        is = ap (λ s. Code.parse m first s) (first_is _ h) ∙ parse_short m first _ _ (eq-eqb _ _ e) (omega (arith, length-drop 1 (part text at to)));
         ranged = tt;
       }
 
-  pub token_form : {r : Token} → 3 ≤ to - at → to ≤ length text → get_or text at 0 ≡ m.escape
-      → Forms text (at + 3) to (Code.form m first (get_or text (at + 1) 0) (get_or text (at + 2) 0) (part text (at + 3) to)) r → ReadsToken m text at to first r
-  token_form {r = Ends k} h l e f =
+module _ (m : Marks) (text : Bytes) (at to : ℕ) (first : Bool) (w : to ≤ length text) (l : 3 ≤ length (part text at to)) (e : get_or (part text at to) 0 0 ≡ m.escape) where
+  form_is : {f : Code.Form} → Code.form m first (get_or (part text at to) 1 0) (get_or (part text at to) 2 0) (take (length (part text at to) - 3) (drop 3 (part text at to))) ≡ f
+      → Code.parse m first (part text at to) ≡ formed m first f (part text (at + 3) to)
+  form_is {f} q =
+      ap (λ s. Code.parse m first s) (three (part text at to) l) ∙ parse-form m first _ _ _ _ (eq-eqb _ _ e) ∙ ap (λ g. formed m first g (take (length (part text at to) - 3) (drop 3 (part text at to)))) q
+      ∙ ap (λ s. formed m first f s) (after text at to w)
+
+  token_formed : (f : Option Token)
+      → Forms text (at + 3) to (Code.form m first (get_or (part text at to) 1 0) (get_or (part text at to) 2 0) (take (length (part text at to) - 3) (drop 3 (part text at to)))) f
+      → ReadsToken m text at to first (unwrap_or f (Ends Malformed))
+  token_formed None g = record { is = form_is g.is; ranged = tt }
+  token_formed (Some (Ends k)) g = record { is = form_is g.is; ranged = ranged_from to k (omega arith) g.ranged }
+  token_formed (Some (Has p i)) g =
+      let k = long text at to w l (omega arith) in
       record {
-        is = ap (λ s. Code.parse m first s) (three text at to h l) ∙ parse-form m first _ _ _ _ (eq-eqb _ _ e) ∙ ap (λ g. formed m first g (part text (at + 3) to)) f.is;
-        ranged = ranged_from to k (omega arith) f.ranged;
+        is = form_is g.is ∙ ap (λ j. Code.onto (part_of p) (Code.parse m false (part text j to))) (sym g.ranged.1);
+        ranged = (g.ranged.0, (omega (arith, g.ranged.1), omega (arith, g.ranged.1)));
       }
-  token_form {r = Has p i} h l e f =
-      record {
-        is = ap (λ s. Code.parse m first s) (three text at to h l) ∙ parse-form m first _ _ _ _ (eq-eqb _ _ e)
-            ∙ ap (λ g. formed m first g (part text (at + 3) to)) f.is
-            ∙ ap (λ j. Code.onto (part_of p) (Code.parse m false (part text j to))) (sym f.ranged.1);
-        ranged = (f.ranged.0, (omega (arith, f.ranged.1), omega (arith, f.ranged.1)));
-      }
+
+  pub token_form : {f : Option Token} {r : Token}
+      → Forms text (at + 3) to (Code.form m first (get_or (part text at to) 1 0) (get_or (part text at to) 2 0) (take (length (part text at to) - 3) (drop 3 (part text at to)))) f
+      → r ≡ unwrap_or f (Ends Malformed) → ReadsToken m text at to first r
+  token_form {f} g q = subst (λ (x : Token). ReadsToken m text at to first x) (sym q) (token_formed f g)
 
 -- ---- what callers take from a token
 
@@ -155,6 +179,16 @@ module _ {m : Marks} {text : Bytes} {at to i : ℕ} {first : Bool} {r : Token} (
   pub ahead_ends : {k : Ending} → r ≡ Ends k → ReadsEnding m text at to k
   unfolding Code.only
   ahead_ends {k} q = record { is = a.is ∙ ap (λ c. c.ending) (says_ends s q); ranged = ranged_from to k a.from (ends_ranged s q) }
+
+-- where a place is the line's start as it is place `at`
+pub ahead-begun : {m : Marks} {text : Bytes} {at to : ℕ} → at ≤ to → Ahead m text at to at (eqb at at)
+ahead-begun {m} {text} {at} {to} h = subst (λ (b : Bool). Ahead m text at to at b) (sym (eq-eqb at at refl)) (ahead_starts h)
+
+pub ahead-on : {m : Marks} {text : Bytes} {at to i : ℕ} {r : Token} {p : Part} {e : ℕ} → Ahead m text at to i (eqb i at) → ReadsToken m text i to (eqb i at) r → r ≡ Has p e → Ahead m text at to e (eqb e at)
+ahead-on {m} {text} {at} {to} {i} {r} {p} {e} a s q =
+    let h = has-after s q in
+    let f = a.from in
+    subst (λ (b : Bool). Ahead m text at to e b) (sym (ne_eqb e at (λ z. omega arith))) (ahead_more a s q)
 
 -- its effect is that of its ending
 pub effect_as : {m : Marks} {text : Bytes} {at to : ℕ} {k : Ending} {r : Effect} → ReadsEnding m text at to k

@@ -1,16 +1,10 @@
 -- A token of a code line, as the model's values: places of a text stand for what follows them.
-use Rattle.std.specs.Prelude.{◌≡◌, Bool, true, false, ℕ, ◌≤◌, ◌<◌}
-use Rattle.std.proofs.Math.Option.{Option, none, some}
+use Rattle.std.specs.Prelude.{◌≡◌, Bool, true, false, ℕ, ◌≤◌, ◌<◌, Option, Some, None, IfSome}
+use Rattle.std.proofs.Math.Option as Math
 use Rattle.model.specs.Text.{Bytes, part}
 use Rattle.model.specs.Code as Code
 use Rattle.model.specs.declared.Marks.{Marks}
 use Rattle.model.specs.declared.Effect.{Effect}
-use Rattle.model.specs.declared.Channel.{Channel}
-use Rattle.model.specs.declared.Conversion.{Conversion}
-use Rattle.code.specs.declared.Named.{Named}
-use Rattle.code.specs.declared.Named.TheVariants.{Is, Nothing}
-use Rattle.code.specs.declared.Routed.{Routed}
-use Rattle.code.specs.declared.Routed.TheVariants.{To, Refused}
 use Rattle.code.specs.declared.Part.{Part}
 use Rattle.code.specs.declared.Part.TheVariants.{Byte, Serial, Convert}
 use Rattle.code.specs.declared.Ending.{Ending}
@@ -41,20 +35,21 @@ part_of (Byte b) = Code.byte b
 part_of (Serial k) = Code.serial k
 part_of (Convert d c) = Code.convert d c
 
--- what a byte names
-abbrev pub named_of : Named → Option Conversion
-named_of (Is c) = some c
-named_of Nothing = none
+-- what is found, as the model has it
+abbrev pub found : {A : Type 0} → Option A → Math.Option A
+found (Some x) = Math.some x
+found None = Math.none
 
--- where F1 and F2 write
-abbrev pub routed_of : Routed → Option Channel
-routed_of (To ch) = some ch
-routed_of Refused = none
+-- the ending that is made of what is read; where nothing is, the line is malformed
+abbrev pub said : {A : Type 0} → (A → Code.Ending) → Option A → Code.Ending
+said f (Some x) = f x
+said f None = Code.malformed
 
 -- what stands after an escape
-abbrev pub form_of : Bytes → ℕ → Token → Code.Form
-form_of text to (Ends k) = Code.ends (ending_of text to k)
-form_of text to (Has p e) = Code.part (part_of p)
+abbrev pub form_of : Bytes → ℕ → Option Token → Code.Form
+form_of text to (Some (Ends k)) = Code.ends (ending_of text to k)
+form_of text to (Some (Has p e)) = Code.part (part_of p)
+form_of text to None = Code.ends Code.malformed
 
 -- a token and what the rest of the line says
 abbrev pub token_code : Marks → Bytes → ℕ → Token → Code.Code
@@ -90,30 +85,23 @@ RangedPart (Serial k) = k ≤ 9
 RangedPart (Convert d c) = Parameter d
 
 -- a form's rest starts at `at`
-abbrev pub RangedForm : ℕ → ℕ → Token → Type 0
-RangedForm at to (Ends k) = Ranged at to k
-RangedForm at to (Has p e) = RangedPart p × (e ≡ at)
+abbrev pub RangedForm : ℕ → ℕ → Option Token → Type 0
+RangedForm at to (Some (Ends k)) = Ranged at to k
+RangedForm at to (Some (Has p e)) = RangedPart p × (e ≡ at)
+RangedForm at to None = Unit {0}
 
 -- a token that starts at `at` ends after it
 abbrev pub RangedToken : ℕ → ℕ → Token → Type 0
 RangedToken at to (Ends k) = Ranged at to k
 RangedToken at to (Has p e) = RangedPart p × ((at < e) × (e ≤ to))
 
--- r is the conversion that the byte b names
-pub record NamesConversion (b : ℕ) (r : Named) : Type 0 where
-  pub is : named_of r ≡ Code.conversion_of b
-
--- r is the channel that the bytes from `at` on name
-pub record ReadsChannel (text : Bytes) (at to : ℕ) (r : Routed) : Type 0 where
-  pub is : routed_of r ≡ Code.channel_of (part text at to)
-
--- r is the ending k of a line, read from `at` on
-pub record Says (text : Bytes) (at to : ℕ) (k : Code.Ending) (r : Ending) : Type 0 where
-  pub is : k ≡ ending_of text to r
-  pub ranged : Ranged at to r
+-- r is the ending that the form f is, read from `at` on
+pub record Says (text : Bytes) (at to : ℕ) (f : Code.Form) (r : Option Ending) : Type 0 where
+  pub is : f ≡ Code.ends (said (ending_of text to) r)
+  pub ranged : IfSome r (λ k. Ranged at to k)
 
 -- r is the form f, whose rest starts at `at`
-pub record Forms (text : Bytes) (at to : ℕ) (f : Code.Form) (r : Token) : Type 0 where
+pub record Forms (text : Bytes) (at to : ℕ) (f : Code.Form) (r : Option Token) : Type 0 where
   pub is : f ≡ form_of text to r
   pub ranged : RangedForm at to r
 

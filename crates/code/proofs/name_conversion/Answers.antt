@@ -35,4 +35,4 @@ unfolding digit_of
 returns-in-56 c = names-digit CodePoint (search rules)
 
 pub returns-in_default : goal.returns-in_default
-returns-in_default c = record { is = sym (named_by _ ∙ search chain) }
+returns-in_default c = sym (named_by _ ∙ search (chain, rules))

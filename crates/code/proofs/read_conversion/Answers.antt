@@ -1,17 +1,20 @@
 -- read_conversion: its tests are those of conversion.
-use mathlib.Core.Path.{◌∙◌}
-use Rattle.code.proofs.Laws.{chain, conversion-by, conversion_is, conversion-none}
+use mathlib.Core.Path.{sym, ap, ◌∙◌}
 use borrow.Author.Rules.{rules}
+use Rattle.model.specs.Code.{converting}
+use Rattle.code.proofs.Laws.{chain, forms_none, conversion-by}
 use Rattle.code.proofs.read_conversion.Goals as goal
 
-pub returns-then-b-eq54 : goal.returns-then-b-eq54
-returns-then-b-eq54 c = λ text to h. record { is = conversion-by _ _ _ ∙ search chain; ranged = search rules }
+pub returns-in_err-name_conversion-in_default : goal.returns-in_err-name_conversion-in_default
+unfolding converting
+returns-in_err-name_conversion-in_default c = λ text to h. forms_none c.from_residual.ensures (conversion-by _ _ _ ∙ search (chain, rules) ∙ ap (converting c.args.d) (sym c.in_err-name_conversion-in_default.ensures))
 
-pub returns-then-b-eq55 : goal.returns-then-b-eq55
-returns-then-b-eq55 c = λ text to h. record { is = conversion-by _ _ _ ∙ search chain; ranged = search rules }
+pub returns-in-54 : goal.returns-in-54
+returns-in-54 c = λ text to h. record { is = conversion-by _ _ _ ∙ search (chain, rules); ranged = search rules }
 
-pub returns-in-Is : goal.returns-in-Is
-returns-in-Is c = λ text to h. record { is = search conversion_is; ranged = search rules }
+pub returns-in-55 : goal.returns-in-55
+returns-in-55 c = λ text to h. record { is = conversion-by _ _ _ ∙ search (chain, rules); ranged = search rules }
 
-pub returns-in-Nothing : goal.returns-in-Nothing
-returns-in-Nothing c = λ text to h. record { is = search conversion-none; ranged = tt }
+pub returns-in_ok-name_conversion-in_default : goal.returns-in_ok-name_conversion-in_default
+unfolding converting
+returns-in_ok-name_conversion-in_default c = λ text to h. record { is = conversion-by _ _ _ ∙ search (chain, rules) ∙ ap (converting c.args.d) (sym c.in_ok-name_conversion-in_default.ensures); ranged = search rules }

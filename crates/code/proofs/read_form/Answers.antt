@@ -1,26 +1,29 @@
 -- read_form: its tests are those of form.
-use borrow.Author.Rules.{rules}
 use mathlib.Core.Path.{◌∙◌}
-use Rattle.code.proofs.Laws.{chain, forms_as, form-by}
+use borrow.Author.Rules.{rules}
+use Rattle.code.proofs.Laws.{chain, forms_as, forms_none, forms_ends, form-by}
 use Rattle.code.proofs.read_form.Goals as goal
 
-pub returns-then-a-eq70 : goal.returns-then-a-eq70
-returns-then-a-eq70 c = forms_as (form-by _ _ _ _ _ ∙ search chain) c.read_function.ensures
+pub returns-in_err-read_function-in-70-default : goal.returns-in_err-read_function-in-70-default
+returns-in_err-read_function-in-70-default c = λ text to h e. forms_none c.from_residual.ensures (form-by _ _ _ _ _ ∙ search (chain, rules) ∙ (c.in_err-read_function-in-70-default.ensures text c.args.at to).is)
 
-pub returns-then-b-lt48 : goal.returns-then-b-lt48
-returns-then-b-lt48 c = record { is = form-by _ _ _ _ _ ∙ search chain; ranged = tt }
+pub returns-in_ok-read_function-in-70-default : goal.returns-in_ok-read_function-in-70-default
+returns-in_ok-read_function-in-70-default c = λ text to h e. forms_as (form-by _ _ _ _ _ ∙ search (chain, rules)) (forms_ends (c.in_ok-read_function-in-70-default.ensures text c.args.at to))
 
-pub returns-then-b-gt57 : goal.returns-then-b-gt57
-returns-then-b-gt57 c = record { is = form-by _ _ _ _ _ ∙ search chain; ranged = tt }
+pub returns-in-48-48-to-57 : goal.returns-in-48-48-to-57
+returns-in-48-48-to-57 c = λ text to h e. record { is = form-by _ _ _ _ _ ∙ search (chain, rules); ranged = search rules }
 
-pub returns-then-a-eq48 : goal.returns-then-a-eq48
-returns-then-a-eq48 c = record { is = form-by _ _ _ _ _ ∙ search chain; ranged = search rules }
+pub returns-in-49-to-57-default : goal.returns-in-49-to-57-default
+returns-in-49-to-57-default c = λ text to h e. forms_as (form-by _ _ _ _ _ ∙ search (chain, rules)) (c.read_conversion.ensures text to h)
 
-pub returns-then-a-lt48 : goal.returns-then-a-lt48
-returns-then-a-lt48 c = record { is = form-by _ _ _ _ _ ∙ search chain; ranged = tt }
+pub returns-in_default : goal.returns-in_default
+returns-in_default c = λ text to h e. record { is = form-by _ _ _ _ _ ∙ search (chain, rules); ranged = tt }
 
-pub returns-then-a-gt57 : goal.returns-then-a-gt57
-returns-then-a-gt57 c = record { is = form-by _ _ _ _ _ ∙ search chain; ranged = tt }
+pub returns-in_default-2 : goal.returns-in_default-2
+returns-in_default-2 c = λ text to h e. record { is = form-by _ _ _ _ _ ∙ search (chain, rules); ranged = tt }
 
-pub returns : goal.returns
-returns c = forms_as (form-by _ _ _ _ _ ∙ search chain) (c.read_conversion.ensures _ _ (search rules))
+pub returns-in_default-3 : goal.returns-in_default-3
+returns-in_default-3 c = λ text to h e. record { is = form-by _ _ _ _ _ ∙ search (chain, rules); ranged = tt }
+
+pub returns-in_default-4 : goal.returns-in_default-4
+returns-in_default-4 c = λ text to h e. record { is = form-by _ _ _ _ _ ∙ search (chain, rules); ranged = tt }

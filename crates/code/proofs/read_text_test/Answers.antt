@@ -1,19 +1,17 @@
 -- read_text_test: its tests are those of text_test.
-use mathlib.Core.Path.{refl}
-use Rattle.model.specs.Code.{text_test}
-use Rattle.code.proofs.Laws.{chain, says_none, says_first, text-by}
+use mathlib.Core.Path.{sym, ◌∙◌}
 use borrow.Author.Rules.{rules}
+use Rattle.code.proofs.Laws.{chain, text-none, text-by}
 use Rattle.code.proofs.read_text_test.Goals as goal
 
-pub returns-then-to-at : goal.returns-then-to-at
-unfolding text_test
-returns-then-to-at c = says_none text_test (search rules) refl tt
+pub returns-in-48 : goal.returns-in-48
+returns-in-48 c = sym (text-by _ (search rules) ∙ search (chain, rules))
 
-pub returns-then-b-eq48 : goal.returns-then-b-eq48
-returns-then-b-eq48 c = says_first text_test (search rules) (search rules) (text-by _ _) (search chain) tt
+pub returns-in-49 : goal.returns-in-49
+returns-in-49 c = sym (text-by _ (search rules) ∙ search (chain, rules))
 
-pub returns-then-b-eq49 : goal.returns-then-b-eq49
-returns-then-b-eq49 c = says_first text_test (search rules) (search rules) (text-by _ _) (search chain) tt
+pub returns-in_default : goal.returns-in_default
+returns-in_default c = sym (text-none _ (search rules))
 
-pub returns : goal.returns
-returns c = says_first text_test (search rules) (search rules) (text-by _ _) (search chain) tt
+pub returns-in_default-2 : goal.returns-in_default-2
+returns-in_default-2 c = sym (text-by _ (search rules) ∙ search (chain, rules))

@@ -1,25 +1,23 @@
 -- read_value_test: its tests are those of value_test.
-use mathlib.Core.Path.{refl}
-use Rattle.model.specs.Code.{value_test}
-use Rattle.code.proofs.Laws.{chain, says_none, says_first, value_by}
+use mathlib.Core.Path.{sym, ◌∙◌}
 use borrow.Author.Rules.{rules}
+use Rattle.code.proofs.Laws.{chain, value-none, value_by}
 use Rattle.code.proofs.read_value_test.Goals as goal
 
-pub returns-then-to-at : goal.returns-then-to-at
-unfolding value_test
-returns-then-to-at c = says_none (value_test c.args.m) (search rules) refl tt
+pub returns-in-48 : goal.returns-in-48
+returns-in-48 c = sym (value_by _ _ (search rules) ∙ search (chain, rules))
 
-pub returns-then-b-eq48 : goal.returns-then-b-eq48
-returns-then-b-eq48 c = says_first (value_test _) (search rules) (search rules) (value_by _ _ _) (search chain) tt
+pub returns-in-49 : goal.returns-in-49
+returns-in-49 c = sym (value_by _ _ (search rules) ∙ search (chain, rules))
 
-pub returns-then-b-eq49 : goal.returns-then-b-eq49
-returns-then-b-eq49 c = says_first (value_test _) (search rules) (search rules) (value_by _ _ _) (search chain) tt
+pub returns-in-len1-up : goal.returns-in-len1-up
+returns-in-len1-up c = sym (value_by _ _ (search rules) ∙ search (chain, rules))
 
-pub returns-then-b-m : goal.returns-then-b-m
-returns-then-b-m c = says_first (value_test _) (search rules) (search rules) (value_by _ _ _) (search chain) tt
+pub returns-in-len1-up-2 : goal.returns-in-len1-up-2
+returns-in-len1-up-2 c = sym (value_by _ _ (search rules) ∙ search (chain, rules))
 
-pub returns-then-b-m-2 : goal.returns-then-b-m-2
-returns-then-b-m-2 c = says_first (value_test _) (search rules) (search rules) (value_by _ _ _) (search chain) tt
+pub returns-in_default : goal.returns-in_default
+returns-in_default c = sym (value-none _ _ (search rules))
 
-pub returns : goal.returns
-returns c = says_first (value_test _) (search rules) (search rules) (value_by _ _ _) (search chain) tt
+pub returns-in_default-2 : goal.returns-in_default-2
+returns-in_default-2 c = sym (value_by _ _ (search rules) ∙ search (chain, rules))
