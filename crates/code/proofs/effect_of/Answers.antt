@@ -1,7 +1,6 @@
 -- effect_of: each ending does to the iterations what the model's does.
 use Rattle.std.proofs.lemmas.Grind.{common_steps}
 use native.Mathlib.Omega.{arith}
-use mathlib.Core.Path.{refl}
 use Rattle.model.specs.Code.{effect_of}
 use Rattle.code.proofs.effect_of.Goals as goal
 
@@ -11,15 +10,15 @@ returns-in-Iterate c = λ text to. grind (arith, common_steps)
 
 pub returns-in-Layout : goal.returns-in-Layout
 unfolding effect_of
-returns-in-Layout c = λ text to. rw c.in-Layout.is refl
+returns-in-Layout c = λ text to. grind (arith, common_steps)
 
 pub returns-in-Again : goal.returns-in-Again
 unfolding effect_of
-returns-in-Again c = λ text to. rw c.in-Again.is refl
+returns-in-Again c = λ text to. grind (arith, common_steps)
 
 pub returns-in-Malformed : goal.returns-in-Malformed
 unfolding effect_of
-returns-in-Malformed c = λ text to. rw c.in-Malformed.is refl
+returns-in-Malformed c = λ text to. grind (arith, common_steps)
 
 pub returns-in-Offer : goal.returns-in-Offer
 unfolding effect_of
