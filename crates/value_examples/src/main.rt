@@ -7,10 +7,9 @@ ghost use Rattle.std.specs.Prelude.{◌≤◌, length};
 ghost use Rattle.store.specs.Memory.{Kept};
 
 use model::{Integer, Marks, STORE_LEAST};
-use number::Valued;
 use scan::find_byte;
 use std::io::{Read, Write};
-use store::{Index, Stored};
+use store::Index;
 
 // The marks of document 01's session.
 fn session() -> Marks {
@@ -43,10 +42,10 @@ fn say(output: &mut impl Write, memory: &[u8], index: Index, text: &[u8])
     let _ = output.write_all(text);
     let _ = output.write_all(b": ");
     match value::value(session(), memory, index, text) {
-        Valued::Number(z) => {
+        Some(z) => {
             say_number(output, z);
         }
-        Valued::Fault => {
+        None => {
             let _ = output.write_all(b"fault 15");
         }
     }
@@ -65,8 +64,8 @@ fn keep(memory: &mut [u8], index: Index, name: &[u8], text: &[u8]) -> Index
         return index;
     }
     match store::put(memory, index, name, text) {
-        Stored::Now(y) => y,
-        Stored::Full => index,
+        Ok(stored) => stored,
+        Err(_) => index,
     }
 }
 

@@ -2,8 +2,8 @@
 use Rattle.store.proofs.Callers.{put_kept, full_kept}
 use Rattle.value_examples.proofs.keep.Goals as goal
 
-pub returns-in-Now : goal.returns-in-Now
-returns-in-Now c = search put_kept
+pub returns-in-Ok : goal.returns-in-Ok
+returns-in-Ok c = search put_kept
 
-pub returns-in-Full : goal.returns-in-Full
-returns-in-Full c = search full_kept
+pub returns-in-Err : goal.returns-in-Err
+returns-in-Err c = search full_kept
