@@ -1,15 +1,13 @@
 -- What a line of a macro's body comes to.
-use Rattle.std.specs.Prelude.{◌≡◌, Bool, true, false, List, ℕ, ◌≤◌, length}
+use Rattle.std.specs.Prelude.{◌≡◌, Bool, true, false, Option, Some, None, Ok, Err, List, ℕ, ◌≤◌, length}
 use Rattle.model.specs.declared.Marks.{Marks}
 use Rattle.model.specs.declared.Effect.{Effect}
 use Rattle.model.specs.Text.{Bytes, part, starts_with}
 use Rattle.model.specs.Load.{effect_here, unmatched, open_after, is_owner, line_seen}
-use Rattle.macros.specs.Table.{Table}
+use Rattle.macros.specs.declared.Table.{Table}
 use Rattle.load.specs.declared.Progress.{Progress}
-use Rattle.load.specs.declared.Seen.{Seen}
-use Rattle.load.specs.declared.Seen.TheVariants.{Fault, More, Ends}
 use Rattle.load.specs.declared.body.Nested.{Nested}
-use Rattle.load.specs.Lines.{progress_of, seen_of}
+use Rattle.load.specs.Lines.{LineSeen, progress_of, seen_of}
 
 -- the line text[at..end] stands in a body, and begins with mark 3 or not
 pub record BodyLine (m : Marks) (text : Bytes) (p : Progress) (at end : ℕ) (ending : Bool) : Type 0 where
@@ -19,13 +17,13 @@ pub record BodyLine (m : Marks) (text : Bytes) (p : Progress) (at end : ℕ) (en
   pub begins : starts_with m.code (part text at end) ≡ ending
 
 -- the macros are as they were
-abbrev pub MacrosKept : Progress → Seen → Type 0
-MacrosKept p (Fault f) = Unit {0}
-MacrosKept p (More q) = (q.count ≡ p.count) × (q.nodes ≡ p.nodes)
-MacrosKept p Ends = Unit {0}
+abbrev pub MacrosKept : Progress → LineSeen → Type 0
+MacrosKept p (Err f) = Unit {0}
+MacrosKept p (Ok (Some q)) = (q.count ≡ p.count) × (q.nodes ≡ p.nodes)
+MacrosKept p (Ok None) = Unit {0}
 
 -- a line of a body comes to r, whatever the table
-pub record BodySeen (m : Marks) (text : Bytes) (p : Progress) (at end : ℕ) (r : Seen) : Type 0 where
+pub record BodySeen (m : Marks) (text : Bytes) (p : Progress) (at end : ℕ) (r : LineSeen) : Type 0 where
   pub is : (t : Table) (n : ℕ) (ls : List Bytes) → line_seen m (progress_of m text t p) n (part text at end) ls ≡ seen_of m text t r
   pub kept : MacrosKept p r
 
@@ -33,12 +31,13 @@ pub record BodySeen (m : Marks) (text : Bytes) (p : Progress) (at end : ℕ) (r 
 pub record EffectHere (m : Marks) (text : Bytes) (due : Bool) (at end : ℕ) (r : Effect) : Type 0 where
   pub is : r ≡ effect_here m due (part text at end)
 
--- a code line in its place, after which so many iterations are open
-abbrev pub standing : ℕ → Bool → Nested
-standing n due = record { wrong = false; opened = n; due = due }
+-- a code line with the effect e stands in its place, where n iterations are open
+pub record Stands (e : Effect) (n : ℕ) (w : Nested) : Type 0 where
+  pub matched : unmatched e n ≡ false
+  pub opened : w.opened ≡ open_after e n
+  pub due : w.due ≡ is_owner e
 
--- a code line with the effect e, where n iterations are open
-pub record Nests (e : Effect) (n : ℕ) (r : Nested) : Type 0 where
-  pub wrong : r.wrong ≡ unmatched e n
-  pub opened : r.wrong ≡ false → r.opened ≡ open_after e n
-  pub due : r.due ≡ is_owner e
+-- or it is malformed or out of place
+abbrev pub Nests : Effect → ℕ → Option Nested → Type 0
+Nests e n (Some w) = Stands e n w
+Nests e n None = unmatched e n ≡ true

@@ -1,17 +1,16 @@
 // A line of a macro's body: a code line, a layout, or the macro's end.
 ghost use Rattle.std.specs.Prelude.{◌≡◌, true, false, ◌≤◌, length};
-ghost use Rattle.load.specs.Body.{BodyLine, BodySeen, EffectHere, standing, Nests};
+ghost use Rattle.load.specs.Body.{BodyLine, BodySeen, EffectHere, Nests};
 
-use super::{LineFault, Progress, Seen};
+use super::{Progress, Seen};
 use code::read_effect;
+use faults::LoadFault;
 use model::{CODE_LINES_MOST, Effect, LINE_MOST, Marks, NESTING_MOST};
 use scan::{begins_with, find_byte};
 
-// How a code line stands among the iterations around it.
+// How a code line in its place leaves the iterations around it.
 #[derive(Clone, Copy)]
 struct Nested {
-    // it is malformed or out of place
-    wrong: bool,
     // so many are open after it
     opened: usize,
     // the next line is its layout
@@ -29,42 +28,30 @@ fn effect_here(m: Marks, text: &[u8], due: bool, at: usize, end: usize) -> Effec
     read_effect(m, text, at, end)
 }
 
-// A code line in its place, after which so many iterations are open.
-fn stand(opened: usize, due: bool) -> Nested
-    ensures { result ≡ standing opened due }
-{
-    Nested {
-        wrong: false,
-        opened,
-        due,
-    }
-}
-
-// A code line with this effect, where n iterations are open.
-fn nest(e: Effect, n: usize) -> Nested
+// A code line with this effect, where n iterations are open, unless it is malformed or out of place.
+fn nest(e: Effect, n: usize) -> Option<Nested>
     ensures { Nests e n result }
 {
-    let wrong = Nested {
-        wrong: true,
-        opened: n,
-        due: false,
-    };
     match e {
-        Effect::Malformed => wrong,
-        Effect::Plain => stand(n, false),
-        Effect::Opens => {
-            if NESTING_MOST <= n {
-                return wrong;
-            }
-            stand(n + 1, false)
-        }
-        Effect::Closes => {
-            if n == 0 {
-                return wrong;
-            }
-            stand(n - 1, false)
-        }
-        Effect::Owns => stand(n, true),
+        Effect::Malformed => None,
+        Effect::Opens if NESTING_MOST <= n => None,
+        Effect::Closes if n == 0 => None,
+        Effect::Plain => Some(Nested {
+            opened: n,
+            due: false,
+        }),
+        Effect::Opens => Some(Nested {
+            opened: n + 1,
+            due: false,
+        }),
+        Effect::Closes => Some(Nested {
+            opened: n - 1,
+            due: false,
+        }),
+        Effect::Owns => Some(Nested {
+            opened: n,
+            due: true,
+        }),
     }
 }
 
@@ -75,24 +62,19 @@ pub fn add_code(m: Marks, text: &[u8], p: Progress, at: usize, end: usize) -> Se
 {
     let stop = find_byte(text, at, end, m.code);
     if LINE_MOST < stop - at {
-        return Seen::Fault(LineFault::Long);
+        return Err(LoadFault::LongContent);
     }
-    let e = effect_here(m, text, p.due, at, stop);
-    let place = nest(e, p.opened);
-    if place.wrong {
-        return Seen::Fault(LineFault::Wrong);
-    }
+    let effect = effect_here(m, text, p.due, at, stop);
+    let nested = nest(effect, p.opened).ok_or(LoadFault::BadCode)?;
     if CODE_LINES_MOST <= p.codes {
-        return Seen::Fault(LineFault::Over);
+        return Err(LoadFault::OverLimit);
     }
-    Seen::More(Progress {
-        count: p.count,
-        nodes: p.nodes,
+    Ok(Some(Progress {
         codes: p.codes + 1,
-        inside: true,
-        opened: place.opened,
-        due: place.due,
-    })
+        opened: nested.opened,
+        due: nested.due,
+        ..p
+    }))
 }
 
 // A line that begins with mark 3 ends the macro, and with two of them the section.
@@ -100,21 +82,11 @@ pub fn end_macro(m: Marks, text: &[u8], p: Progress, at: usize, end: usize) -> S
     requires { BodyLine m text.now p at end true }
     ensures { BodySeen m text.now p at end result }
 {
-    if p.opened != 0 {
-        return Seen::Fault(LineFault::Wrong);
-    }
-    if p.due {
-        return Seen::Fault(LineFault::Wrong);
+    if p.opened != 0 || p.due {
+        return Err(LoadFault::BadCode);
     }
     if begins_with(text, at + 1, end, m.code) {
-        return Seen::Ends;
+        return Ok(None);
     }
-    Seen::More(Progress {
-        count: p.count,
-        nodes: p.nodes,
-        codes: p.codes,
-        inside: false,
-        opened: 0,
-        due: false,
-    })
+    Ok(Some(Progress { inside: false, ..p }))
 }

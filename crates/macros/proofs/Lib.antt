@@ -1,3 +1,3 @@
 -- The laws of the table of macros and of its order.
-pub mod Table
+pub mod Entries
 pub mod Order

@@ -1,70 +1,54 @@
--- The table of macros: one row of numbers, column by column, and the macros that it stands for.
+-- The table of macros, and the macros that it stands for.
 use Rattle.std.specs.Prelude.{◌≡◌, List, [], ◌∷◌, ◌++◌, ℕ, zero, suc, ◌+◌, ◌≤◌, ◌<◌, length, get_or, set}
 use Rattle.model.specs.Limits.{line_most, macros_most}
 use Rattle.model.specs.declared.Marks.{Marks}
 use Rattle.model.specs.Text.{Bytes, part}
 use Rattle.model.specs.Load.{Macro, body_at}
+use Rattle.macros.specs.declared.Entry.{Entry}
+use Rattle.macros.specs.declared.Table.{Table}
 
-abbrev pub Table : Type 0
-Table = List ℕ
+-- what stands past the end of the entries
+abbrev pub no_entry : Entry
+no_entry = record { start = 0; len = 0; line = 0; body = 0 }
 
--- where its columns begin, and how long it is; they are the constants of src
-abbrev pub starts_from : ℕ
-starts_from = 0
-
-abbrev pub lens_from : ℕ
-lens_from = 128
-
-abbrev pub lines_from : ℕ
-lines_from = 256
-
-abbrev pub bodies_from : ℕ
-bodies_from = 384
-
-abbrev pub order_from : ℕ
-order_from = 512
-
-abbrev pub table_size : ℕ
-table_size = 640
+-- what the table has of macro k
+abbrev pub entry_in : Table → ℕ → Entry
+entry_in t k = get_or t.entries k no_entry
 
 -- of macro k: where its template starts, how long that is, the number of its line, and where its body starts
 abbrev pub start_in : Table → ℕ → ℕ
-start_in t k = get_or t (starts_from + k) 0
+start_in t k = (entry_in t k).start
 
 abbrev pub len_in : Table → ℕ → ℕ
-len_in t k = get_or t (lens_from + k) 0
+len_in t k = (entry_in t k).len
 
 abbrev pub line_in : Table → ℕ → ℕ
-line_in t k = get_or t (lines_from + k) 0
+line_in t k = (entry_in t k).line
 
 abbrev pub body_in : Table → ℕ → ℕ
-body_in t k = get_or t (bodies_from + k) 0
+body_in t k = (entry_in t k).body
 
 -- the number of the macro at a place of the order
 abbrev pub order_in : Table → ℕ → ℕ
-order_in t place = get_or t (order_from + place) 0
+order_in t place = get_or t.order place 0
 
--- the table has a place for macro k
-pub record Within (t : Table) (k : ℕ) : Type 0 where
-  pub whole : table_size ≤ length t
-  pub few : k < macros_most
-
--- the table with macro k stored
-abbrev pub with_macro : Table → ℕ → ℕ → ℕ → ℕ → ℕ → Table
-with_macro t k start len line body = set (set (set (set t (starts_from + k) start) (lens_from + k) len) (lines_from + k) line) (bodies_from + k) body
+-- macro k is stored, and all else is as it was
+pub record StoresMacro (t : Table) (k : ℕ) (e : Entry) (t' : Table) : Type 0 where
+  pub is : t' ≡ record t { entries = set t.entries k e }
+  pub there : entry_in t' k ≡ e
 
 -- a row that has where each macro's body starts
 pub record HasBodies (t : Table) (bodies : List ℕ) : Type 0 where
   pub whole : macros_most ≤ length bodies
   pub same : (k : ℕ) → k < macros_most → get_or bodies k 0 ≡ body_in t k
 
--- macro k stands at a place of the order, those of the first k from there on one place further, and all other columns are as they were
+-- macro k stands at a place of the order, those of the first k from there on one place further, and all else is as it was
 pub record PutsInOrder (t : Table) (k place : ℕ) (t' : Table) : Type 0 where
-  pub long : length t' ≡ length t
   pub before : (i : ℕ) → i < place → order_in t' i ≡ order_in t i
   pub there : order_in t' place ≡ k
   pub further : (i : ℕ) → place ≤ i → i < k → order_in t' (suc i) ≡ order_in t i
-  pub others : (i : ℕ) → i < order_from → get_or t' i 0 ≡ get_or t i 0
+  pub behind : (i : ℕ) → k < i → order_in t' i ≡ order_in t i
+  pub others : t'.entries ≡ t.entries
 
 -- ---- what a table stands for
 
@@ -86,7 +70,6 @@ macros_in m text t (suc n) = macros_in m text t n ++ (macro_in m text t n ∷ []
 
 -- the table has the first n templates, and each lies in the text
 pub record Entries (text : Bytes) (t : Table) (n : ℕ) : Type 0 where
-  pub whole : table_size ≤ length t
   pub few : n ≤ macros_most
   pub inside : (k : ℕ) → k < n → start_in t k + len_in t k ≤ length text
 

@@ -1,92 +1,78 @@
-// The table of a text's macros: one row of numbers, column by column. Each column has a place for every macro that a text may
-// have. The columns say where a macro's template starts in the text, how long the template is, the number of its line, and where
-// its body starts. The last column has the numbers of the macros in the order of their templates' keys.
+// The table of a text's macros, with a place for every macro that a text may have: where a macro's template starts in the text, how long the
+// template is, the number of its line, and where its body starts; and the numbers of the macros in the order of their templates' keys.
 #![tactic(auto)]
 
-ghost use Rattle.std.specs.Prelude.{◌≡◌, ◌≤◌, ◌<◌, length};
+ghost use Rattle.std.specs.Prelude.{◌≡◌, ◌+◌, ◌≤◌, ◌<◌, length};
 ghost use Rattle.model.specs.Limits.{macros_most};
-ghost use Rattle.macros.specs.Table.{table_size, start_in, len_in, line_in, order_in, with_macro, Within, HasBodies, PutsInOrder};
+ghost use Rattle.macros.specs.Table.{start_in, len_in, line_in, order_in, template_in, StoresMacro, HasBodies, PutsInOrder};
 
 use model::MACROS_MOST;
 
-// Where each column begins.
-pub const STARTS_FROM: usize = 0;
-
-pub const LENS_FROM: usize = 128;
-
-pub const LINES_FROM: usize = 256;
-
-pub const BODIES_FROM: usize = 384;
-
-pub const ORDER_FROM: usize = 512;
-
-// All columns together.
-pub const TABLE_SIZE: usize = 640;
-
-// Where template k starts.
-pub fn start_of(table: &[usize], k: usize) -> usize
-    requires { Within table.now k }
-    ensures { result ≡ start_in table.now k }
-{
-    table[STARTS_FROM + k]
+// What the table has of a macro.
+#[derive(Clone, Copy, Default)]
+pub struct Entry {
+    // where its template starts, and how long that is
+    pub start: usize,
+    pub len: usize,
+    // the number of its line
+    pub line: usize,
+    // where its body starts
+    pub body: usize,
 }
 
-// How long it is.
-pub fn len_of(table: &[usize], k: usize) -> usize
-    requires { Within table.now k }
-    ensures { result ≡ len_in table.now k }
-{
-    table[LENS_FROM + k]
+#[derive(Clone, Copy, Default)]
+pub struct Table {
+    pub entries: [Entry; MACROS_MOST],
+    pub order: [usize; MACROS_MOST],
 }
 
-// The number of its line.
-pub fn line_of(table: &[usize], k: usize) -> usize
-    requires { Within table.now k }
-    ensures { result ≡ line_in table.now k }
-{
-    table[LINES_FROM + k]
-}
-
-// The number of the macro at a place of the order.
-pub fn macro_at(table: &[usize], place: usize) -> usize
-    requires { Within table.now place }
-    ensures { result ≡ order_in table.now place }
-{
-    table[ORDER_FROM + place]
-}
-
-// Stores macro k.
-pub fn put_macro(table: &mut [usize], k: usize, start: usize, len: usize, line: usize, body: usize)
-    requires { Within table.old k }
-    ensures { table.new ≡ with_macro table.old k start len line body }
-{
-    table[STARTS_FROM + k] = start;
-    table[LENS_FROM + k] = len;
-    table[LINES_FROM + k] = line;
-    table[BODIES_FROM + k] = body;
-}
-
-// Copies the column of bodies.
-pub fn copy_bodies(table: &[usize], bodies: &mut [usize])
-    requires { (table_size ≤ length table.now) × (macros_most ≤ length bodies.old) }
-    ensures { HasBodies table.now bodies.new }
-{
-    let mut k = 0;
-    while k < MACROS_MOST {
-        bodies[k] = table[BODIES_FROM + k];
-        k += 1;
+impl Table {
+    // Template k, which lies in the text.
+    pub fn template<'a>(&self, text: &'a [u8], k: usize) -> &'a [u8]
+        requires { (k < macros_most) × (start_in self.now k + len_in self.now k ≤ length text.now) }
+        ensures { result.now ≡ template_in text.now self.now k }
+    {
+        let entry = self.entries[k];
+        &text[entry.start..entry.start + entry.len]
     }
-}
 
-// Puts macro k at a place of the order of the k macros before it; those from there on stand one place further.
-pub fn put_in_order(table: &mut [usize], k: usize, place: usize)
-    requires { Within table.old k × (place ≤ k) }
-    ensures { PutsInOrder table.old k place table.new }
-{
-    let mut i = k;
-    while place < i {
-        table[ORDER_FROM + i] = table[ORDER_FROM + i - 1];
-        i -= 1;
+    // The number of macro k's line.
+    pub fn line_of(&self, k: usize) -> usize
+        requires { k < macros_most }
+        ensures { result ≡ line_in self.now k }
+    {
+        self.entries[k].line
     }
-    table[ORDER_FROM + place] = k;
+
+    // The number of the macro at a place of the order.
+    pub fn macro_at(&self, place: usize) -> usize
+        requires { place < macros_most }
+        ensures { result ≡ order_in self.now place }
+    {
+        self.order[place]
+    }
+
+    // Where the bodies start, as a row of their own.
+    pub fn list_bodies(&self) -> [usize; MACROS_MOST]
+        ensures { HasBodies self.now result }
+    {
+        self.entries.map(|entry| entry.body)
+    }
+
+    // Stores macro k.
+    pub fn put_macro(&mut self, k: usize, entry: Entry)
+        requires { k < macros_most }
+        ensures { StoresMacro self.old k entry self.new }
+    {
+        self.entries[k] = entry;
+    }
+
+    // Puts macro k at a place of the order of the k macros before it; those from there on stand one place further.
+    pub fn put_in_order(&mut self, k: usize, place: usize)
+        requires { (k < macros_most) × (place ≤ k) }
+        ensures { PutsInOrder self.old k place self.new }
+    {
+        self.order.copy_within(place..k, place + 1);
+        self.order[place] = k;
+    }
 }

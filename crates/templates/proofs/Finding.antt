@@ -9,14 +9,14 @@ use native.Mathlib.Nat.{eq-or-lt_of_le}
 use native.Mathlib.Numerals.{add-one}
 use borrow.Author.Tests.{ltb-true}
 use lib.ListN.{length, get_or}
-use Rattle.model.specs.Text.{Bytes, part}
-use Rattle.model.proofs.Text.{part-long}
-use Rattle.macros.specs.Table.{Table, start_in, len_in, order_in, templates_in}
-use Rattle.macros.proofs.Table.{templates_in_length}
-use Rattle.templates.specs.Count.{common, longest}
+use Rattle.model.specs.Text.{Bytes}
+use Rattle.macros.specs.declared.Table.{Table}
+use Rattle.macros.specs.Table.{order_in, template_in, templates_in}
+use Rattle.macros.proofs.Entries.{templates_in_length}
+use Rattle.templates.specs.Count.{common, longest, Counted}
 use Rattle.templates.specs.Keys.{byte_key}
 use Rattle.templates.specs.Order.{precedes, placed, InOrder, Finds, Compared}
-use Rattle.templates.proofs.Count.{longest_upper, longest_reached, longest_most, counted}
+use Rattle.templates.proofs.Count.{longest_upper, longest_reached, counted}
 use Rattle.templates.proofs.Matching.{common-same, common_other}
 use Rattle.templates.proofs.Keys.{eq_or, lt_or}
 use Rattle.templates.proofs.Order.{first_keys, precedes_trans}
@@ -187,58 +187,49 @@ module _ {p : ℕ} {ts : List Bytes} {order : ℕ → ℕ} {c : Bytes} (so : InO
 
 -- ---- the loop
 
--- the template at start goes to a place from low up to high of the order of the first k
-pub record Seeking (p : ℕ) (text : Bytes) (t : Table) (k start len low high below above : ℕ) : Type 0 where
+-- the template c goes to a place from low up to high of the order of the first k, and is neither of its neighbours there
+pub record Seeking (p : ℕ) (text : Bytes) (t : Table) (k : ℕ) (c : Bytes) (low high below above : ℕ) : Type 0 where
   pub few : high ≤ k
-  pub narrowed : Narrowed p (templates_in text t k) (order_in t) (part text start (start + len)) low high below above
+  pub narrowed : Narrowed p (templates_in text t k) (order_in t) c low high below above
+  pub other : max below above ≤ length c
 
-module _ {p : ℕ} {text : Bytes} {t : Table} {k start len : ℕ} (so : InOrder p (templates_in text t k) (order_in t)) where
+module _ {p : ℕ} {text : Bytes} {t : Table} {k : ℕ} {c : Bytes} (so : InOrder p (templates_in text t k) (order_in t)) where
   -- at first it can be any place
-  pub seek_all : Seeking p text t k start len 0 k 0 0
-  seek_all = record { few = omega arith; narrowed = narrowed_none so k (sym (templates_in_length text t k)) }
+  pub seek_all : Seeking p text t k c 0 k 0 0
+  seek_all = record { few = omega arith; narrowed = narrowed_none so k (sym (templates_in_length text t k)); other = omega arith }
 
-  module _ (w : start + len ≤ length text) {low high below above : ℕ} (n : Seeking p text t k start len low high below above) where
-    module _ (u : low < high) {i s l m : ℕ} (q : i ≡ order_in t ((low + high) / 2)) (a : s ≡ start_in t i) (b : l ≡ len_in t i)
-        (e : m ≡ common (part text start (start + len)) (part text s (s + l))) where
+  module _ {low high below above : ℕ} (n : Seeking p text t k c low high below above) where
+    module _ (u : low < high) {i m : ℕ} {d : Bytes} (q : i ≡ order_in t ((low + high) / 2)) (a : d ≡ template_in text t i) (e : m ≡ common c d) where
       -- the template in the middle is the one that is read there
-      middle : part text s (s + l) ≡ placed (templates_in text t k) (order_in t) ((low + high) / 2)
-      middle = placed_is text t k ((low + high) / 2) i s l (order_within text t k ((low + high) / 2) p so (omega (arith, n.few))) q a b
+      middle : d ≡ placed (templates_in text t k) (order_in t) ((low + high) / 2)
+      middle = a ∙ placed_is text t k ((low + high) / 2) i (order_within text t k ((low + high) / 2) p so (omega (arith, n.few))) q
 
       -- and has so much in common with the new one
-      middle_common : m ≡ common (part text start (start + len)) (placed (templates_in text t k) (order_in t) ((low + high) / 2))
-      middle_common = e ∙ ap (common (part text start (start + len))) middle
+      middle_common : m ≡ common c (placed (templates_in text t k) (order_in t) ((low + high) / 2))
+      middle_common = e ∙ ap (common c) middle
 
       -- it is the same template
-      pub seek_same : len < m → Finds p (templates_in text t k) (order_in t) (part text start (start + len)) ((low + high) / 2) 0
-      seek_same v = narrowed_same so n.narrowed ((low + high) / 2) m (omega arith) (omega arith) middle_common (omega (arith, part-long text start len w))
+      pub seek_same : length c < m → Counted (templates_in text t k) c 0
+      seek_same v = (narrowed_same so n.narrowed ((low + high) / 2) m (omega arith) (omega arith) middle_common v).counted
 
-      module _ (v : m ≤ len) {r : Bool} (h : Compared p (part text start (start + len)) (part text s (s + l)) m r) where
+      module _ (v : m ≤ length c) {r : Bool} (h : Compared p c d m r) where
         -- the new one stands before it
-        pub seek_low : r ≡ true → Seeking p text t k start len low ((low + high) / 2) below m
+        pub seek_low : r ≡ true → Seeking p text t k c low ((low + high) / 2) below m
         seek_low z = record {
           few = omega (arith, n.few);
-          narrowed = narrowed_low so n.narrowed ((low + high) / 2) m (omega arith) (omega arith) middle_common
-              (rw middle at (h.less z (sym e) (omega (arith, part-long text start len w))));
+          narrowed = narrowed_low so n.narrowed ((low + high) / 2) m (omega arith) (omega arith) middle_common (rw middle at (h.less z (sym e) v));
+          other = omega (arith, n.other);
         }
 
         -- or after it
-        pub seek_high : r ≡ false → Seeking p text t k start len ((low + high) / 2 + 1) high m above
+        pub seek_high : r ≡ false → Seeking p text t k c ((low + high) / 2 + 1) high m above
         seek_high z = record {
           few = n.few;
-          narrowed = narrowed_high so n.narrowed ((low + high) / 2) m (omega arith) (omega arith) middle_common
-              (rw middle at (h.more z (sym e) (omega (arith, part-long text start len w))));
+          narrowed = narrowed_high so n.narrowed ((low + high) / 2) m (omega arith) (omega arith) middle_common (rw middle at (h.more z (sym e) v));
+          other = omega (arith, n.other);
         }
 
-    module _ (u : high ≤ low) where
-      -- what it has in common with a neighbour is no more than all
-      pub sought_within : max below above ≤ len + 1
-      sought_within = omega (
-        arith,
-        neighbours_most so n.narrowed u,
-        longest_most (part text start (start + len)) (templates_in text t k),
-        part-long text start len w,
-      )
-
-      -- the place is found
-      pub sought : (new : ℕ) → new ≡ len + 1 - max below above → Finds p (templates_in text t k) (order_in t) (part text start (start + len)) low new
-      sought new e = narrowed_done so n.narrowed u new (omega (arith, part-long text start len w))
+    -- the place is found
+    pub sought : high ≤ low → (new : ℕ) → new ≡ length c + 1 - max below above
+        → (0 < new) × Finds p (templates_in text t k) (order_in t) c low new
+    sought u new e = (omega (arith, n.other), narrowed_done so n.narrowed u new (omega arith))

@@ -8,13 +8,11 @@ use native.Mathlib.Omega.{arith}
 use native.Mathlib.Numerals.{add-one}
 use native.Mathlib.Nat.{eq-or-lt_of_le}
 use lib.Dec.{eqb, ltb}
-use lib.ListN.{length, get_or, drop}
-use lib.Seq.{get_or-take, get_or-drop}
+use lib.ListN.{length, get_or}
 use borrow.Author.Tests.{eqb-true, eqb-false, eq-eqb, ne_eqb, ltb-true, ltb-false}
-use Rattle.model.specs.Text.{Bytes, part}
+use Rattle.model.specs.Text.{Bytes}
 use Rattle.model.specs.Load.{count}
 use Rattle.templates.specs.Keys.{AllBytes, pick, byte_key, key_of, Share, one, cnt, Key}
-use Rattle.model.proofs.Text.{part-long}
 
 -- numbers are equal or not, and one is less or not
 pub eq_or : (a b : ℕ) → (a ≡ b) ⊎ (a ≡ b → ⊥)
@@ -52,25 +50,18 @@ key_past p [] x u = refl
 key_past p (b ∷ c) zero u = absurd (omega arith)
 key_past p (b ∷ c) (suc x) u = key_past p c x (omega arith)
 
-module _ (p : ℕ) (text : Bytes) (s l x : ℕ) (inside : s + l ≤ length text) where
-  part_at : x < l → get_or (part text s (s + l)) x 0 ≡ get_or text (s + x) 0
-  part_at u = get_or-take (s + l - s) (drop s text) x 0 (omega arith) ∙ get_or-drop s text x 0
+module _ (p : ℕ) (c : Bytes) (x : ℕ) where
+  -- it is that of the byte b
+  module _ (u : x < length c) (b : ℕ) (q : b ≡ get_or c x 0) (small : get_or c x 0 < 256) where
+    pub key_hole : b ≡ p → Key p c x 257
+    key_hole e = record { is = byte_hole p _ (sym q ∙ e) ∙ sym (key_in p c x u); small = omega arith; byte = λ v. small }
 
-  part_key : x < l → key_of p (part text s (s + l)) x ≡ byte_key p (get_or text (s + x) 0)
-  part_key u = key_in p (part text s (s + l)) x (omega (arith, part-long text s l inside)) ∙ ap (byte_key p) (part_at u)
+    pub key_byte : (b ≡ p → ⊥) → Key p c x b
+    key_byte e = record { is = byte_plain p b e ∙ ap (byte_key p) q ∙ sym (key_in p c x u); small = omega arith; byte = λ v. small }
 
-  pub key_hole : x < l → get_or text (s + x) 0 ≡ p → get_or text (s + x) 0 < 256 → Key p (part text s (s + l)) x 257
-  key_hole u e b = record { is = byte_hole p _ e ∙ sym (part_key u); small = omega arith; byte = λ v. omega (arith, part_at u) }
-
-  pub key_byte : x < l → (get_or text (s + x) 0 ≡ p → ⊥) → get_or text (s + x) 0 < 256 → Key p (part text s (s + l)) x (get_or text (s + x) 0)
-  key_byte u e b = record { is = byte_plain p _ e ∙ sym (part_key u); small = omega arith; byte = λ v. omega (arith, part_at u) }
-
-  pub key_end : l ≤ x → Key p (part text s (s + l)) x 256
-  key_end u = let e = part-long text s l inside in record {
-    is = sym (key_past p (part text s (s + l)) x (omega arith));
-    small = omega arith;
-    byte = λ v. absurd (omega arith);
-  }
+  -- or of the end
+  pub key_end : length c ≤ x → Key p c x 256
+  key_end u = record { is = sym (key_past p c x u); small = omega arith; byte = λ v. absurd (omega arith) }
 
 -- of bytes: no key is past the placeholder's, none but the end's is 256, and bytes differ where their keys do
 module _ (p b : ℕ) (small : b < 256) where

@@ -1,12 +1,15 @@
 -- The loop of `match_both`: how much two templates have in common.
 use mathlib.Core.Path.{◌≡◌, refl, sym, ◌∙◌}
 use mathlib.Core.List.{◌∷◌}
-use Prim.Native.Nat.{ℕ, suc, ◌+◌, ◌≤◌, ◌<◌}
+use mathlib.Core.Logic.{⊎_elim}
+use Prim.Native.Nat.{ℕ, suc, ◌+◌, ◌≤◌, ◌<◌, min}
+use native.Mathlib.Numerals.{add-one}
+use lib.Seq.{drop-cons}
+use Rattle.templates.proofs.Keys.{lt_or}
 use native.Mathlib.Omega.{arith}
 use borrow.Author.Tests.{eq-eqb, ne_eqb}
-use lib.ListN.{length, get_or}
-use Rattle.model.specs.Text.{Bytes, part}
-use Rattle.model.proofs.Text.{part_first, part_empty}
+use lib.ListN.{length, get_or, drop, drop_of_length-le}
+use Rattle.model.specs.Text.{Bytes}
 use Rattle.templates.specs.Count.{common}
 
 -- the first elements are the same, or differ
@@ -18,55 +21,41 @@ pub common_other : (x y : ℕ) (s t : Bytes) → (x ≡ y → ⊥) → common (x
 unfolding common
 common_other x y s t e = rw (ne_eqb x y e, common) refl
 
--- x elements of the templates at a and b are the same
-pub record Matching (text : Bytes) (a la b lb x : ℕ) : Type 0 where
-  pub in_a : x ≤ la
-  pub in_b : x ≤ lb
-  pub rest : common (part text a (a + la)) (part text b (b + lb)) ≡ x + common (part text (a + x) (a + la)) (part text (b + x) (b + lb))
+-- the first x elements of s and t are the same
+pub record Matching (s t : Bytes) (x : ℕ) : Type 0 where
+  pub in_s : x ≤ length s
+  pub in_t : x ≤ length t
+  pub rest : common s t ≡ x + common (drop x s) (drop x t)
 
-module _ (text : Bytes) (a la b lb : ℕ) where
-  pub match_none : Matching text a la b lb 0
-  match_none = record { in_a = omega arith; in_b = omega arith; rest = rw (plus a, plus b) (omega arith) }
-    where
-      plus : (k : ℕ) → k + 0 ≡ k
-      plus k = omega arith
+pub match_none : (s t : Bytes) → Matching s t 0
+match_none s t = record { in_s = omega arith; in_t = omega arith; rest = omega arith }
 
-  module _ (ina : a + la ≤ length text) (inb : b + lb ≤ length text) (x : ℕ) (m : Matching text a la b lb x) where
-    -- the template at b ends here
-    pub match_short : x < la → lb ≤ x → x ≡ common (part text a (a + la)) (part text b (b + lb))
-    unfolding common
-    match_short u v = sym (m.rest ∙ rw (part_first text (a + x) (a + la) (omega arith) ina, part_empty text (b + x) (b + lb) (omega arith)) (omega arith))
-
+module _ (s t : Bytes) (x : ℕ) (m : Matching s t x) where
+  module _ (u : x < length s) (v : x < length t) where
     -- they differ here
-    pub match_differ : x < la → x < lb → (get_or text (a + x) 0 ≡ get_or text (b + x) 0 → ⊥) → x ≡ common (part text a (a + la)) (part text b (b + lb))
-    match_differ u v ne = sym (m.rest ∙ rw (
-      part_first text (a + x) (a + la) (omega arith) ina,
-      part_first text (b + x) (b + lb) (omega arith) inb,
-      common_other _ _ (part text (a + x + 1) (a + la)) (part text (b + x + 1) (b + lb)) ne,
-    ) (omega arith))
+    pub match_differ : (get_or s x 0 ≡ get_or t x 0 → ⊥) → x ≡ common s t
+    match_differ ne = sym (m.rest ∙ rw (drop-cons s x 0 u, drop-cons t x 0 v, common_other _ _ (drop (suc x) s) (drop (suc x) t) ne) (omega arith))
 
-    pub match_more : x < la → x < lb → get_or text (a + x) 0 ≡ get_or text (b + x) 0 → Matching text a la b lb (x + 1)
-    match_more u v e =
-        let p : a + x + 1 ≡ a + (x + 1) = omega arith in
-        let q : b + x + 1 ≡ b + (x + 1) = omega arith in
-        record {
-          in_a = omega arith;
-          in_b = omega arith;
-          rest = m.rest ∙ rw (
-            part_first text (a + x) (a + la) (omega arith) ina,
-            part_first text (b + x) (b + lb) (omega arith) inb,
-            common-same _ _ (part text (a + x + 1) (a + la)) (part text (b + x + 1) (b + lb)) e,
-            p,
-            q,
-          ) (omega arith);
-        }
+    pub match_more : get_or s x 0 ≡ get_or t x 0 → Matching s t (x + 1)
+    match_more e = record {
+      in_s = omega arith;
+      in_t = omega arith;
+      rest = m.rest ∙ rw (drop-cons s x 0 u, drop-cons t x 0 v, common-same _ _ (drop (suc x) s) (drop (suc x) t) e, add-one x) (omega arith);
+    }
 
-    -- the template at a ends here
-    pub match_longer : la ≤ x → x < lb → x ≡ common (part text a (a + la)) (part text b (b + lb))
-    unfolding common
-    match_longer u v = sym (m.rest ∙ rw (part_empty text (a + x) (a + la) (omega arith), part_first text (b + x) (b + lb) (omega arith) inb) (omega arith))
+  -- both end here
+  pub match_all : length s ≤ x → length t ≤ x → x + 1 ≡ common s t
+  unfolding common
+  match_all u v = sym (m.rest ∙ rw (drop_of_length-le s u, drop_of_length-le t v) refl)
 
-    -- both do
-    pub match_all : la ≤ x → lb ≤ x → x + 1 ≡ common (part text a (a + la)) (part text b (b + lb))
-    unfolding common
-    match_all u v = sym (m.rest ∙ rw (part_empty text (a + x) (a + la) (omega arith), part_empty text (b + x) (b + lb) (omega arith)) refl)
+  -- one of them does
+  pub match_short : x < length s → length t ≤ x → x ≡ common s t
+  unfolding common
+  match_short u v = sym (m.rest ∙ rw (drop-cons s x 0 u, drop_of_length-le t v) (omega arith))
+
+  pub match_longer : length s ≤ x → x < length t → x ≡ common s t
+  unfolding common
+  match_longer u v = sym (m.rest ∙ rw (drop_of_length-le s u, drop-cons t x 0 v) (omega arith))
+
+  pub match_one : min (length s) (length t) ≤ x → ¬ (length s ≡ length t) → x ≡ common s t
+  match_one u f = ⊎_elim (λ v. match_short v (omega arith)) (λ v. match_longer v (omega arith)) (lt_or x (length s))

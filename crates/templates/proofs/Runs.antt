@@ -5,7 +5,8 @@ use Prim.Native.Nat.{ℕ, ◌+◌, ◌≤◌, ◌<◌, min}
 use native.Mathlib.Omega.{arith}
 use native.Mathlib.Nat.{eq-or-lt_of_le}
 use Rattle.model.specs.Text.{Bytes}
-use Rattle.macros.specs.Table.{Table, order_in, templates_in}
+use Rattle.macros.specs.declared.Table.{Table}
+use Rattle.macros.specs.Table.{order_in, templates_in}
 use Rattle.templates.specs.Keys.{keys}
 use Rattle.templates.specs.Order.{TakesRun}
 use Rattle.templates.proofs.Keys.{lt_or}

@@ -1,9 +1,10 @@
 -- The templates in the order of their keys: where a new one goes among them, and the runs of those that have one key at a place.
-use Rattle.std.specs.Prelude.{◌≡◌, Bool, true, false, List, [], ◌∷◌, ℕ, ◌≤◌, ◌<◌, eqb, ltb, length, get_or}
+use Rattle.std.specs.Prelude.{◌≡◌, Bool, true, false, List, [], ◌∷◌, Option, Some, None, ℕ, ◌≤◌, ◌<◌, eqb, ltb, length, get_or}
 use Rattle.model.specs.Text.{Bytes}
 use Rattle.model.specs.Children.{end_key, placeholder_key}
 use Rattle.templates.specs.Count.{common, Counted}
 use Rattle.templates.specs.Keys.{byte_key}
+use Rattle.templates.specs.declared.Found.{Found}
 
 -- s is t or stands before it: where they first differ, s has the lesser key. p is the placeholder
 unfoldable pub precedes : ℕ → Bytes → Bytes → Bool
@@ -32,6 +33,11 @@ pub record Finds (p : ℕ) (ts : List Bytes) (order : ℕ → ℕ) (c : Bytes) (
   pub within : place ≤ length ts
   pub counted : Counted ts c new
   pub goes : 0 < new → GoesTo p ts order c place
+
+-- the same, or c is one of ts
+abbrev pub FindsPlace : ℕ → List Bytes → (ℕ → ℕ) → Bytes → Option Found → Type 0
+FindsPlace p ts order c (Some f) = (0 < f.new) × Finds p ts order c f.place f.new
+FindsPlace p ts order c None = Counted ts c 0
 
 -- what the test of keys at place x says of s and t, where they first differ there
 pub record Compared (p : ℕ) (s t : Bytes) (x : ℕ) (r : Bool) : Type 0 where

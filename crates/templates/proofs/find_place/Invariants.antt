@@ -5,7 +5,7 @@ use Rattle.templates.proofs.Finding.{Seeking}
 use Rattle.templates.proofs.find_place.Given as goal
 
 abbrev pub invariant-loop-low : goal.invariant-loop-low
-invariant-loop-low l = Seeking l.mark l.text l.table l.k l.start l.len l.low l.high l.below l.above
+invariant-loop-low l = Seeking l.mark l.text l.table l.k l.template l.low l.high l.below l.above
 
 abbrev pub decreases-loop-low : goal.decreases-loop-low
 decreases-loop-low l = l.high - l.low

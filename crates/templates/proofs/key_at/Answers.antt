@@ -1,17 +1,17 @@
 -- key_at answers the key at a place of a template.
-use borrow.Author.Rules.{rules}
 use native.Mathlib.Omega.{arith}
-use Prim.Native.Nat.{◌+◌}
 use Rattle.templates.proofs.Keys.{key_hole, key_byte, key_end}
 use Rattle.templates.proofs.key_at.Goals as goal
 
-pub returns-then-b-mark : goal.returns-then-b-mark
-returns-then-b-mark c =
-    key_hole _ _ _ _ _ c.requires (search rules) (search rules) (omega (arith, c.type_inv.text (c.args.start + c.args.x)))
+pub returns-in-Some : goal.returns-in-Some
+returns-in-Some c =
+    let (_, _, _, here, _) = c.in-Some.ensures.lookup in
+    key_hole _ _ _ here.0 _ (here.1 0) (omega (arith, c.type_inv.template c.args.x)) c.if-b-mark.true
 
-pub returns-then-x-len : goal.returns-then-x-len
-returns-then-x-len c =
-    key_byte _ _ _ _ _ c.requires (search rules) c.if-b-mark.false (omega (arith, c.type_inv.text (c.args.start + c.args.x)))
+pub returns-in-Some-2 : goal.returns-in-Some-2
+returns-in-Some-2 c =
+    let (_, _, _, here, _) = c.in-Some.ensures.lookup in
+    rw c.from.ensures (key_byte _ _ _ here.0 _ (here.1 0) (omega (arith, c.type_inv.template c.args.x)) c.if-b-mark.false)
 
-pub returns : goal.returns
-returns c = search (key_end, rules)
+pub returns-in-None : goal.returns-in-None
+returns-in-None c = let (_, _, _, past, _) = c.in-None.ensures.lookup in key_end _ _ _ past
