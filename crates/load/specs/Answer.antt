@@ -1,5 +1,5 @@
 -- The answer of loading, and what it says of the text.
-use Rattle.std.specs.Prelude.{◌≡◌, Result, Ok, Err, IfOk, ℕ, ◌≤◌, length, drop}
+use Rattle.std.specs.Prelude.{◌≡◌, Result, Ok, Err, IfOk, ◌≤◌, length, drop}
 use Rattle.model.specs.Text.{Bytes, lines}
 use Rattle.model.specs.Load as Load
 use Rattle.model.specs.Load.{nodes}

@@ -1,5 +1,5 @@
 -- What a line comes to, as the model's values: a table and how far it is filled stand for the model's progress.
-use Rattle.std.specs.Prelude.{◌≡◌, Option, Some, None, Result, Ok, Err, ℕ, ◌≤◌, length, drop}
+use Rattle.std.specs.Prelude.{◌≡◌, Option, Some, None, Result, Ok, Err, ℕ, ◌≤◌, drop}
 use Rattle.model.specs.Limits.{nodes_most}
 use Rattle.model.specs.declared.Marks.{Marks}
 use Rattle.model.specs.Text.{Bytes, part, lines}

@@ -43,11 +43,17 @@ fn see_line(
 fn refuse_at(text: &[u8], next: usize, fault: LoadFault, n: usize) -> Refused
     ensures { RefusesAt text.now next fault n result }
 {
-    let fault = match fault {
-        LoadFault::OverLimit if text.len() <= next => LoadFault::OpenSection,
+    if next < text.len() {
+        return Refused { fault, line: n };
+    }
+    let lowest = match fault {
+        LoadFault::OverLimit => LoadFault::OpenSection,
         fault => fault,
     };
-    Refused { fault, line: n }
+    Refused {
+        fault: lowest,
+        line: n,
+    }
 }
 
 // Line n, which starts at a place.

@@ -1,7 +1,6 @@
 // A line at a template's place: its template is tested, and the macro that it begins goes into the table.
-ghost use Rattle.std.specs.Prelude.{◌≡◌, false, ◌≤◌, length};
+ghost use Rattle.std.specs.Prelude.{◌≡◌, ◌==◌, false, ◌≤◌, length, count_by};
 ghost use Rattle.model.specs.Limits.{nodes_most};
-ghost use Rattle.model.specs.Load.{count};
 ghost use Rattle.macros.specs.Table.{templates_in, order_in, Entries};
 ghost use Rattle.templates.specs.Order.{InOrder};
 ghost use Rattle.load.specs.Lines.{TableSound, SeesLine};
@@ -23,7 +22,7 @@ struct Weighed {
 
 // How many bytes are b.
 fn count_byte(s: &[u8], b: u8) -> usize
-    ensures { result ≡ count b s.now }
+    ensures { result ≡ count_by (λ x. x == b) s.now }
 {
     s.iter().filter(|x| **x == b).count()
 }

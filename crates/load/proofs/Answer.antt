@@ -1,0 +1,48 @@
+-- What an answer of loading says of a text that loads.
+use mathlib.Core.Path.{◌≡◌, ◌∙◌, ap, subst}
+use Prim.Native.Nat.{suc, ◌≤◌}
+use native.Mathlib.Omega.{arith}
+use Rattle.model.specs.Text.{Bytes}
+use Rattle.model.specs.Load.{templates, load}
+use Rattle.model.specs.Fitting.{Distinct}
+use Rattle.model.specs.Legal.{Legal}
+use Rattle.model.proofs.Loading.{load_legal}
+use Rattle.macros.specs.declared.Table.{Table}
+use Rattle.macros.specs.Table.{macros_in, templates_in}
+use Rattle.macros.proofs.Entries.{macros-templates}
+use Rattle.templates.specs.Count.{beginnings}
+use Rattle.templates.proofs.Count.{nodes-beginnings}
+use Rattle.std.specs.Prelude.{Option, None, Result, Ok, Err, ok_or}
+use Rattle.std.specs.Result.{IsErrAnd}
+use Rattle.std.proofs.lemmas.Result.{err_from_is_err_and}
+use Rattle.faults.specs.declared.LoadFault.{LoadFault}
+use Rattle.load.specs.declared.Loaded.{Loaded}
+use Rattle.load.specs.Answer.{loaded_of, Loads}
+
+module _ {text : Bytes} {t : Table} {r : Loaded} (h : Loads (load text) text t (Ok r)) where
+  -- the macros that are loaded are legal
+  loads_legal : Legal r.marks (macros_in r.marks text t r.count)
+  loads_legal = (load_legal text (loaded_of text t r) h.is).1
+
+  -- the templates of the table are theirs
+  loads_templates : templates (macros_in r.marks text t r.count) ≡ templates_in text t r.count
+  loads_templates = macros-templates r.marks text t r.count
+
+  -- the answer counts the nodes of their tree
+  pub loads_counted : r.nodes ≡ suc (beginnings (templates_in text t r.count))
+  loads_counted =
+      h.sound.counted ∙ nodes-beginnings (templates_in text t r.count) (macros_in r.marks text t r.count) loads_templates (subst Distinct loads_templates loads_legal.different)
+
+  -- they are 2,048 at most
+  pub loads_nodes : r.nodes ≤ 2048
+  loads_nodes = omega (arith, h.sound.counted, loads_legal.tree)
+
+-- ---- for the functions of loading
+
+-- the exit of a `?` at nothing has the fault that stands for nothing
+pub exit-none : {T U : Type 0} {r : Result T LoadFault} {o : Option U} {x f : LoadFault} → IsErrAnd r (λ y. y ≡ x) → Err x ≡ ok_or o f → o ≡ None → r ≡ Err f
+exit-none {T} {U} {r} {o} {x} {f} h e z =
+    let p = err_from_is_err_and r h in
+    let q : Err x ≡ ok_or None f = e ∙ ap (λ (p : Option U). ok_or p f) z in
+    let y : x ≡ f = cc in
+    p.1 ∙ ap Err (p.2 ∙ y)

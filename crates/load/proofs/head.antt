@@ -1,0 +1,2 @@
+-- The head of a text: its laws, and the proof of its function.
+pub mod Laws

@@ -1,0 +1,1 @@
+-- load answers the fault of the head, or what the section comes to.

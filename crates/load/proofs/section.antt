@@ -1,0 +1,2 @@
+-- The loop over the lines: its laws, and the proofs of its functions.
+pub mod Laws

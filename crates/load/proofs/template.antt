@@ -1,0 +1,2 @@
+-- A template: its laws, and the proofs of its functions.
+pub mod Laws
