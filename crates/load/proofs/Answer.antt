@@ -15,7 +15,6 @@ use Rattle.templates.proofs.Count.{nodes-beginnings}
 use Rattle.std.specs.Prelude.{Option, None, Result, Ok, Err, ok_or}
 use Rattle.std.specs.Result.{IsErrAnd}
 use Rattle.std.proofs.lemmas.Result.{err_from_is_err_and}
-use Rattle.faults.specs.declared.LoadFault.{LoadFault}
 use Rattle.load.specs.declared.Loaded.{Loaded}
 use Rattle.load.specs.Answer.{loaded_of, Loads}
 
@@ -40,8 +39,8 @@ module _ {text : Bytes} {t : Table} {r : Loaded} (h : Loads (load text) text t (
 -- ---- for the functions of loading
 
 -- the exit of a `?` at nothing has the fault that stands for nothing
-pub exit-none : {T U : Type 0} {r : Result T LoadFault} {o : Option U} {x f : LoadFault} → IsErrAnd r (λ y. y ≡ x) → Err x ≡ ok_or o f → o ≡ None → r ≡ Err f
-exit-none {T} {U} {r} {o} {x} {f} h e z =
+pub exit-none : {T U E : Type 0} {r : Result T E} {o : Option U} {x f : E} → IsErrAnd r (λ y. y ≡ x) → Err x ≡ ok_or o f → o ≡ None → r ≡ Err f
+exit-none {T} {U} {E} {r} {o} {x} {f} h e z =
     let p = err_from_is_err_and r h in
     let q : Err x ≡ ok_or None f = e ∙ ap (λ (p : Option U). ok_or p f) z in
     let y : x ≡ f = cc in

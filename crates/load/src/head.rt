@@ -4,7 +4,7 @@ ghost use Rattle.load.specs.Head.{ReadsHead};
 use super::Refused;
 use faults::LoadFault;
 use model::{Marks, TEXT_MOST};
-use scan::{Flags, has_byte, read_line, read_marks};
+use scan::{has_byte, read_line, read_marks};
 
 // What a text begins with.
 #[derive(Clone, Copy)]
@@ -32,11 +32,9 @@ pub fn read_text_head(text: &[u8]) -> Result<Head, Refused>
         return Err(unmarked);
     }
     let line = read_line(text, 0);
-    match read_marks(text, line.end) {
-        Flags::Fault => Err(unmarked),
-        Flags::Legal(marks) => Ok(Head {
-            marks,
-            first: line.next,
-        }),
-    }
+    let marks = read_marks(text, line.end).ok_or(unmarked)?;
+    Ok(Head {
+        marks,
+        first: line.next,
+    })
 }

@@ -1,7 +1,7 @@
 -- What a text comes to by its head: too large or not, with a byte 0 or not, with a legal flag line or not.
 use mathlib.Core.Path.{◌≡◌, refl, ap, sym, ◌∙◌}
 use mathlib.Core.Bool.{Bool, true, false, ◌||◌}
-use mathlib.Core.Option.{Option, none, some}
+use mathlib.Core.Option as Math
 use mathlib.Core.List.{List, ◌∷◌}
 use Prim.Native.Nat.{ℕ, ◌≤◌, ◌<◌}
 use native.Mathlib.Omega.{arith}
@@ -11,12 +11,10 @@ use lib.ListN.{length, drop}
 use Rattle.model.specs.declared.Marks.{Marks}
 use Rattle.model.specs.Text.{Bytes, part, has, lines, marks_of}
 use Rattle.model.specs.Load.{Load, refused, load_from, none_read, load_lines, load}
-use Rattle.scan.specs.declared.Flags.{Flags}
-use Rattle.scan.specs.declared.Flags.TheVariants.{Legal, Fault}
 use Rattle.scan.specs.Lines.{Has, LineAt, MarksAt}
 use Rattle.scan.proofs.Lines.{lines_none}
 use Rattle.scan.proofs.FlagLine.{marks_legal, marks-fault}
-use Rattle.std.specs.Prelude.{Result, Ok, Err}
+use Rattle.std.specs.Prelude.{Option, Some, None, Result, Ok, Err}
 use Rattle.faults.specs.declared.LoadFault.TheVariants.{BadText, BadFlags}
 use Rattle.macros.specs.declared.Table.{Table}
 use Rattle.load.specs.declared.head.Head.{Head}
@@ -34,7 +32,7 @@ unfolding load
 load-tests text large zero e f = rw (e, f, load)
 
 -- a flag line with these marks, or none
-lines-tests : (f : Bytes) (ls : List Bytes) (o : Option Marks) → marks_of f ≡ o → load_lines (f ∷ ls) ≡ elim o as (λ _. Load) [ none ↦ refused 3 1 | some m ↦ load_from m none_read 1 ls ]
+lines-tests : (f : Bytes) (ls : List Bytes) (o : Math.Option Marks) → marks_of f ≡ o → load_lines (f ∷ ls) ≡ elim o as (λ _. Load) [ Math.none ↦ refused 3 1 | Math.some m ↦ load_from m none_read 1 ls ]
 unfolding load_lines
 lines-tests f ls o e = rw (e, load_lines)
 
@@ -53,15 +51,15 @@ module _ {text : Bytes} {b : Bool} (h : length text ≤ 65536) (k : Has text 0 b
     unfolding load_lines
     head-empty z = record { is = by_lines ∙ ap load_lines (lines_none text 0 (omega arith)); inside = tt }
 
-    module _ {end next : ℕ} {g : Flags} (l : LineAt text 0 end next) (q : MarksAt text end g) where
-      by-marks : (o : Option Marks) → marks_of (part text 0 end) ≡ o → load text ≡ elim o as (λ _. Load) [ none ↦ refused 3 1 | some m ↦ load_from m none_read 1 (lines (drop next text)) ]
+    module _ {end next : ℕ} {g : Option Marks} (l : LineAt text 0 end next) (q : MarksAt text end g) where
+      by-marks : (o : Math.Option Marks) → marks_of (part text 0 end) ≡ o → load text ≡ elim o as (λ _. Load) [ Math.none ↦ refused 3 1 | Math.some m ↦ load_from m none_read 1 (lines (drop next text)) ]
       by-marks o z = by_lines ∙ ap load_lines l.is ∙ lines-tests (part text 0 end) (lines (drop next text)) o z
 
-      pub head-unmarked : g ≡ Fault → ReadsHead text (Err (record { fault = BadFlags; line = 1 }))
-      head-unmarked v = record { is = by-marks none (marks-fault q v); inside = tt }
+      pub head-unmarked : g ≡ None → ReadsHead text (Err (record { fault = BadFlags; line = 1 }))
+      head-unmarked v = record { is = by-marks Math.none (marks-fault q v); inside = tt }
 
-      pub head-marked : {m : Marks} → g ≡ Legal m → ReadsHead text (Ok (record { marks = m; first = next }))
-      head-marked {m} v = record { is = by-marks (some m) (marks_legal q v); inside = record { later = l.ahead; within = l.within } }
+      pub head-marked : {m : Marks} → g ≡ Some m → ReadsHead text (Ok (record { marks = m; first = next }))
+      head-marked {m} v = record { is = by-marks (Math.some m) (marks_legal q v); inside = record { later = l.ahead; within = l.within } }
 
 -- ---- load
 
