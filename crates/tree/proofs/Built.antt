@@ -15,7 +15,7 @@ use Rattle.nodes.specs.Rows.{no_node, elem, template_of, height, holes, Child, A
 use Rattle.nodes.specs.SideBySide.{Children, Says}
 use Rattle.model.proofs.Children.{one_key}
 use Rattle.nodes.proofs.Rows.{front_node}
-use Rattle.macros.specs.Table.{Table}
+use Rattle.macros.specs.declared.Table.{Table}
 use Rattle.templates.specs.Count.{known}
 use Rattle.templates.specs.Keys.{keys, Share, cnt, holed}
 use Rattle.templates.proofs.Keys.{lt_or, key_bound, key_ends, holes_most}

@@ -10,10 +10,11 @@ use lib.Dec.{eqb}
 use lib.ListN.{length, get_or, take, drop, get_or-eq_default}
 use lib.Seq.{length-take-le, get_or-take, get_or-drop}
 use Rattle.model.specs.Text.{Bytes}
-use Rattle.macros.specs.Table.{Table, start_in, len_in, templates_in}
+use Rattle.macros.specs.declared.Table.{Table}
+use Rattle.macros.specs.Table.{start_in, len_in, templates_in}
 use Rattle.templates.specs.Count.{common, known}
 use Rattle.templates.specs.Keys.{AllBytes, Smalls, byte_key, key_of, keys}
-use Rattle.macros.proofs.Table.{templates_in_length, templates_in_at}
+use Rattle.macros.proofs.Entries.{templates_in_length, templates_in_at}
 use Rattle.templates.proofs.Count.{longest_upper, longest_reached}
 use Rattle.templates.proofs.Keys.{lt_or, byte_no_end, byte_inj}
 use Rattle.tree.proofs.Room.{Known}

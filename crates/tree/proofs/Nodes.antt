@@ -8,7 +8,7 @@ use lib.Dec.{eqb}
 use Rattle.templates.specs.Keys.{Share, one, cnt, holed}
 use Rattle.tree.specs.Nodes.{Columns, Lesser, IsNode, Run, Done, Half}
 use Rattle.templates.proofs.Keys.{lt_or, share_trans, cnt-more, cnt-same}
-use Rattle.macros.proofs.Table.{one_more}
+use Rattle.macros.proofs.Entries.{one_more}
 
 -- the least key from low on that follows the first d elements of t in a template below n, and the first that has it; 258 where
 -- there is none

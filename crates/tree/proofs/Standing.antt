@@ -7,7 +7,7 @@ use Rattle.templates.specs.Keys.{Share}
 use Rattle.templates.specs.Order.{TakesRun}
 use Rattle.tree.specs.Nodes.{Columns, Waiting}
 use Rattle.templates.proofs.Keys.{lt_or, share_sym, share_trans, share_more}
-use Rattle.macros.proofs.Table.{one_more}
+use Rattle.macros.proofs.Entries.{one_more}
 use Rattle.tree.proofs.Nodes.{Next, Agree}
 
 -- what the order of templates gives: it has each of them, and where they have their first d elements in common their keys there ascend

@@ -6,7 +6,8 @@ use Rattle.model.specs.Text.{Bytes}
 use Rattle.model.specs.Load.{count}
 use Rattle.nodes.specs.declared.Node.{Node}
 use Rattle.nodes.specs.SideBySide.{SideBySide}
-use Rattle.macros.specs.Table.{Table, templates_in, order_in, Entries}
+use Rattle.macros.specs.declared.Table.{Table}
+use Rattle.macros.specs.Table.{templates_in, order_in, Entries}
 use Rattle.templates.specs.Count.{beginnings}
 use Rattle.templates.specs.Order.{InOrder}
 use Rattle.tree.specs.Nodes.{Made}

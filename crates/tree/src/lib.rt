@@ -11,6 +11,7 @@ ghost use Rattle.tree.specs.Built.{Growing, NodesMade, NextNode, Built};
 ghost use Rattle.model.specs.Limits.{macros_most};
 ghost use Rattle.model.specs.Children.{end_key, placeholder_key};
 
+use macros::Table;
 use model::{END_KEY, Marks};
 use nodes::{Node, ROOT_KEY, node_at, set_node};
 use templates::{Pick, holes_past, take_run};
@@ -72,7 +73,7 @@ fn make_root(n: usize) -> Node
 fn fill_children(
     mark: u8,
     text: &[u8],
-    table: &[usize],
+    table: &Table,
     n: usize,
     nodes: &mut [Node],
     i: usize,
@@ -108,7 +109,7 @@ fn link_children(nodes: &mut [Node], i: usize, first: usize, c: usize)
 fn add_children(
     mark: u8,
     text: &[u8],
-    table: &[usize],
+    table: &Table,
     n: usize,
     nodes: &mut [Node],
     i: usize,
@@ -127,7 +128,7 @@ fn add_children(
 }
 
 // Gives every node its children, from the root on: how many nodes there are then.
-fn grow_tree(mark: u8, text: &[u8], table: &[usize], n: usize, nodes: &mut [Node]) -> usize
+fn grow_tree(mark: u8, text: &[u8], table: &Table, n: usize, nodes: &mut [Node]) -> usize
     requires { Growing mark text.now table.now n nodes.old × Made mark (templates_in text.now table.now n) (order_in table.now) nodes.old 0 1 }
     ensures { NodesMade mark (templates_in text.now table.now n) (order_in table.now) nodes.new result result }
 {
@@ -141,7 +142,7 @@ fn grow_tree(mark: u8, text: &[u8], table: &[usize], n: usize, nodes: &mut [Node
 }
 
 // Makes the tree of the first n templates of the table at the front of the row: how many nodes it has.
-pub fn build(m: Marks, text: &[u8], table: &[usize], n: usize, nodes: &mut [Node]) -> usize
+pub fn build(m: Marks, text: &[u8], table: &Table, n: usize, nodes: &mut [Node]) -> usize
     requires { Growing m.placeholder text.now table.now n nodes.old }
     ensures { (result ≤ length nodes.new) × Built m (templates_in text.now table.now n) (take result nodes.new) }
 {

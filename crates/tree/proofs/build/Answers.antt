@@ -1,7 +1,7 @@
 -- build makes the root, with all templates, and the tree grows from there.
 use mathlib.Core.Path.{◌∙◌}
 use native.Mathlib.Omega.{arith}
-use Rattle.macros.proofs.Table.{templates_in_length}
+use Rattle.macros.proofs.Entries.{templates_in_length}
 use Rattle.tree.proofs.Known.{table_small}
 use Rattle.tree.proofs.Built.{growing_kept, built_in_row}
 use Rattle.tree.proofs.Filling.{root_alone}

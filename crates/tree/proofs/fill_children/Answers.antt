@@ -1,6 +1,6 @@
 -- fill_children appends the children of a node: each is the node of the next key, for which there is room; at the run's end none is left.
 use native.Mathlib.Omega.{arith}
-use Rattle.macros.proofs.Table.{templates_in_length}
+use Rattle.macros.proofs.Entries.{templates_in_length}
 use Rattle.tree.proofs.Filling.{last_within, child_fits, room_in_row, grown, all_filled}
 use Rattle.tree.proofs.fill_children.Goals as goal
 
