@@ -1,29 +1,30 @@
 -- The text of a layout: its fields and its other bytes.
-use mathlib.Core.Path.{◌≡◌, refl, sym, ap, ap₂, ◌∙◌}
-use mathlib.Core.Bool.{Bool, true, false, ◌&&◌}
+use mathlib.Core.Path.{◌≡◌, refl, sym, ap, ap₂, subst, ◌∙◌}
+use mathlib.Core.Bool.{Bool, true, false, not, cond, ◌&&◌}
 use mathlib.Core.List.{List, [], ◌∷◌, ◌++◌, append_assoc, append-nil}
-use Prim.Native.Nat.{ℕ, zero, suc, ◌+◌, ◌-◌, ◌*◌, ◌≤◌, ◌<◌}
+use Prim.Native.Nat.{ℕ, zero, suc, ◌+◌, ◌-◌, ◌*◌, ◌≤◌, ◌<◌, min}
 use native.Mathlib.Omega.{arith}
-use native.Mathlib.Numerals.{add-one}
-use borrow.Author.Tests.{eq-eqb, ne_eqb, le-leb, lt-leb}
-use lib.Dec.{eqb, leb}
-use lib.ListN.{length, get_or, set, take, drop, replicate, length-append}
-use lib.Seq.{take-take}
+use borrow.Author.Tests.{ltb-false, leb-true, leb-false, eqb-false, eq-eqb, ne_eqb}
+use lib.Dec.{eqb, leb, ltb}
+use lib.ListN.{length, get_or, set, take, drop, replicate, length-append, length-replicate, drop_of_length-le}
+use lib.Seq.{take-take, take-length, drop-drop}
+use Rattle.std.specs.Prelude.{Option, Some, None, position}
+use Rattle.std.specs.Option.{unwrap_or}
 use Rattle.model.specs.declared.Marks.{Marks}
 use Rattle.model.specs.Text.{Bytes, part}
 use Rattle.model.specs.Machine.{Frame, param, field, fields}
 use Rattle.model.proofs.Choices.{when_true, when_false}
-use Rattle.model.proofs.Text.{part_length, part-long, part_empty, part_cons}
+use Rattle.model.proofs.Text.{part_length, part-long, part-rest}
 use Rattle.buffer.specs.Pasted.{Pasted}
 use Rattle.rendering.specs.Added.{AddsAt}
 use Rattle.rendering.proofs.Added.{adds_as, adds_none, adds_copy, adds_store, adds_more, adds_length}
 use Rattle.call.specs.Call.{Laid, frame_of}
 use Rattle.call.specs.Params.{Lies}
-use Rattle.write.specs.Layout.{is_field, NamesField, param_of, layout_of, RunEnds, PutsField, PutsPart, PutsLayout}
+use Rattle.write.specs.Layout.{is_field, NamesField, param_of, layout_of, run_length, PutsField, PutsPart}
 
 -- ---- one field
 
-pub field_cut : (b n : ℕ) (s : Bytes) → n ≤ length s → field b n s ≡ take n s
+field_cut : (b n : ℕ) (s : Bytes) → n ≤ length s → field b n s ≡ take n s
 unfolding field
 field_cut b zero s h = refl
 field_cut b (suc n) [] h = absurd (omega arith)
@@ -34,7 +35,7 @@ unfolding field
 field_blank b zero = refl
 field_blank b (suc n) = ap (λ (l : Bytes). b ∷ l) (field_blank b n)
 
-pub field_filled : (b n k : ℕ) (s : Bytes) → n ≡ length s + k → field b n s ≡ s ++ replicate k b
+field_filled : (b n k : ℕ) (s : Bytes) → n ≡ length s + k → field b n s ≡ s ++ replicate k b
 unfolding field
 field_filled b n k [] e = field_blank b n ∙ ap (λ (i : ℕ). replicate i b) (let z : n ≡ k = omega arith in z)
 field_filled b zero k (x ∷ s) e = absurd (omega arith)
@@ -46,6 +47,21 @@ field-long b zero s = refl
 field-long b (suc n) [] = ap suc (field-long b n [])
 field-long b (suc n) (x ∷ s) = ap suc (field-long b n s)
 
+-- cut to n bytes, or filled
+field_min : (b n len : ℕ) (s : Bytes) → len ≡ min (length s) n → field b n s ≡ take len s ++ replicate (n - len) b
+field_min b n len s e = by (leb n (length s)) refl
+  where
+    by : (q : Bool) → leb n (length s) ≡ q → field b n s ≡ take len s ++ replicate (n - len) b
+    by true q =
+        let h : n ≤ length s = leb-true n (length s) q in
+        let z : n ≡ len = omega arith in
+        let y : 0 ≡ n - len = omega arith in
+        field_cut b n s h ∙ ap (λ (k : ℕ). take k s) z ∙ sym (append-nil (take len s)) ∙ ap (λ (k : ℕ). take len s ++ replicate k b) y
+    by false q =
+        let h : length s < n = leb-false n (length s) q in
+        let z : length s ≡ len = omega arith in
+        field_filled b n (n - len) s (omega arith) ∙ ap (λ (x : Bytes). x ++ replicate (n - len) b) (sym (take-length s) ∙ ap (λ (k : ℕ). take k s) z)
+
 -- the parameter's bytes in the call, whatever the marks are
 pub lies_param : (c : Laid) {d r : ℕ} → Lies c.nums d r → part c.bytes (200 * (d - 1)) (200 * (d - 1) + r) ≡ param_of c d
 unfolding param
@@ -53,35 +69,25 @@ lies_param c l =
     let m : Marks = record { source = 0; placeholder = 0; code = 0; escape = 0; blank = 0; left = 0; plus = 0; minus = 0; times = 0; divide = 0; right = 0 } in
     sym (l.is m [] c.head c.bytes)
 
--- a parameter cut
-pub puts_cut : {m : Marks} {c : Laid} {d n len : ℕ} {o : Bytes} {w : ℕ} {o' : Bytes} → length c.bytes ≡ 3400 → d ≤ 9 → Lies c.nums d len → n ≤ len
-    → Pasted o w (part c.bytes (200 * (d - 1)) (200 * (d - 1) + n)) (length (part c.bytes (200 * (d - 1)) (200 * (d - 1) + n))) o'
-    → w + n ≤ length o → PutsField m c d o w n o'
-puts_cut {m} {c} {d} {n} {len} {o} {w} long few l k p r =
-    let a : ℕ = 200 * (d - 1) in
-    let s = l.short in
-    let e : length (part c.bytes a (a + n)) ≡ n = part-long c.bytes a n (omega arith) in
-    let i : length (param_of c d) ≡ len = ap (λ (x : Bytes). length x) (sym (lies_param c l)) ∙ part-long c.bytes a len (omega arith) in
-    let y : a + n - a ≡ n = omega arith in
-    let z : a + len - a ≡ len = omega arith in
-    let q : part c.bytes a (a + n) ≡ take n (param_of c d) =
-    ap (λ (j : ℕ). take j (drop a c.bytes)) y ∙ sym (take-take n len (drop a c.bytes) k)
-    ∙ ap (λ (x : Bytes). take n x) (ap (λ (j : ℕ). take j (drop a c.bytes)) (sym z) ∙ lies_param c l) in
-    record { adds = adds_as (adds_copy p (omega arith)) (q ∙ sym (field_cut m.blank n (param_of c d) (omega arith))) e }
-
--- a parameter with blanks after it
-pub puts_filled : {m : Marks} {c : Laid} {d n len : ℕ} {o : Bytes} {w : ℕ} {o₁ o₂ : Bytes} → length c.bytes ≡ 3400 → d ≤ 9 → Lies c.nums d len → len < n
+-- a parameter cut, or with blanks after it
+pub puts_field : {blank : ℕ} {c : Laid} {d n r len : ℕ} {o : Bytes} {w : ℕ} {o₁ o₂ : Bytes} → length c.bytes ≡ 3400 → d ≤ 9 → Lies c.nums d r → len ≡ min r n
     → Pasted o w (part c.bytes (200 * (d - 1)) (200 * (d - 1) + len)) (length (part c.bytes (200 * (d - 1)) (200 * (d - 1) + len))) o₁
-    → AddsAt o₁ (w + len) (replicate (n - len) m.blank) (n - len) o₂ → w + n ≤ length o → PutsField m c d o w n o₂
-puts_filled {m} {c} {d} {n} {len} {o} {w} long few l k p b r =
+    → Pasted o₁ (w + len) (replicate (n - len) blank) (n - len) o₂ → w + n ≤ length o → PutsField blank c d o w n o₂
+puts_field {blank} {c} {d} {n} {r} {len} {o} {w} {o₁} {o₂} long few l e p q room =
     let a : ℕ = 200 * (d - 1) in
     let s = l.short in
-    let e : length (part c.bytes a (a + len)) ≡ len = part-long c.bytes a len (omega arith) in
-    let i : length (param_of c d) ≡ len = ap (λ (x : Bytes). length x) (sym (lies_param c l)) ∙ e in
-    let z : len + (n - len) ≡ n = omega arith in
-    record {
-      adds = adds_as (adds_more (adds_as (adds_copy p (omega arith)) (lies_param c l) e) b) (sym (field_filled m.blank n (n - len) (param_of c d) (omega arith))) z;
-    }
+    let e₁ : length (part c.bytes a (a + len)) ≡ len = part-long c.bytes a len (omega arith) in
+    let i : length (param_of c d) ≡ r = ap (λ (x : Bytes). length x) (sym (lies_param c l)) ∙ part-long c.bytes a r (omega arith) in
+    let y : a + len - a ≡ len = omega arith in
+    let z : a + r - a ≡ r = omega arith in
+    let f : part c.bytes a (a + len) ≡ take len (param_of c d) =
+    ap (λ (j : ℕ). take j (drop a c.bytes)) y ∙ sym (take-take len r (drop a c.bytes) (omega arith))
+    ∙ ap (λ (x : Bytes). take len x) (ap (λ (j : ℕ). take j (drop a c.bytes)) (sym z) ∙ lies_param c l) in
+    let b : length (replicate (n - len) blank) ≡ n - len = length-replicate (n - len) blank in
+    let g : AddsAt o w (take len (param_of c d)) len o₁ = adds_as (adds_copy p (omega arith)) f e₁ in
+    let t = adds_length g in
+    let h : AddsAt o₁ (w + len) (replicate (n - len) blank) (n - len) o₂ = adds_as (adds_copy (subst (λ (k : ℕ). Pasted o₁ (w + len) (replicate (n - len) blank) k o₂) (sym b) q) (omega arith)) refl b in
+    record { adds = adds_as (adds_more g h) (sym (field_min blank n len (param_of c d) (omega arith))) (omega arith) }
 
 -- ---- all of them
 
@@ -141,148 +147,130 @@ fields-same m f g e d n (x ∷ s) =
 
 -- ---- a run of one byte
 
--- the bytes from `at` up to i are the same
-pub record RunSoFar (text : Bytes) (at to i : ℕ) : Type 0 where
-  pub from : at < i
-  pub upto : i ≤ to
-  pub is : (m : Marks) (f : Frame) → fields m f (get_or text at 0) 1 (part text (at + 1) to) ≡ fields m f (get_or text at 0) (i - at) (part text i to)
+run_more : (b x : ℕ) (s : Bytes) → eqb x b ≡ true → run_length b (x ∷ s) ≡ suc (run_length b s)
+run_more b x s e = ap (λ (q : Bool). cond (not (not q)) (1 + run_length b s) 0) e ∙ omega arith
 
-pub running_begins : {text : Bytes} {at to : ℕ} → at < to → RunSoFar text at to (at + 1)
-running_begins {text} {at} {to} h =
-    let z : 1 ≡ at + 1 - at = omega arith in
-    record { from = omega arith; upto = omega arith; is = λ m f. ap (λ (n : ℕ). fields m f (get_or text at 0) n (part text (at + 1) to)) z }
+run-over : (b x : ℕ) (s : Bytes) → eqb x b ≡ false → run_length b (x ∷ s) ≡ 0
+run-over b x s e = ap (λ (q : Bool). cond (not (not q)) (1 + run_length b s) 0) e
 
-module _ {text : Bytes} {at to i : ℕ} (r : RunSoFar text at to i) where
-  run_first : (m : Marks) (f : Frame) → i < to → to ≤ length text
-      → fields m f (get_or text at 0) 1 (part text (at + 1) to) ≡ fields m f (get_or text at 0) (i - at) (get_or text i 0 ∷ part text (suc i) to)
-  run_first m f h k = r.is m f ∙ ap (λ (s : Bytes). fields m f (get_or text at 0) (i - at) s) (part_cons text i to h k)
+pub run_most : (b : ℕ) (s : Bytes) → run_length b s ≤ length s
+run_most b [] = omega arith
+run_most b (x ∷ s) = by (eqb x b) refl (run_most b s)
+  where
+    by : (q : Bool) → eqb x b ≡ q → run_length b s ≤ length s → run_length b (x ∷ s) ≤ suc (length s)
+    by true q h = omega (arith, run_more b x s q)
+    by false q h = omega (arith, run-over b x s q)
 
-  pub running_more : i < to → to ≤ length text → get_or text i 0 ≡ get_or text at 0 → RunSoFar text at to (i + 1)
-  unfolding fields
-  running_more h k e =
-      let l = r.from in
-      let z : suc (i - at) ≡ i + 1 - at = omega arith in
-      record {
-        from = omega arith;
-        upto = omega arith;
-        is = λ m f. run_first m f h k ∙ when_true _ _ (eq-eqb (get_or text i 0) (get_or text at 0) e)
-            ∙ ap₂ (λ (n j : ℕ). fields m f (get_or text at 0) n (part text j to)) z (sym (add-one i));
-      }
+-- where the first other byte stands, or the layout ends
+pub run-found : (b : ℕ) (s : Bytes) → unwrap_or (position (λ x. not (eqb x b)) s) (length s) ≡ run_length b s
+run-found b s = by (ltb (run_length b s) (length s)) refl
+  where
+    at : Bool → ℕ
+    at q = unwrap_or (cond q (Some (run_length b s)) None) (length s)
 
-  pub runs_differ : i < to → to ≤ length text → ¬ (get_or text i 0 ≡ get_or text at 0) → get_or text i 0 < 256 → RunEnds text at to i
-  runs_differ h k d b = record {
-    from = r.from;
-    upto = r.upto;
-    is = λ m f. run_first m f h k ∙ fields-next m f (get_or text at 0) (i - at) (get_or text i 0) (part text (suc i) to) b d
-        ∙ ap (λ (s : Bytes). field m.blank (i - at) (param f (get_or text at 0 - 48)) ++ fields m f 256 0 s) (sym (part_cons text i to h k));
-  }
+    by : (q : Bool) → ltb (run_length b s) (length s) ≡ q → at (ltb (run_length b s) (length s)) ≡ run_length b s
+    by true q = ap at q
+    by false q = ap at q ∙ omega (arith, ltb-false (run_length b s) (length s) q, run_most b s)
 
-  pub runs_all : to ≤ i → RunEnds text at to i
+module _ (m : Marks) (f : Frame) (b : ℕ) where
+  -- a field is a run of its byte
+  fields-run : (n : ℕ) (s : Bytes) → ((i : ℕ) → get_or s i 0 < 256) → fields m f b n s ≡ field m.blank (n + run_length b s) (param f (b - 48)) ++ fields m f 256 0 (drop (run_length b s) s)
   unfolding fields field
-  runs_all h = record {
-    from = r.from;
-    upto = r.upto;
-    is = λ m f. r.is m f ∙ ap (λ (s : Bytes). fields m f (get_or text at 0) (i - at) s) (part_empty text i to h)
-        ∙ sym (append-nil (field m.blank (i - at) (param f (get_or text at 0 - 48))))
-        ∙ ap (λ (s : Bytes). field m.blank (i - at) (param f (get_or text at 0 - 48)) ++ fields m f 256 0 s) (sym (part_empty text i to h));
-  }
+  fields-run n [] h =
+      let z : n ≡ n + 0 = omega arith in
+      ap (λ (k : ℕ). field m.blank k (param f (b - 48))) z ∙ sym (append-nil (field m.blank (n + 0) (param f (b - 48))))
+  fields-run n (x ∷ s) h = by (eqb x b) refl (fields-run (suc n) s (λ i. h (suc i)))
+    where
+      after : ℕ → ℕ → Bytes
+      after k j = field m.blank k (param f (b - 48)) ++ fields m f 256 0 (drop j (x ∷ s))
+
+      by : (q : Bool) → eqb x b ≡ q → fields m f b (suc n) s ≡ after (suc n + run_length b s) (suc (run_length b s))
+          → fields m f b n (x ∷ s) ≡ after (n + run_length b (x ∷ s)) (run_length b (x ∷ s))
+      by true q g =
+          let e = run_more b x s q in
+          let z : suc n + run_length b s ≡ n + run_length b (x ∷ s) = omega (arith, e) in
+          when_true _ _ q ∙ g ∙ ap₂ (λ (k j : ℕ). after k j) z (sym e)
+      by false q g =
+          let e = run-over b x s q in
+          let z : n ≡ n + run_length b (x ∷ s) = omega (arith, e) in
+          fields-next m f b n x s (h 0) (eqb-false x b q) ∙ ap₂ (λ (k j : ℕ). after k j) z (sym e)
 
 -- ---- a part of a layout
 
--- the parameter that a byte names
-pub names_low : {b : ℕ} → b < 49 → NamesField b 0
-names_low {b} h = record {
-  small = omega arith;
-  most = omega arith;
-  none = λ e. ap (λ (q : Bool). q && leb b 57) (lt-leb 49 b h);
-  names = λ k. absurd (omega arith);
-}
+pub part_field : {m : Marks} {s : Bytes} {c : Laid} {o : Bytes} {w : ℕ} → 0 < length s → {r : Option ℕ} → NamesField (get_or s 0 0) r → {d n : ℕ} {o' : Bytes} → ((i : ℕ) → get_or s i 0 < 256) → r ≡ Some d
+    → n ≡ run_length (get_or s 0 0) s → PutsField m.blank c d o w n o' → PutsPart m s c o w n o'
+unfolding param
+part_field {s = []} h k bytes e y p = absurd (omega arith)
+part_field {m} {s = x ∷ s} {c} h k {d} {n} bytes e y p =
+    let f : Frame = frame_of m [] c in
+    let l = run_more x x s (eq-eqb x x refl) in
+    let most = run_most x (x ∷ s) in
+    let z : 1 + run_length x s ≡ n = omega arith in
+    let v : suc (run_length x s) ≡ n = omega arith in
+    record {
+      bytes = field m.blank n (param_of c d);
+      is = fields-field m f x s k.small (k.names d e).0 ∙ fields-run m f x 1 s (λ i. bytes (suc i))
+          ∙ ap₂ (λ (a j : ℕ). field m.blank a (param f (x - 48)) ++ fields m f 256 0 (drop j (x ∷ s))) z v
+          ∙ ap (λ (j : ℕ). field m.blank n (param_of c j) ++ layout_of m (drop n (x ∷ s)) c) (sym (k.names d e).1);
+      adds = p.adds;
+      from = omega arith;
+      upto = omega arith;
+    }
 
-pub names_high : {b : ℕ} → 57 < b → b < 256 → NamesField b 0
-names_high {b} h k = record {
-  small = k;
-  most = omega arith;
-  none = λ e. ap (λ (q : Bool). q && leb b 57) (le-leb 49 b (omega arith)) ∙ lt-leb b 57 h;
-  names = λ k. absurd (omega arith);
-}
+-- the layout's first byte
+first_byte : (s : Bytes) → 0 < length s → s ≡ get_or s 0 0 ∷ drop 1 s
+first_byte [] h = absurd (omega arith)
+first_byte (x ∷ s) h = refl
 
-pub names-field : {b v : ℕ} → 49 ≤ b → b ≤ 57 → v ≡ b - 48 → NamesField b v
-names-field {b} {v} h k e = record {
-  small = omega arith;
-  most = omega arith;
-  none = λ z. absurd (omega arith);
-  names = λ z. (ap (λ (q : Bool). q && leb b 57) (le-leb 49 b h) ∙ le-leb b 57 k, e);
-}
-
-module _ {m : Marks} {text : Bytes} {at to : ℕ} {c : Laid} {o : Bytes} {w d : ℕ} (h : at < to) (k : to ≤ length text) (n : NamesField (get_or text at 0) d) where
-  pub part_field : {r : ℕ} {o' : Bytes} → 0 < d → RunEnds text at to r → PutsField m c d o w (r - at) o' → PutsPart m text at to c o w r o'
-  unfolding param
-  part_field {r} e x p = record {
-    bytes = field m.blank (r - at) (param_of c d);
-    is = ap (λ (s : Bytes). layout_of m text c s) (part_cons text at to h k)
-        ∙ fields-field m (frame_of m text c) (get_or text at 0) (part text (suc at) to) n.small (n.names e).0
-        ∙ ap (λ (j : ℕ). fields m (frame_of m text c) (get_or text at 0) 1 (part text j to)) (sym (add-one at))
-        ∙ x.is m (frame_of m text c)
-        ∙ ap (λ (j : ℕ). field m.blank (r - at) (param_of c j) ++ layout_of m text c (part text r to)) (sym (n.names e).1);
-    adds = p.adds;
-    from = x.from;
-    upto = x.upto;
+module _ {m : Marks} {s : Bytes} {c : Laid} {o : Bytes} {w : ℕ} (h : 0 < length s) {r : Option ℕ} (n : NamesField (get_or s 0 0) r) where
+  pub part_byte : r ≡ None → w + length s ≤ length o → PutsPart m s c o w 1 (set o w (get_or s 0 0))
+  part_byte e room = record {
+    bytes = get_or s 0 0 ∷ [];
+    is = ap (λ (x : Bytes). layout_of m x c) (first_byte s h) ∙ fields_byte m (frame_of m [] c) (get_or s 0 0) (drop 1 s) n.small (n.none e);
+    adds = adds_store (get_or s 0 0) (omega arith);
+    from = omega arith;
+    upto = omega arith;
   }
-
-  pub part_byte : d ≤ 0 → w + (to - at) ≤ length o → PutsPart m text at to c o w (at + 1) (set o w (get_or text at 0))
-  part_byte e l =
-      let z : 1 ≡ at + 1 - at = omega arith in
-      record {
-        bytes = get_or text at 0 ∷ [];
-        is = ap (λ (s : Bytes). layout_of m text c s) (part_cons text at to h k)
-            ∙ fields_byte m (frame_of m text c) (get_or text at 0) (part text (suc at) to) n.small (n.none (omega arith))
-            ∙ ap (λ (j : ℕ). get_or text at 0 ∷ layout_of m text c (part text j to)) (sym (add-one at));
-        adds = adds_as (adds_store (get_or text at 0) (omega arith)) refl z;
-        from = omega arith;
-        upto = omega arith;
-      }
 
 -- ---- the parts one after the other
 
--- the layout up to i is written
-pub record LayoutSoFar (m : Marks) (text : Bytes) (at to : ℕ) (c : Laid) (o₀ : Bytes) (w i : ℕ) (o : Bytes) : Type 0 where
+-- the layout's first i bytes are written
+pub record LayoutSoFar (m : Marks) (s : Bytes) (c : Laid) (o₀ : Bytes) (w i : ℕ) (o : Bytes) : Type 0 where
   pub bytes : Bytes
-  pub is : layout_of m text c (part text at to) ≡ bytes ++ layout_of m text c (part text i to)
-  pub adds : AddsAt o₀ w bytes (i - at) o
-  pub from : at ≤ i
-  pub upto : i ≤ to
-  pub long : length o ≡ length o₀
+  pub is : layout_of m s c ≡ bytes ++ layout_of m (drop i s) c
+  pub adds : AddsAt o₀ w bytes i o
+  pub upto : i ≤ length s
 
-pub laying_none : {m : Marks} {text : Bytes} {at to : ℕ} {c : Laid} {o : Bytes} {w : ℕ} → at ≤ to → w + (to - at) ≤ length o → LayoutSoFar m text at to c o w at o
-laying_none {at = at} h k =
-    let z : 0 ≡ at - at = omega arith in
-    record { bytes = []; is = refl; adds = adds_as (adds_none (omega arith)) refl z; from = omega arith; upto = h; long = refl }
+-- a layout's bytes
+pub layout-long : (m : Marks) (s : Bytes) (c : Laid) → length (layout_of m s c) ≡ length s
+layout-long m s c = fields-long m (frame_of m [] c) 256 0 s ∙ omega arith
 
-module _ {m : Marks} {text : Bytes} {at to : ℕ} {c : Laid} {o₀ : Bytes} {w i : ℕ} {o : Bytes} (p : LayoutSoFar m text at to c o₀ w i o) where
-  pub laying_more : {r : ℕ} {o' : Bytes} → PutsPart m text i to c o (w + (i - at)) r o' → LayoutSoFar m text at to c o₀ w r o'
+pub laying_none : {m : Marks} {s : Bytes} {c : Laid} {o : Bytes} {w : ℕ} → w + length (layout_of m s c) ≤ length o → LayoutSoFar m s c o w 0 o
+laying_none h = record { bytes = []; is = refl; adds = adds_none (omega arith); upto = omega arith }
+
+module _ {m : Marks} {s : Bytes} {c : Laid} {o₀ : Bytes} {w i : ℕ} {o : Bytes} (p : LayoutSoFar m s c o₀ w i o) where
+  -- what a part asks
+  pub laying_room : w + length (layout_of m s c) ≤ length o₀ → w + i + length (part s i (length s)) ≤ length o
+  laying_room h = omega (arith, layout-long m s c, adds_length p.adds, p.upto, part_length s i (length s) (omega arith))
+
+  pub laying_there : i < length s → 0 < length (part s i (length s))
+  laying_there h = omega (arith, part_length s i (length s) (omega arith))
+
+  pub laying_more : {r : ℕ} {o' : Bytes} → PutsPart m (part s i (length s)) c o (w + i) r o' → LayoutSoFar m s c o₀ w (i + r) o'
   laying_more {r} {o'} q =
-      let f = p.from in
-      let g = q.from in
-      let h = q.upto in
-      let z : i - at + (r - i) ≡ r - at = omega arith in
+      let e : part s i (length s) ≡ drop i s = part-rest s i in
+      let z : drop r (part s i (length s)) ≡ drop (i + r) s = ap (λ (x : Bytes). drop r x) e ∙ drop-drop r i s in
       record {
         bytes = p.bytes ++ q.bytes;
-        is = p.is ∙ ap (λ (s : Bytes). p.bytes ++ s) q.is ∙ sym (append_assoc p.bytes q.bytes (layout_of m text c (part text r to)));
-        adds = adds_as (adds_more p.adds q.adds) refl z;
-        from = omega arith;
-        upto = h;
-        long = adds_length q.adds ∙ p.long;
+        is = p.is ∙ ap (λ (x : Bytes). p.bytes ++ layout_of m x c) (sym e) ∙ ap (λ (x : Bytes). p.bytes ++ x) (q.is ∙ ap (λ (x : Bytes). q.bytes ++ layout_of m x c) z)
+            ∙ sym (append_assoc p.bytes q.bytes (layout_of m (drop (i + r) s) c));
+        adds = adds_more p.adds q.adds;
+        upto = omega (arith, q.upto, p.upto, part_length s i (length s) (omega arith));
       }
 
-  pub laying_all : to ≤ i → PutsLayout m text at to c o₀ w o
+  pub laying_all : length s ≤ i → AddsAt o₀ w (layout_of m s c) (length (layout_of m s c)) o
   unfolding fields field
   laying_all h =
       let u = p.upto in
-      let z : i - at ≡ to - at = omega arith in
-      record {
-        adds = adds_as p.adds (sym (p.is ∙ ap (λ (s : Bytes). p.bytes ++ layout_of m text c s) (part_empty text i to h) ∙ append-nil p.bytes)) z;
-      }
-
--- a layout's bytes
-pub layout_long : (m : Marks) (text : Bytes) (c : Laid) (at to : ℕ) → to ≤ length text → length (layout_of m text c (part text at to)) ≡ to - at
-layout_long m text c at to h = fields-long m (frame_of m text c) 256 0 (part text at to) ∙ (let l = part_length text at to h in omega arith)
+      let z : i ≡ length (layout_of m s c) = omega (arith, layout-long m s c) in
+      adds_as p.adds (sym (p.is ∙ ap (λ (x : Bytes). p.bytes ++ layout_of m x c) (drop_of_length-le s h) ∙ append-nil p.bytes)) z

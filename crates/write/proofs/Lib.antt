@@ -1,4 +1,3 @@
--- The laws of what is written.
-pub mod Adding
+-- Laws of what is written.
 pub mod Fields
 pub mod Lines

@@ -1,185 +1,144 @@
 -- A line written whole, or not at all, and what that comes to.
 use mathlib.Core.Path.{◌≡◌, refl, sym, ap, subst, ◌∙◌}
 use mathlib.Core.Bool.{Bool, true, false}
-use mathlib.Core.Option.{Option, none, some}
-use mathlib.Core.List.{List, [], ◌∷◌, ◌++◌}
-use Prim.Native.Nat.{ℕ, ◌+◌, ◌-◌, ◌≤◌, ◌<◌}
+use mathlib.Core.Option.{none, some}
+use mathlib.Core.List.{List, []}
+use Prim.Native.Nat.{ℕ, ◌+◌, ◌≤◌}
 use native.Mathlib.Omega.{arith}
-use borrow.Author.Tests.{le-leb, lt-leb}
-use lib.ListN.{length, take, set}
-use lib.Seq.{length-take-le}
+use lib.ListN.{length, take}
+use Rattle.std.specs.Prelude.{Option, Some, None}
+use mathlib.Core.Option as Math
+use Rattle.faults.specs.declared.RunFault.TheVariants.{NoRoom}
 use Rattle.model.specs.declared.Marks.{Marks}
 use Rattle.model.specs.declared.Channel.{Channel}
 use Rattle.model.specs.declared.Channel.TheVariants.{Nowhere, First, Second}
-use Rattle.model.specs.Text.{Bytes, part}
+use Rattle.model.specs.Text.{Bytes}
 use Rattle.model.specs.Report.{Tally}
 use Rattle.model.specs.Machine.{Outputs, outputs, Frame, Shared, continues, appended, with_first, with_second, wrote, goes_written, write_to, running, ended, state_with, stepped, passed, pass_through}
 use Rattle.model.proofs.Choices.{when_true, when_false, false-not-true}
-use Rattle.model.proofs.Text.{part_front}
-use Rattle.buffer.specs.Pasted.{Pasted}
-use Rattle.rendering.specs.Added.{AddsAt}
-use Rattle.rendering.proofs.Added.{adds_as, adds_copy, adds_store, adds_more, adds_length, adds_fits, adds_long, adds_take}
 use Rattle.state.specs.declared.State.{State}
 use Rattle.state.specs.State.{shared_of, state_of, with_written, Sound}
 use Rattle.call.specs.declared.Head.{Head}
-use Rattle.call.specs.Call.{Laid, laid, frame_of, Placed}
+use Rattle.call.specs.Call.{laid, frame_of, Placed}
 use Rattle.answer.specs.declared.Answer.{Answer}
-use Rattle.answer.specs.Answers.{turn, goes_further, goes_back, ends_with, is_left, settle, next_at, next_of, rooms_of}
+use Rattle.answer.specs.Answers.{goes_further, goes_back, ends_with, is_left, settle, next_at, next_of, rooms_of}
 use Rattle.answer.specs.Kept.{Extends, ExtendsBoth, Comes, Follows}
 use Rattle.answer.proofs.Following.{extends_none, follows_itself}
 use Rattle.answer.proofs.Coming.{comes_as, came_end}
 use Rattle.answer.proofs.Expansion.{skip-none}
-use Rattle.write.specs.Output.{has_room, Puts, PutsLine, wrote_to, AnswersWritten, has_room_on, Writes, WritesLine, PassesThrough}
-use Rattle.write.specs.Layout.{PutsLayout, PutsLayoutLine, WritesLayout}
-use Rattle.write.proofs.Adding.{adds_extends}
-use Rattle.write.proofs.Fields.{layout_long}
-
--- ---- one output
-
-module _ {l o : Bytes} {w n : ℕ} where
-  -- the line and a byte 10 are there
-  puts : {o₁ : Bytes} → AddsAt o w l n o₁ → n < length o - w → Puts l o w (w + n + 1) (set o₁ (w + n) 10)
-  puts {o₁} g h =
-      let same = adds_length g in
-      let b : AddsAt o w (l ++ (10 ∷ [])) (n + 1) (set o₁ (w + n) 10) = adds_more g (adds_store 10 (omega arith)) in
-      let fits = adds_fits b in
-      let long = adds_long g in
-      let front = length-take-le w o (omega arith) in
-      let room : has_room l w o ≡ true = le-leb (length (take w o) + length l + 1) (length o) (omega arith) in
-      let z : w + (n + 1) ≡ w + n + 1 = omega arith in
-      record {
-        fits = λ _. (omega arith, ap (λ (k : ℕ). take k (set o₁ (w + n) 10)) (sym z) ∙ adds_take b);
-        full = λ e. false-not-true (sym e ∙ room);
-        extends = subst (λ (k : ℕ). Extends o w (set o₁ (w + n) 10) k) z (adds_extends b);
-      }
-
-  -- there is no room for them
-  puts_none : length l ≡ n → w ≤ length o → length o - w ≤ n → Puts l o w w o
-  puts_none e h k =
-      let front = length-take-le w o h in
-      let room : has_room l w o ≡ false = lt-leb (length (take w o) + length l + 1) (length o) (omega arith) in
-      record { fits = λ g. false-not-true (sym room ∙ g); full = λ _. (refl, refl); extends = extends_none h }
-
-module _ {line : Bytes} {n : ℕ} {o : Bytes} {w : ℕ} (h : n ≤ length line) where
-  pub line_no_room : w ≤ length o → length o - w ≤ n → PutsLine line n o w w o
-  line_no_room k e = record { puts = puts_none (length-take-le n line h) k e }
-
-  pub line_put : {o₁ : Bytes} → Pasted o w (part line 0 n) (length (part line 0 n)) o₁ → n < length o - w → PutsLine line n o w (w + n + 1) (set o₁ (w + n) 10)
-  line_put g k =
-      let f = part_front line n in
-      let l : length (part line 0 n) ≡ n = ap (λ (x : Bytes). length x) f ∙ length-take-le n line h in
-      record { puts = puts (adds_as (adds_copy g (omega arith)) f l) k }
-
-module _ {m : Marks} {text : Bytes} {at to : ℕ} {c : Laid} {o : Bytes} {w : ℕ} (h : to ≤ length text) where
-  pub layout_no_room : w ≤ length o → length o - w ≤ to - at → PutsLayoutLine m text at to c o w w o
-  layout_no_room k e = record { puts = puts_none (layout_long m text c at to h) k e }
-
-  pub layout_put : {o₁ : Bytes} → PutsLayout m text at to c o w o₁ → to - at < length o - w → PutsLayoutLine m text at to c o w (w + (to - at) + 1) (set o₁ (w + (to - at)) 10)
-  layout_put p k = record { puts = puts p.adds k }
-
--- ---- the answer
-
-module _ {r : Answer} {n k : ℕ} {a : Answer} where
-  pub more_first : ¬ (n ≡ r.state.written) → a ≡ wrote_to r n k → AnswersWritten r n k a
-  more_first z e = record { goes = λ _. e; ends = λ p _. absurd (z p) }
-
-  pub more_second : ¬ (k ≡ r.state.second) → a ≡ wrote_to r n k → AnswersWritten r n k a
-  more_second z e = record { goes = λ _. e; ends = λ _ p. absurd (z p) }
-
-  pub no_more : n ≡ r.state.written → k ≡ r.state.second → a ≡ ends_with 13 r.state → AnswersWritten r n k a
-  no_more p q e = record { goes = λ z. absurd (z (p, q)); ends = λ _ _. e }
-
-pub counts_written : (r : Answer) {n k : ℕ} {t : State} → t ≡ with_written r.state n k
-    → ◌≡◌ {A = Answer} (record { kind = r.kind; count = r.count; call = r.call; state = t }) (wrote_to r n k)
-counts_written r e = ap (λ (x : State). record { kind = r.kind; count = r.count; call = r.call; state = x }) e
+use Rattle.write.specs.Output.{Puts, GoesTo, PutsOn, has_room_on, Writes, PassesThrough}
 
 -- ---- a channel
 
 -- nothing is written
-pub writes_nowhere : {l : Bytes} {r : Answer} {o : Outputs} → r.state.written ≤ length o.first → r.state.second ≤ length o.second → Writes Nowhere l r o r o
+pub puts_nowhere : {ch : Channel} {l : Bytes} {s : State} {o : Outputs} → ch ≡ Nowhere → s.written ≤ length o.first → s.second ≤ length o.second → PutsOn ch l s o (Some s) o
 unfolding wrote
-writes_nowhere h k = record { fits = λ _. (refl, λ memory. refl); full = λ e. false-not-true (sym e); extends = record { first = extends_none h; second = extends_none k } }
+puts_nowhere {ch} {l} {s} {o} e h k = subst (λ (x : Channel). PutsOn x l s o (Some s) o) (sym e) (record {
+  fits = λ _. (s, refl, record { state = refl; wrote = λ memory. refl; extends = record { first = extends_none h; second = extends_none k } });
+  full = λ e. false-not-true (sym e);
+})
 
-module _ {l : Bytes} {r a : Answer} where
+module _ {ch : Channel} {l : Bytes} {s : State} where
   -- the line is written to the first output
-  pub writes_first : {o o' s : Bytes} {w : ℕ} → r.state.second ≤ length s → Puts l o r.state.written w o' → AnswersWritten r w r.state.second a → Writes First l r (outputs o s) a (outputs o' s)
+  pub puts_first : {o o' b : Bytes} {w : ℕ} {t : State} → ch ≡ First → s.second ≤ length b → Puts l o s.written (Some w) o' → t ≡ with_written s w s.second → PutsOn ch l s (outputs o b) (Some t) (outputs o' b)
   unfolding wrote appended with_first
-  writes_first {o} {o'} {s} {w} h p q = by (has_room l r.state.written o) refl
-    where
-      by : (b : Bool) → has_room l r.state.written o ≡ b → Writes First l r (outputs o s) a (outputs o' s)
-      by true b =
-          let is : a ≡ wrote_to r w r.state.second = q.goes (λ e. absurd (omega (arith, e.0, (p.fits b).0))) in
-          subst (λ (x : Answer). Writes First l r (outputs o s) x (outputs o' s)) (sym is) (record {
-            fits = λ _. (
+  puts_first {o} {o'} {b} {w} {t} e h p f = subst (λ (x : Channel). PutsOn x l s (outputs o b) (Some t) (outputs o' b)) (sym e)
+      (subst (λ (x : State). PutsOn First l s (outputs o b) (Some x) (outputs o' b)) (sym f) (record {
+        fits = λ k.
+            let q = p.fits k in
+            let z : w ≡ s.written + length l + 1 = cc in (
+              with_written s w s.second,
               refl,
-              λ memory.
-                  ap (with_first (shared_of r.state (outputs o s) memory)) (when_true _ _ b)
-                  ∙ ap (λ (x : Bytes). some (record { symbols = r.state.symbols; store = (shared_of r.state (outputs o s) memory).store; output = outputs x (take r.state.second s) })) (sym (p.fits b).1),
+              record {
+                state = refl;
+                wrote = λ memory.
+                    ap (with_first (shared_of s (outputs o b) memory)) (when_true _ _ k)
+                    ∙ ap (λ (x : Bytes). some (record { symbols = s.symbols; store = (shared_of s (outputs o b) memory).store; output = outputs x (take s.second b) })) (sym q.1 ∙ ap (λ (j : ℕ). take j o') (sym z));
+                extends = record { first = subst (λ (j : ℕ). Extends o s.written o' j) (sym z) q.2; second = extends_none h };
+              },
             );
-            full = λ e. false-not-true (sym e ∙ b);
-            extends = record { first = p.extends; second = extends_none h };
-          })
-      by false b =
-          let is : a ≡ ends_with 13 r.state = q.ends (p.full b).0 refl in
-          subst (λ (x : Answer). Writes First l r (outputs o s) x (outputs o' s)) (sym is) (record {
-            fits = λ e. false-not-true (sym b ∙ e);
-            full = λ _. (refl, ap (λ (x : Bytes). outputs x s) (p.full b).1, λ memory. ap (with_first (shared_of r.state (outputs o s) memory)) (when_false _ _ b));
-            extends = record { first = subst (λ (k : ℕ). Extends o r.state.written o' k) (p.full b).0 p.extends; second = extends_none h };
-          })
+        full = λ k. absurd (let q = (p.full k).0 in cc);
+      }))
+
+  -- there is no room in it
+  pub no_room_first : {o o' b : Bytes} → ch ≡ First → Puts l o s.written None o' → PutsOn ch l s (outputs o b) None (outputs o' b)
+  unfolding wrote appended with_first
+  no_room_first {o} {o'} {b} e p = subst (λ (x : Channel). PutsOn x l s (outputs o b) None (outputs o' b)) (sym e) (record {
+    fits = λ k. absurd (let q = (p.fits k).0 in cc);
+    full = λ k. (refl, ap (λ (x : Bytes). outputs x b) (p.full k).1, λ memory. ap (with_first (shared_of s (outputs o b) memory)) (when_false _ _ k));
+  })
 
   -- or to the second
-  pub writes_second : {o s s' : Bytes} {w : ℕ} → r.state.written ≤ length o → Puts l s r.state.second w s' → AnswersWritten r r.state.written w a → Writes Second l r (outputs o s) a (outputs o s')
+  pub puts_second : {o b b' : Bytes} {w : ℕ} {t : State} → ch ≡ Second → s.written ≤ length o → Puts l b s.second (Some w) b' → t ≡ with_written s s.written w → PutsOn ch l s (outputs o b) (Some t) (outputs o b')
   unfolding wrote appended with_second
-  writes_second {o} {s} {s'} {w} h p q = by (has_room l r.state.second s) refl
-    where
-      by : (b : Bool) → has_room l r.state.second s ≡ b → Writes Second l r (outputs o s) a (outputs o s')
-      by true b =
-          let is : a ≡ wrote_to r r.state.written w = q.goes (λ e. absurd (omega (arith, e.1, (p.fits b).0))) in
-          subst (λ (x : Answer). Writes Second l r (outputs o s) x (outputs o s')) (sym is) (record {
-            fits = λ _. (
+  puts_second {o} {b} {b'} {w} {t} e h p f = subst (λ (x : Channel). PutsOn x l s (outputs o b) (Some t) (outputs o b')) (sym e)
+      (subst (λ (x : State). PutsOn Second l s (outputs o b) (Some x) (outputs o b')) (sym f) (record {
+        fits = λ k.
+            let q = p.fits k in
+            let z : w ≡ s.second + length l + 1 = cc in (
+              with_written s s.written w,
               refl,
-              λ memory.
-                  ap (with_second (shared_of r.state (outputs o s) memory)) (when_true _ _ b)
-                  ∙ ap (λ (x : Bytes). some (record { symbols = r.state.symbols; store = (shared_of r.state (outputs o s) memory).store; output = outputs (take r.state.written o) x })) (sym (p.fits b).1),
+              record {
+                state = refl;
+                wrote = λ memory.
+                    ap (with_second (shared_of s (outputs o b) memory)) (when_true _ _ k)
+                    ∙ ap (λ (x : Bytes). some (record { symbols = s.symbols; store = (shared_of s (outputs o b) memory).store; output = outputs (take s.written o) x })) (sym q.1 ∙ ap (λ (j : ℕ). take j b') (sym z));
+                extends = record { first = extends_none h; second = subst (λ (j : ℕ). Extends b s.second b' j) (sym z) q.2 };
+              },
             );
-            full = λ e. false-not-true (sym e ∙ b);
-            extends = record { first = extends_none h; second = p.extends };
-          })
+        full = λ k. absurd (let q = (p.full k).0 in cc);
+      }))
+
+  pub no_room_second : {o b b' : Bytes} → ch ≡ Second → Puts l b s.second None b' → PutsOn ch l s (outputs o b) None (outputs o b')
+  unfolding wrote appended with_second
+  no_room_second {o} {b} {b'} e p = subst (λ (x : Channel). PutsOn x l s (outputs o b) None (outputs o b')) (sym e) (record {
+    fits = λ k. absurd (let q = (p.fits k).0 in cc);
+    full = λ k. (refl, ap (λ (x : Bytes). outputs o x) (p.full k).1, λ memory. ap (with_second (shared_of s (outputs o b) memory)) (when_false _ _ k));
+  })
+
+-- ---- the answer
+
+module _ {ch : Channel} {l : Bytes} {r : Answer} {o o' : Outputs} {a : Answer} where
+  goes : {t : State} → has_room_on ch l r.state o ≡ true → GoesTo ch l r.state o t o' → a ≡ record r { state = t } → Writes ch l r o a o'
+  goes {t} b g e = subst (λ (x : Answer). Writes ch l r o x o') (sym e) (record {
+    fits = λ _. (ap (λ (x : State). record r { state = x }) g.state, g.wrote);
+    full = λ f. false-not-true (sym f ∙ b);
+    extends = g.extends;
+  })
+
+  -- a line that is written
+  pub writes_put : {t : State} → PutsOn ch l r.state o (Some t) o' → a ≡ record r { state = t } → Writes ch l r o a o'
+  writes_put {t} p e = by (has_room_on ch l r.state o) refl
+    where
+      by : (b : Bool) → has_room_on ch l r.state o ≡ b → Writes ch l r o a o'
+      by true b =
+          let g = p.fits b in
+          let z : g.0 ≡ t = (let q = g.1 in cc) in
+          goes b (subst (λ (x : State). GoesTo ch l r.state o x o') z g.2) e
+      by false b = absurd (let q = (p.full b).0 in cc)
+
+  -- there is no room for it
+  pub writes_none : PutsOn ch l r.state o None o' → r.state.written ≤ length o.first → r.state.second ≤ length o.second → a ≡ ends_with (Some NoRoom) r.state → Writes ch l r o a o'
+  writes_none p h k e = by (has_room_on ch l r.state o) refl
+    where
+      by : (b : Bool) → has_room_on ch l r.state o ≡ b → Writes ch l r o a o'
+      by true b = absurd (let q = (p.fits b).1 in cc)
       by false b =
-          let is : a ≡ ends_with 13 r.state = q.ends refl (p.full b).0 in
-          subst (λ (x : Answer). Writes Second l r (outputs o s) x (outputs o s')) (sym is) (record {
-            fits = λ e. false-not-true (sym b ∙ e);
-            full = λ _. (refl, ap (λ (x : Bytes). outputs o x) (p.full b).1, λ memory. ap (with_second (shared_of r.state (outputs o s) memory)) (when_false _ _ b));
-            extends = record { first = extends_none h; second = subst (λ (k : ℕ). Extends s r.state.second s' k) (p.full b).0 p.extends };
-          })
+          let g = p.full b in
+          record {
+            fits = λ f. false-not-true (sym b ∙ f);
+            full = λ _. (e, g.1, g.2);
+            extends = subst (λ (x : Outputs). ExtendsBoth o r.state x a.state) (sym g.1)
+                (subst (λ (x : Answer). ExtendsBoth o r.state o x.state) (sym e) (record { first = extends_none h; second = extends_none k }));
+          }
 
-module _ {ch : Channel} {line : Bytes} {n : ℕ} {r : Answer} where
-  pub line_nowhere : {o s : Bytes} → ch ≡ Nowhere → r.state.written ≤ length o → r.state.second ≤ length s → WritesLine ch line n r (outputs o s) r (outputs o s)
-  line_nowhere {o} {s} e h k = subst (λ (x : Channel). WritesLine x line n r (outputs o s) r (outputs o s)) (sym e) (record { writes = writes_nowhere h k })
+-- a line without a reading is written, or there is no room for it
+module _ {line : Bytes} {s : State} {o o' : Bytes} {a : Answer} where
+  pub passes_through : {r : Option ℕ} {w : ℕ} {t : State} → r ≡ Some w → Puts line o s.written r o' → t ≡ with_written s w s.second → a ≡ goes_back 0 t → PassesThrough line s o a o'
+  passes_through z p f e = record { writes = λ b h. writes_put {r = goes_back 0 s} (puts_first {ch = First} refl h (subst (λ (x : Option ℕ). Puts line o s.written x o') z p) f) e }
 
-  pub line_first : {a : Answer} {o o' s : Bytes} {w : ℕ} → ch ≡ First → r.state.second ≤ length s → PutsLine line n o r.state.written w o' → AnswersWritten r w r.state.second a
-      → WritesLine ch line n r (outputs o s) a (outputs o' s)
-  line_first {a} {o} {o'} {s} e h p q = subst (λ (x : Channel). WritesLine x line n r (outputs o s) a (outputs o' s)) (sym e) (record { writes = writes_first h p.puts q })
-
-  pub line_second : {a : Answer} {o s s' : Bytes} {w : ℕ} → ch ≡ Second → r.state.written ≤ length o → PutsLine line n s r.state.second w s' → AnswersWritten r r.state.written w a
-      → WritesLine ch line n r (outputs o s) a (outputs o s')
-  line_second {a} {o} {s} {s'} e h p q = subst (λ (x : Channel). WritesLine x line n r (outputs o s) a (outputs o s')) (sym e) (record { writes = writes_second h p.puts q })
-
--- a line without a reading
-pub passes_through : {line : Bytes} {n : ℕ} {s : State} {o o' : Bytes} {w : ℕ} {r a : Answer} → r ≡ goes_back 0 s → PutsLine line n o s.written w o' → AnswersWritten r w s.second a → PassesThrough line n s o a o'
-passes_through {s = s} {w = w} {a = a} e p q = record { writes = λ second h. writes_first h p.puts (subst (λ (x : Answer). AnswersWritten x w s.second a) e q) }
-
-module _ {m : Marks} {ch : Channel} {text : Bytes} {at to : ℕ} {c : Laid} {r : Answer} where
-  pub layout_nowhere : {o s : Bytes} → ch ≡ Nowhere → r.state.written ≤ length o → r.state.second ≤ length s → WritesLayout m ch text at to c r (outputs o s) r (outputs o s)
-  layout_nowhere {o} {s} e h k = subst (λ (x : Channel). WritesLayout m x text at to c r (outputs o s) r (outputs o s)) (sym e) (record { writes = writes_nowhere h k })
-
-  pub layout_first : {a : Answer} {o o' s : Bytes} {w : ℕ} → ch ≡ First → r.state.second ≤ length s → PutsLayoutLine m text at to c o r.state.written w o' → AnswersWritten r w r.state.second a
-      → WritesLayout m ch text at to c r (outputs o s) a (outputs o' s)
-  layout_first {a} {o} {o'} {s} e h p q = subst (λ (x : Channel). WritesLayout m x text at to c r (outputs o s) a (outputs o' s)) (sym e) (record { writes = writes_first h p.puts q })
-
-  pub layout_second : {a : Answer} {o s s' : Bytes} {w : ℕ} → ch ≡ Second → r.state.written ≤ length o → PutsLayoutLine m text at to c s r.state.second w s' → AnswersWritten r r.state.written w a
-      → WritesLayout m ch text at to c r (outputs o s) a (outputs o s')
-  layout_second {a} {o} {s} {s'} e h p q = subst (λ (x : Channel). WritesLayout m x text at to c r (outputs o s) a (outputs o s')) (sym e) (record { writes = writes_second h p.puts q })
+  pub passes_none : {r : Option ℕ} → r ≡ None → Puts line o s.written r o' → s.written ≤ length o → a ≡ ends_with (Some NoRoom) s → PassesThrough line s o a o'
+  passes_none z p h e = record { writes = λ b k. writes_none {r = goes_back 0 s} (no_room_first {ch = First} {b = b} refl (subst (λ (x : Option ℕ). Puts line o s.written x o') z p)) h k e }
 
 -- ---- what a line that is written comes to
 
@@ -232,12 +191,12 @@ module _ {l : Bytes} {s : State} {o : Outputs} {a : Answer} {o' : Outputs} (v : 
     where
       by : (k : Bool) → has_room_on First l s o ≡ k → settle (pass_through (rooms_of o) l (state_of text none fs y s o memory)) ≡ next_of m text fs y a nums bytes line o' memory
       by true k =
-          ap (λ (x : Option Shared). settle (passed (state_of text none fs y s o memory) x)) ((v.fits k).1 memory)
+          ap (λ (x : Math.Option Shared). settle (passed (state_of text none fs y s o memory) x)) ((v.fits k).1 memory)
           ∙ ap (λ (x : Answer). running (state_with (state_of text none fs y s o memory) none fs (shared_of x.state o' memory))) (v.fits k).0
           ∙ sym (skip-none m text fs y (with_written s a.state.written a.state.second) o' memory)
           ∙ ap (λ (x : Answer). next_of m text fs y x nums bytes line o' memory) (sym (v.fits k).0)
       by false k =
-          ap (λ (x : Option Shared). settle (passed (state_of text none fs y s o memory) x)) ((v.full k).2 memory)
+          ap (λ (x : Math.Option Shared). settle (passed (state_of text none fs y s o memory) x)) ((v.full k).2 memory)
           ∙ ap (λ (x : Outputs). ended 13 (state_of text none [] y s x memory)) (sym (v.full k).1)
           ∙ ap (λ (x : Answer). next_of m text fs y x nums bytes line o' memory) (sym (v.full k).0)
 
@@ -252,12 +211,12 @@ module _ {l : Bytes} {s : State} {o : Outputs} {a : Answer} {o' : Outputs} (v : 
       by false k = subst (λ (x : Outputs). Follows text s o a.state x memory) (sym (v.full k).1)
           (subst (λ (x : State). Follows text s o x o memory) (sym (ap (λ (x : Answer). x.state) (v.full k).0)) (follows_itself h))
 
-  pub wrote_left : is_left (turn a) ≡ true
+  pub wrote_left : is_left a.turn ≡ true
   wrote_left = by (has_room_on First l s o) refl
     where
-      by : (k : Bool) → has_room_on First l s o ≡ k → is_left (turn a) ≡ true
-      by true k = ap (λ (x : Answer). is_left (turn x)) (v.fits k).0
-      by false k = ap (λ (x : Answer). is_left (turn x)) (v.full k).0
+      by : (k : Bool) → has_room_on First l s o ≡ k → is_left a.turn ≡ true
+      by true k = ap (λ (x : Answer). is_left x.turn) (v.fits k).0
+      by false k = ap (λ (x : Answer). is_left x.turn) (v.full k).0
 
   pub wrote_fuel : a.state.fuel ≡ s.fuel
   wrote_fuel = by (has_room_on First l s o) refl
