@@ -1,6 +1,6 @@
--- The laws of a call.
-pub mod Slots
-pub mod Loops
+-- The laws of calls.
 pub mod Calls
-pub mod Reading
+pub mod Opening
+pub mod Loops
 pub mod Line
+pub mod Reading

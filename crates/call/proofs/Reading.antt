@@ -10,7 +10,7 @@ use Rattle.model.specs.Load.{body_at}
 use Rattle.model.specs.Machine.{padded}
 use Rattle.model.specs.Results.{nine}
 use Rattle.call.specs.declared.Call.{Call}
-use Rattle.call.specs.Call.{opened_of}
+use Rattle.call.specs.Call.{frame_of}
 use Rattle.call.specs.Params.{pieces_at, Opens}
 
 -- pieces of no byte
@@ -48,6 +48,6 @@ module _ (line : Bytes) (starts lens : List ℕ) (ps : List Bytes) (h : length s
 
   -- the call that a reading opens
   pub opens_reading : {number next : ℕ} {r : Call} → Opens number next line starts lens r → (m : Marks) (text : Bytes)
-      → opened_of m text r ≡ record { number = number; params = padded ps; delimiters = replicate 9 []; next = body_at m text next; loops = [] }
+      → frame_of m text r ≡ record { number = number; params = padded ps; delimiters = replicate 9 []; next = body_at m text next; loops = [] }
   opens_reading {number} {next} o m text =
       o.frame m text ∙ ap (λ (xs : List Bytes). record { number = number; params = xs; delimiters = replicate 9 []; next = body_at m text next; loops = [] }) pieces-padded

@@ -1,139 +1,96 @@
--- What an open call stands for in the expansion: its head goes by value, its numbers and bytes lie in two lent slices. Each definition is total: a length
--- counts as at most 200, so that none asks an invariant.
-use Rattle.std.specs.Prelude.{◌≡◌, true, false, List, [], ◌∷◌, map, ℕ, zero, suc, ◌+◌, ◌*◌, ◌≤◌, ◌<◌, min, eqb, ltb, length, get_or, take, drop, replicate}
+-- What an open call stands for in the expansion. Each definition is total: a length counts as at most 200, so that none asks an invariant.
+use Rattle.std.specs.Prelude.{◌≡◌, None, List, [], ◌∷◌, map, ℕ, zero, suc, ◌≤◌, ◌<◌, min, length, get_or, take, drop}
 use Rattle.model.specs.Limits.{line_most, fuel_most}
 use Rattle.model.specs.declared.Marks.{Marks}
 use Rattle.model.specs.Text.{Bytes, part}
 use Rattle.model.specs.Load.{body_at}
 use Rattle.model.specs.Machine.{Loop, by_pieces, by_count, Frame}
+use Rattle.pass.specs.Pass.{delimiter_bytes}
+use Rattle.call.specs.declared.Text.{Text}
+use Rattle.call.specs.declared.Param.{Param}
+use Rattle.call.specs.declared.Pieces.{Pieces}
+use Rattle.call.specs.declared.Kind.{Kind}
+use Rattle.call.specs.declared.Kind.TheVariants as Kinds
+use Rattle.call.specs.declared.Iteration.{Iteration}
 use Rattle.call.specs.declared.Call.{Call}
-use Rattle.call.specs.declared.Head.{Head}
 
--- the bytes of nine parameters, and of an iteration: its line, and the parameter's old value
-abbrev pub param_bytes : ℕ
-param_bytes = 1800
+-- ---- texts and parameters
 
-abbrev pub loop_bytes : ℕ
-loop_bytes = 400
+abbrev pub text_of : Text → Bytes
+text_of x = take (min x.len line_most) x.bytes
 
--- where the iterations stand among the numbers, and how many each has
-abbrev pub first_loop : ℕ
-first_loop = 18
+-- x is the text s
+pub record Holds (s : Bytes) (x : Text) : Type 0 where
+  pub is : text_of x ≡ s
 
-abbrev pub loop_numbers : ℕ
-loop_numbers = 8
+abbrev pub no_text : Text
+no_text = record { len = 0; bytes = [] }
 
--- the numbers and bytes of an open call
-abbrev pub call_numbers : ℕ
-call_numbers = 50
+abbrev pub no_param : Param
+no_param = record { text = no_text; delimiter = None }
 
-abbrev pub call_bytes : ℕ
-call_bytes = 3400
+abbrev pub texts_of : List Param → List Bytes
+texts_of = map (λ p. text_of p.text)
 
-abbrev pub Sized : List ℕ → Bytes → Type 0
-Sized nums bytes = (length nums ≡ call_numbers) × (length bytes ≡ call_bytes)
-
--- a delimiter as bytes, from the number in its place: a number that is no byte is none
-unfoldable pub delimiter_of : ℕ → Bytes
-delimiter_of d = elim (ltb d 256) [ true ↦ d ∷ [] | false ↦ [] ]
-
--- a text for each length, from every two hundred bytes
-unfoldable pub slots : List ℕ → Bytes → List Bytes
-slots [] s = []
-slots (n ∷ ns) s = take (min n line_most) s ∷ slots ns (drop line_most s)
-
--- ---- a call as it is opened
-
-abbrev pub opened_of : Marks → Bytes → Call → Frame
-opened_of m text c = record { number = c.number; params = slots c.lens c.bytes; delimiters = replicate 9 []; next = body_at m text c.next; loops = [] }
+abbrev pub delimiters_of : List Param → List Bytes
+delimiters_of = map (λ p. delimiter_bytes p.delimiter)
 
 -- ---- iterations
 
--- the eight numbers of one
-pub record Iteration : Type 0 where
-  -- the parameter of an ed7; 0 for an eF7
-  pub param : ℕ
-  -- where the code line after the opening line starts
-  pub after : ℕ
-  -- eF7: the passes left
-  pub left : ℕ
-  -- ed7: the list of delimiters is text[list..end]
-  pub list : ℕ
-  pub end : ℕ
-  -- ed7: where the rest of the line lies that it goes over, and the length of the parameter's old value
-  pub from : ℕ
-  pub to : ℕ
-  pub old : ℕ
+abbrev pub no_iteration : Iteration
+no_iteration = record { after = 0; kind = Kinds.Count 0 }
 
--- the one at place i
-abbrev pub iteration : List ℕ → ℕ → Iteration
-iteration nums i = record {
-  param = get_or nums (first_loop + loop_numbers * i) 0;
-  after = get_or nums (first_loop + loop_numbers * i + 1) 0;
-  left = get_or nums (first_loop + loop_numbers * i + 2) 0;
-  list = get_or nums (first_loop + loop_numbers * i + 3) 0;
-  end = get_or nums (first_loop + loop_numbers * i + 4) 0;
-  from = get_or nums (first_loop + loop_numbers * i + 5) 0;
-  to = get_or nums (first_loop + loop_numbers * i + 6) 0;
-  old = get_or nums (first_loop + loop_numbers * i + 7) 0;
-}
+-- the rest of the line that an ed7 goes over
+abbrev pub rest_of : Pieces → Bytes
+rest_of x = drop x.from (text_of x.line)
 
--- its bytes: the line, and from offset 200 on the parameter's old value
-abbrev pub texts_at : Bytes → ℕ → Bytes
-texts_at bytes i = take loop_bytes (drop (param_bytes + loop_bytes * i) bytes)
+-- its list of delimiters
+abbrev pub list_of : Bytes → Pieces → Bytes
+list_of text x = part text x.list x.end
 
-abbrev pub rest_of : Bytes → Iteration → Bytes
-rest_of s x = part s x.from x.to
+abbrev pub loop_by : Bytes → List Bytes → Kind → Loop
+loop_by text after (Kinds.Count left) = by_count left after
+loop_by text after (Kinds.Pieces x) = by_pieces x.param (rest_of x) (list_of text x) (text_of x.before) after
 
-abbrev pub old_of : Bytes → Iteration → Bytes
-old_of s x = part s line_most (line_most + x.old)
-
-unfoldable pub loop_of : Marks → Bytes → Bytes → Iteration → Loop
-loop_of m text s x =
-    elim (eqb x.param 0) [
-      | true ↦ by_count x.left (body_at m text x.after)
-      | false ↦ by_pieces x.param (rest_of s x) (part text x.list x.end) (old_of s x) (body_at m text x.after)
-    ]
+abbrev pub loop_of : Marks → Bytes → Iteration → Loop
+loop_of m text x = loop_by text (body_at m text x.after) x.kind
 
 -- the first k, the innermost first
-unfoldable pub loops_of : Marks → Bytes → List ℕ → Bytes → ℕ → List Loop
-loops_of m text nums bytes zero = []
-loops_of m text nums bytes (suc k) = loop_of m text (texts_at bytes k) (iteration nums k) ∷ loops_of m text nums bytes k
+unfoldable pub loops_of : Marks → Bytes → List Iteration → ℕ → List Loop
+loops_of m text xs zero = []
+loops_of m text xs (suc k) = loop_of m text (get_or xs k no_iteration) ∷ loops_of m text xs k
 
--- ---- a call that is laid out
+-- ---- a call
 
-pub record Laid : Type 0 where
-  pub head : Head
-  pub nums : List ℕ
-  pub bytes : Bytes
-
-abbrev pub laid : Head → List ℕ → Bytes → Laid
-laid c nums bytes = record { head = c; nums = nums; bytes = bytes }
-
-abbrev pub frame_of : Marks → Bytes → Laid → Frame
+abbrev pub frame_of : Marks → Bytes → Call → Frame
 frame_of m text c = record {
-  number = c.head.number;
-  params = slots (take 9 c.nums) c.bytes;
-  delimiters = map delimiter_of (take 9 (drop 9 c.nums));
-  next = body_at m text c.head.next;
-  loops = loops_of m text c.nums c.bytes c.head.depth;
+  number = c.number;
+  params = texts_of c.params;
+  delimiters = delimiters_of c.params;
+  next = body_at m text c.next;
+  loops = loops_of m text c.iterations c.depth;
 }
 
--- what an iteration says lies in the text and in its bytes
-pub record PlacedLoop (text : Bytes) (x : Iteration) : Type 0 where
+-- what an ed7 says lies in the text and in its line
+pub record PlacedPieces (text : Bytes) (x : Pieces) : Type 0 where
+  pub some : 1 ≤ x.param
   pub param : x.param ≤ 9
-  pub after : x.after ≤ length text
   pub list : x.list ≤ x.end
   pub end : x.end ≤ length text
-  pub from : x.from ≤ x.to
-  pub to : x.to ≤ line_most
-  pub old : x.old ≤ line_most
+  pub from : x.from ≤ length (text_of x.line)
 
--- what a call says lies in the text, and its slices are whole
-pub record Placed (text : Bytes) (c : Laid) : Type 0 where
-  pub number : c.head.number ≤ fuel_most
-  pub next : c.head.next ≤ length text
-  pub depth : c.head.depth ≤ 4
-  pub nums : length c.nums ≡ call_numbers
-  pub bytes : length c.bytes ≡ call_bytes
-  pub iterations : (i : ℕ) → i < c.head.depth → PlacedLoop text (iteration c.nums i)
+abbrev pub PlacedKind : Bytes → Kind → Type 0
+PlacedKind text (Kinds.Count left) = Unit
+PlacedKind text (Kinds.Pieces x) = PlacedPieces text x
+
+-- what an iteration says lies in the text
+pub record PlacedLoop (text : Bytes) (x : Iteration) : Type 0 where
+  pub after : x.after ≤ length text
+  pub kind : PlacedKind text x.kind
+
+-- what a call says lies in the text
+pub record Placed (text : Bytes) (c : Call) : Type 0 where
+  pub number : c.number ≤ fuel_most
+  pub next : c.next ≤ length text
+  pub depth : c.depth ≤ 4
+  pub iterations : (i : ℕ) → i < c.depth → PlacedLoop text (get_or c.iterations i no_iteration)
