@@ -1,259 +1,242 @@
 -- Passes of iterations, by the calls that they make.
 use mathlib.Core.Path.{◌≡◌, refl, sym, ap, ap₂, subst, ◌∙◌}
-use mathlib.Core.Option as Math
 use mathlib.Core.List.{List, [], ◌∷◌}
-use Prim.Native.Nat.{ℕ, suc, ◌+◌, ◌-◌, ◌*◌, ◌≤◌, ◌<◌}
+use Prim.Native.Nat.{ℕ, suc, ◌+◌, ◌-◌, ◌≤◌, ◌<◌}
 use native.Mathlib.Omega.{arith}
-use lib.ListN.{length, set, drop}
-use Rattle.std.specs.Prelude.{Option, Result, Ok, Err, IsErrAnd}
+use lib.ListN.{length, get_or, set, drop, length-drop, drop_of_length-le, get_or-map}
+use Rattle.std.specs.Prelude.{Option, Some, None, Result, Ok, Err, IsErrAnd}
+use Rattle.std.proofs.Math.Option as Math
 use Rattle.faults.specs.declared.RunFault.{RunFault}
 use Rattle.faults.specs.Numbers.{run_number}
 use Rattle.model.specs.declared.Marks.{Marks}
 use Rattle.model.specs.Text.{Bytes, part}
 use Rattle.model.specs.Load.{body_at}
-use Rattle.model.specs.Machine.{Loop, by_pieces, by_count, Frame, Shared, continues, halts, param, with_param, resume_at, Piece, pass_of, take_pass, next_pass, end_pass}
-use Rattle.model.proofs.Text.{part_length, part-long, part_empty}
+use Rattle.model.specs.Machine.{Loop, by_count, Frame, Shared, continues, halts, param, with_param, resume_at, Piece, pass_of, take_pass, next_pass, end_pass}
 use Rattle.pass.specs.declared.Taken.{Taken}
-use Rattle.pass.specs.Pass.{delimiter_bytes, Takes}
-use Rattle.pass.proofs.Pieces.{piece_taken, taken_in, piece_lacking, lacking_fault}
-use Rattle.call.specs.declared.Head.{Head}
-use Rattle.call.specs.Call.{Iteration, iteration, texts_at, rest_of, old_of, loop_of, loops_of, laid, frame_of, PlacedLoop, Placed}
-use Rattle.call.specs.Params.{Sets, with_delimiter, Delimits}
-use Rattle.call.proofs.Loops.{loop-count, loop-pieces, loops_top}
-use Rattle.iterate.specs.Iterate.{pass_step, iteration_of, with_rest, Numbers, PassesAt, passed, SetsPass, Passes, OpensPass, StartsPass, EndsCount, EndsPiece, EndsPass}
-use Rattle.iterate.proofs.Iterations.{before-set, iteration_left, bytes_same, loops-before, frame-before, placed-before, frame_enters, placed_enters}
-use Rattle.iterate.proofs.Texts.{line_from, old_at, texts-long, piece-at}
-
--- ---- set_pass
-
-pub sets_pass : {c : Head} {nums : List ℕ} {bytes : Bytes} {i : ℕ} {piece : Bytes} {delimiter : Option ℕ} {rest : ℕ} {nums₁ nums₂ : List ℕ} {bytes₂ : Bytes} {nums₃ : List ℕ}
-    → i < 4 → 1 ≤ (iteration nums i).param → length nums ≡ 50 → length bytes ≡ 3400 → Numbers nums i (with_rest (iteration nums i) rest) nums₁
-    → Sets nums₁ bytes (iteration nums i).param piece nums₂ bytes₂
-    → Delimits nums₂ (iteration nums i).param delimiter nums₃
-    → SetsPass (laid c nums bytes) i piece delimiter rest (laid (record { number = c.number; next = (iteration nums i).after; depth = i + 1 }) nums₃ bytes₂)
-unfolding resume_at with_param with_delimiter
-sets_pass {c} {nums} {bytes} {i} {piece} {delimiter} {rest} {nums₁} {nums₂} {bytes₂} {nums₃} small some l b mv st dl =
-    let x : Iteration = iteration nums i in
-    let r : Head = record { number = c.number; next = x.after; depth = i + 1 } in
-    record {
-      frame = λ m text.
-          let ls : List Loop = loops_of m text nums bytes i in
-          let after : List Bytes = body_at m text x.after in
-          let loop : loop_of m text (texts_at bytes i) (iteration nums₁ i) ≡ by_pieces x.param (part (texts_at bytes i) rest x.to) (part text x.list x.end) (old_of (texts_at bytes i) x) after =
-          ap (λ (z : Iteration). loop_of m text (texts_at bytes i) z) mv.is ∙ loop-pieces m text (texts_at bytes i) (with_rest x rest) (λ z. omega arith) in
-          dl.frame m text r bytes₂
-          ∙ ap (λ (f : Frame). with_delimiter f x.param (delimiter_bytes delimiter))
-          (st.frame m text r
-          ∙ ap (λ (f : Frame). with_param f x.param piece)
-          (frame_enters mv.before (bytes_same bytes i) l b (omega arith) m text c x.after ∙ ap (λ (l : Loop). resume_at (frame_of m text (laid c nums bytes)) (l ∷ ls) after) loop));
-      placed = λ text p h u.
-          let q = h.placed in
-          dl.placed text r bytes₂ (st.placed text r (placed_enters mv.before (bytes_same bytes i) l b (omega arith) text c x.after p small h.within
-          (subst (λ (z : Iteration). PlacedLoop text z) (sym mv.is) (record { param = q.param; after = q.after; list = q.list; end = q.end; from = u; to = q.to; old = q.old })) q.after));
-    }
+use Rattle.pass.specs.Pass.{piece_at, Takes}
+use Rattle.call.specs.declared.Text.{Text}
+use Rattle.call.specs.declared.Param.{Param}
+use Rattle.call.specs.declared.Pieces.{Pieces}
+use Rattle.call.specs.declared.Kind.{Kind}
+use Rattle.call.specs.declared.Kind.TheVariants as Kinds
+use Rattle.call.specs.declared.Iteration.{Iteration}
+use Rattle.call.specs.declared.Call.{Call}
+use Rattle.call.specs.Call.{Holds, text_of, no_param, no_iteration, rest_of, list_of, loop_by, loop_of, loops_of, frame_of, PlacedPieces, PlacedLoop, Placed}
+use Rattle.call.specs.Params.{Enters}
+use Rattle.call.proofs.Calls.{set_texts, set_delimiters, same_delimiters}
+use Rattle.call.proofs.Loops.{loops_top, loops_past, loops_entered, placed_entered}
+use Rattle.iterate.specs.Iterate.{pass_step, Has, again_step, taken_step, TakesPass, GoesOn, StartsPass, EndsPass}
 
 -- ---- take_pass
 
-module _ {m : Marks} {text : Bytes} {c : Head} {nums : List ℕ} {bytes : Bytes} {i : ℕ} {q : Result Taken RunFault} (p : Placed text (laid c nums bytes)) (h : PassesAt text c nums i)
-    (k : Takes m (part bytes (1800 + 400 * i) (1800 + 400 * i + (iteration nums i).to)) (iteration nums i).from (part text (iteration nums i).list (iteration nums i).end) q) where
-  line_long : length (part bytes (1800 + 400 * i) (1800 + 400 * i + (iteration nums i).to)) ≡ (iteration nums i).to
-  line_long = let a = h.place in let b = h.placed.to in let l = p.bytes in part-long bytes (1800 + 400 * i) (iteration nums i).to (omega arith)
+module _ {m : Marks} {text : Bytes} {x : Pieces} {line : Bytes} {r : Result Taken RunFault} (p : PlacedPieces text x) (l : line ≡ text_of x.line)
+    (k : Takes m line x.from (part text x.list x.end) r) where
+  taken : pass_of m (list_of text x) (rest_of x) ≡ piece_at (text_of x.line) x.from r
+  taken = ap (λ (s : Bytes). pass_of m (list_of text x) (drop x.from s)) (sym l) ∙ k.is ∙ ap (λ (s : Bytes). piece_at s x.from r) l
 
-  -- what the pass takes from
-  taken_from : (x : Math.Option Piece) → pass_of m (part text (iteration nums i).list (iteration nums i).end)
-      (drop (iteration nums i).from (part bytes (1800 + 400 * i) (1800 + 400 * i + (iteration nums i).to))) ≡ x
-      → pass_of m (part text (iteration nums i).list (iteration nums i).end) (rest_of (texts_at bytes i) (iteration nums i)) ≡ x
-  taken_from x e = ap (λ (s : Bytes). pass_of m (part text (iteration nums i).list (iteration nums i).end) s)
-      (sym (line_from bytes i (iteration nums i).to (iteration nums i).from h.placed.to)) ∙ e
-
-  pub pass_fails : {e : RunFault} {r : Result Head RunFault} → q ≡ Err e → IsErrAnd r (λ f. f ≡ e) → Passes m text (laid c nums bytes) i r nums bytes
-  unfolding take_pass pass_step
-  pass_fails {r = Ok a} e f = absurd f
-  pass_fails {e = z} {r = Err a} e f =
-      let x : Iteration = iteration nums i in
+  pub pass_fails : {ps : List Param} {e : RunFault} {s : Result Unit RunFault} → r ≡ Err e → IsErrAnd s (λ f. f ≡ e) → TakesPass m text x ps s x ps
+  unfolding take_pass piece_at taken_step
+  pass_fails {s = Ok v} u g = absurd g
+  pass_fails {ps} {e} {s = Err f} u g =
+      let n = rw u at k.fault in
+      let t = rw u at taken in
       record {
-        step = λ w.
-            ap (λ (o : Math.Option Piece). take_pass x.param o (part text x.list x.end) (old_of (texts_at bytes i) x) (body_at m text x.after) (loops_of m text nums bytes i)
-            (frame_of m text (laid c nums bytes)) w)
-            (taken_from _ (piece_lacking k e))
-            ∙ ap (λ (n : ℕ). halts n w) (sym (ap run_number f ∙ lacking_fault k e));
+        step = λ after ls f w h.
+            ap (λ (o : Math.Option Piece). take_pass x.param o (list_of text x) (text_of x.before) after ls f w) t
+            ∙ ap (λ (n : ℕ). halts n w) (sym n ∙ ap run_number (sym g));
         placed = p;
       }
 
-  pub pass_goes_on : {t : Taken} {r : Head} {nums' : List ℕ} {bytes' : Bytes} → q ≡ Ok t
-      → SetsPass (laid c nums bytes) i (part bytes (1800 + 400 * i + (iteration nums i).from) (1800 + 400 * i + (iteration nums i).from + (t.end - (iteration nums i).from))) t.delimiter t.rest
-      (laid r nums' bytes') → Passes m text (laid c nums bytes) i (Ok r) nums' bytes'
-  unfolding take_pass pass_step
-  pass_goes_on {t} {r} {nums'} {bytes'} e s =
-      let x : Iteration = iteration nums i in
-      let line : Bytes = part bytes (1800 + 400 * i) (1800 + 400 * i + x.to) in
-      let l = line_long in
-      let b = taken_in k e in
-      let high = b.high in
-      let within = b.within in
-      let frame : frame_of m text (laid r nums' bytes') ≡ passed m text (laid c nums bytes) i (part line x.from t.end) (delimiter_bytes t.delimiter) (drop t.rest line) =
-      s.frame m text
-      ∙ ap₂ (λ (a b : Bytes). passed m text (laid c nums bytes) i a (delimiter_bytes t.delimiter) b) (piece-at bytes (1800 + 400 * i) x.to x.from t.end b.low (omega arith))
-      (sym (line_from bytes i x.to t.rest h.placed.to)) in
+  pub pass_goes_on : {ps : List Param} {t : Taken} {q : Param} → r ≡ Ok t → Holds (part line x.from t.end) q.text → q.delimiter ≡ t.delimiter
+      → TakesPass m text x ps (Ok tt) (record x { from = t.rest }) (set ps (x.param - 1) q)
+  unfolding take_pass piece_at taken_step
+  pass_goes_on {ps} {t} {q} u h e =
+      let b = rw u at k.bounds in
+      let g = rw u at taken in
+      let holds : Holds (part (text_of x.line) x.from t.end) q.text = subst (λ (s : Bytes). Holds (part s x.from t.end) q.text) l h in
+      let i : ℕ = x.param - 1 in
       record {
-        step = λ w.
-            ap (λ (o : Math.Option Piece). take_pass x.param o (part text x.list x.end) (old_of (texts_at bytes i) x) (body_at m text x.after) (loops_of m text nums bytes i)
-            (frame_of m text (laid c nums bytes)) w)
-            (taken_from _ (piece_taken k e))
-            ∙ ap (λ (f : Frame). continues f w) (sym frame);
-        placed = s.placed text p h (omega arith);
+        step = λ after ls f w h.
+            ap (λ (o : Math.Option Piece). take_pass x.param o (list_of text x) (text_of x.before) after ls f w) g
+            ∙ rw (h.params, h.delimiters, set_texts ps i q holds, set_delimiters ps i q e) refl;
+        placed = record { some = p.some; param = p.param; list = p.list; end = p.end; from = subst (λ (s : Bytes). t.rest ≤ length s) l b.within };
       }
 
--- ---- start_pass
+-- ---- pass_again
 
-module _ {text : Bytes} {c : Head} {nums : List ℕ} {bytes : Bytes} {d : ℕ} {line : Bytes} {list end : ℕ} {nums' : List ℕ} {bytes' : Bytes}
-    (o : OpensPass c nums bytes d line list end nums' bytes') (p : Placed text (laid c nums bytes)) (u : c.depth < 4) where
-  -- what take_pass asks
-  pub starts_placed : Placed text (laid c nums' bytes')
-  starts_placed = placed-before o.numbers.before o.texts.before p.nums p.bytes (omega arith) text c (omega arith) p
+next-some : (m : Marks) (d : ℕ) (s ds before : Bytes) (after : List Bytes) (ls : List Loop) (f : Frame) (w : Shared) → 0 < length s
+    → next_pass m d s ds before after ls f w ≡ take_pass d (pass_of m ds s) ds before after ls f w
+unfolding next_pass
+next-some m d [] ds before after ls f w h = absurd (omega arith)
+next-some m d (b ∷ s) ds before after ls f w h = refl
 
-  pub starts_pieces : 1 ≤ d → d ≤ 9 → list ≤ end → end ≤ length text → length line ≤ 200 → PassesAt text c nums' c.depth
-  starts_pieces a b e f g =
-      let q = p.next in
-      record {
-        place = u;
-        within = omega arith;
-        param = subst (λ (z : Iteration). 1 ≤ z.param) (sym o.numbers.is) a;
-        placed = subst (λ (z : Iteration). PlacedLoop text z) (sym o.numbers.is) (record { param = b; after = q; list = e; end = f; from = omega arith; to = g; old = o.old.short });
-      }
+module _ (m : Marks) (text : Bytes) (x : Iteration) (ls : List Loop) (f : Frame) (w : Shared) where
+  -- a step of the loop that it stands for
+  by_kind : {k : Kind} → x.kind ≡ k → end_pass m (loop_of m text x ∷ ls) f w ≡ end_pass m (loop_by text (body_at m text x.after) k ∷ ls) f w
+  by_kind e = ap (λ (k : Kind). end_pass m (loop_by text (body_at m text x.after) k ∷ ls) f w) e
 
-  pub starts_pass : {m : Marks} {r : Result Head RunFault} {nums₂ : List ℕ} {bytes₂ : Bytes} → Passes m text (laid c nums' bytes') c.depth r nums₂ bytes₂
-      → StartsPass m text (laid c nums bytes) d line list end r nums₂ bytes₂
-  starts_pass {m} s =
-      let i : ℕ = c.depth in
-      let x = o.numbers in
-      let v = o.texts in
-      let y : Iteration = iteration_of d c.next 0 list end (length line) o.n in
-      let frame : frame_of m text (laid c nums' bytes') ≡ frame_of m text (laid c nums bytes) = frame-before x.before v.before p.nums p.bytes (omega arith) m text c (omega arith) in
-      let loops : loops_of m text nums' bytes' i ≡ loops_of m text nums bytes i = loops-before x.before v.before p.nums p.bytes (omega arith) m text i (omega arith) in
-      let old : param (frame_of m text (laid c nums bytes)) d ≡ old_of (texts_at bytes' i) y = o.old.is m text c bytes ∙ sym v.old in
-      record {
-        step = λ w.
-            ap₂ (λ (rest old : Bytes). take_pass d (pass_of m (part text list end) rest) (part text list end) old (body_at m text c.next) (loops_of m text nums bytes i)
-            (frame_of m text (laid c nums bytes)) w) (sym v.rest) old
-            ∙ ap₂ (λ (ls : List Loop) (f : Frame). take_pass d (pass_of m (part text list end) (rest_of (texts_at bytes' i) y)) (part text list end) (old_of (texts_at bytes' i) y)
-            (body_at m text c.next) ls f w) (sym loops) (sym frame)
-            ∙ ap (λ (z : Iteration). take_pass z.param (pass_of m (part text z.list z.end) (rest_of (texts_at bytes' i) z)) (part text z.list z.end) (old_of (texts_at bytes' i) z)
-            (body_at m text z.after) (loops_of m text nums' bytes' i) (frame_of m text (laid c nums' bytes')) w) (sym x.is)
-            ∙ s.step w;
-        placed = s.placed;
-      }
+  pieces_step : {y : Pieces} → x.kind ≡ Kinds.Pieces y → {line : Bytes} → line ≡ text_of y.line → y.from < length line
+      → end_pass m (loop_of m text x ∷ ls) f w
+      ≡ take_pass y.param (pass_of m (list_of text y) (rest_of y)) (list_of text y) (text_of y.before) (body_at m text x.after) ls f w
+  unfolding end_pass
+  pieces_step {y} e l h =
+      let n = ap (λ (s : Bytes). length s) l in
+      let d = length-drop y.from (text_of y.line) in
+      by_kind e ∙ next-some m y.param (rest_of y) (list_of text y) (text_of y.before) (body_at m text x.after) ls f w (omega arith)
 
--- ---- end_count
-
-module _ {c : Head} {nums : List ℕ} {i : ℕ} (h : i < 4) (l : length nums ≡ 50) where
-  pub count_ends : (iteration nums i).left ≡ 0 → EndsCount c nums i (record { number = c.number; next = c.next; depth = i }) nums
-  unfolding end_pass resume_at
-  count_ends e = record {
-    step = λ m text bytes w b. ap (λ (n : ℕ). end_pass m (by_count n (body_at m text (iteration nums i).after) ∷ loops_of m text nums bytes i) (frame_of m text (laid c nums bytes)) w) e;
-    placed = λ text bytes p u. record { number = p.number; next = p.next; depth = omega arith; nums = l; bytes = p.bytes; iterations = λ j v. p.iterations j (omega arith) };
+module _ {m : Marks} {text : Bytes} {x : Iteration} {ps : List Param} (p : PlacedLoop text x) where
+  pub count_ends : {n : ℕ} → x.kind ≡ Kinds.Count n → n ≡ 0 → GoesOn m text x ps (Ok None) (record { after = x.after; kind = Kinds.Count n }) ps
+  unfolding end_pass resume_at again_step
+  count_ends {n} e z = record {
+    step = λ ls f w h. by_kind m text x ls f w e ∙ rw (z, h.params, h.delimiters) refl;
+    placed = record { after = p.after; kind = tt };
+    within = tt;
   }
 
-  pub count_goes_on : ((iteration nums i).left ≡ 0 → ⊥) → (iteration nums i).param ≡ 0
-      → EndsCount c nums i (record { number = c.number; next = (iteration nums i).after; depth = i + 1 }) (set nums (18 + 8 * i + 2) ((iteration nums i).left - 1))
-  unfolding end_pass
-  count_goes_on ne e =
-      let x : Iteration = iteration nums i in
-      let v : ℕ = x.left - 1 in
-      let z : x.left ≡ suc v = omega arith in
-      let y : Iteration = record { param = x.param; after = x.after; left = v; list = x.list; end = x.end; from = x.from; to = x.to; old = x.old } in
-      let now : iteration (set nums (18 + 8 * i + 2) v) i ≡ y = iteration_left nums i v h l in
-      let before = before-set nums i (18 + 8 * i + 2) v (omega arith) in
+  pub count_goes_on : {n : ℕ} → x.kind ≡ Kinds.Count n → ¬ (n ≡ 0) → GoesOn m text x ps (Ok (Some x.after)) (record { after = x.after; kind = Kinds.Count (n - 1) }) ps
+  unfolding end_pass resume_at again_step
+  count_goes_on {n} e z =
+      let s : n ≡ suc (n - 1) = omega arith in
       record {
-        step = λ m text bytes w b.
-            let ls : List Loop = loops_of m text nums bytes i in
-            let after : List Bytes = body_at m text x.after in
-            let loop : loop_of m text (texts_at bytes i) (iteration (set nums (18 + 8 * i + 2) v) i) ≡ by_count v after =
-            ap (λ (k : Iteration). loop_of m text (texts_at bytes i) k) now ∙ loop-count m text (texts_at bytes i) y e in
-            ap (λ (n : ℕ). end_pass m (by_count n after ∷ ls) (frame_of m text (laid c nums bytes)) w) z
-            ∙ ap (λ (f : Frame). continues f w)
-            (sym (frame_enters before (bytes_same bytes i) l b (omega arith) m text c x.after ∙ ap (λ (k : Loop). resume_at (frame_of m text (laid c nums bytes)) (k ∷ ls) after) loop));
-        placed = λ text bytes p u.
-            let q = p.iterations i u in
-            placed_enters before (bytes_same bytes i) l p.bytes (omega arith) text c x.after p h (omega arith)
-            (subst (λ (k : Iteration). PlacedLoop text k) (sym now) (record { param = q.param; after = q.after; list = q.list; end = q.end; from = q.from; to = q.to; old = q.old })) q.after;
+        step = λ ls f w h. by_kind m text x ls f w e ∙ ap (λ (k : ℕ). end_pass m (by_count k (body_at m text x.after) ∷ ls) f w) s ∙ rw (h.params, h.delimiters) refl;
+        placed = record { after = p.after; kind = tt };
+        within = p.after;
       }
 
--- ---- end_piece
-
-next-some : (m : Marks) (d : ℕ) (s ds old : Bytes) (after : List Bytes) (ls : List Loop) (f : Frame) (w : Shared) → 0 < length s
-    → next_pass m d s ds old after ls f w ≡ take_pass d (pass_of m ds s) ds old after ls f w
-unfolding next_pass
-next-some m d [] ds old after ls f w h = absurd (omega arith)
-next-some m d (b ∷ s) ds old after ls f w h = refl
-
-module _ {m : Marks} {text : Bytes} {c : Head} {nums : List ℕ} {bytes : Bytes} {i : ℕ} (p : Placed text (laid c nums bytes)) (h : PassesAt text c nums i) where
-  pub piece_goes_on : {r : Result Head RunFault} {nums' : List ℕ} {bytes' : Bytes} → (iteration nums i).from < (iteration nums i).to → Passes m text (laid c nums bytes) i r nums' bytes'
-      → EndsPiece m text (laid c nums bytes) i r nums' bytes'
-  piece_goes_on u s =
-      let x : Iteration = iteration nums i in
-      let long = texts-long bytes i h.place p.bytes in
-      let b = h.placed.to in
-      let z = part_length (texts_at bytes i) x.from x.to (omega arith) in
-      record {
-        step = λ w. next-some m x.param (rest_of (texts_at bytes i) x) (part text x.list x.end) (old_of (texts_at bytes i) x) (body_at m text x.after) (loops_of m text nums bytes i)
-            (frame_of m text (laid c nums bytes)) w (omega arith)
-            ∙ s.step w;
-        placed = s.placed;
+  module _ {y : Pieces} (e : x.kind ≡ Kinds.Pieces y) {line : Bytes} (l : line ≡ text_of y.line) where
+    module _ {r : Result Unit RunFault} {y' : Pieces} {ps' : List Param} (h : y.from < length line) (t : TakesPass m text y ps r y' ps') where
+      pub pieces_fail : {fault : RunFault} {s : Result (Option ℕ) RunFault} → r ≡ Err fault → IsErrAnd s (λ f. f ≡ fault)
+          → GoesOn m text x ps s (record { after = x.after; kind = Kinds.Pieces y' }) ps'
+      unfolding again_step taken_step
+      pieces_fail {s = Ok v} u g = absurd g
+      pieces_fail {fault} {s = Err k} u g = record {
+        step = λ ls f w has. pieces_step m text x ls f w e l h ∙ t.step (body_at m text x.after) ls f w has
+            ∙ ap (λ (z : Result Unit RunFault). taken_step text z y' ps' (body_at m text x.after) ls f w) u ∙ ap (λ (q : RunFault). halts (run_number q) w) (sym g);
+        placed = record { after = p.after; kind = t.placed };
+        within = tt;
       }
 
-  pub piece_ends : {nums' : List ℕ} {bytes' : Bytes} → (iteration nums i).to ≤ (iteration nums i).from
-      → Sets nums bytes (iteration nums i).param (part bytes (2000 + 400 * i) (2000 + 400 * i + (iteration nums i).old)) nums' bytes'
-      → EndsPiece m text (laid c nums bytes) i (Ok (record { number = c.number; next = c.next; depth = i })) nums' bytes'
-  unfolding next_pass pass_step resume_at with_param
-  piece_ends {nums'} {bytes'} u st =
-      let x : Iteration = iteration nums i in
-      let r : Head = record { number = c.number; next = c.next; depth = i } in
-      let a = h.place in
-      let b = h.within in
-      record {
-        step = λ w.
-            ap (λ (s : Bytes). next_pass m x.param s (part text x.list x.end) (old_of (texts_at bytes i) x) (body_at m text x.after) (loops_of m text nums bytes i)
-            (frame_of m text (laid c nums bytes)) w) (part_empty (texts_at bytes i) x.from x.to u)
-            ∙ ap (λ (f : Frame). continues f w)
-            (sym (st.frame m text r ∙ ap (λ (s : Bytes). with_param (frame_of m text (laid r nums bytes)) x.param s) (old_at bytes i x.old h.placed.old)));
-        placed = st.placed text r (record { number = p.number; next = p.next; depth = omega arith; nums = p.nums; bytes = p.bytes; iterations = λ j v. p.iterations j (omega arith) });
+      pub pieces_go_on : {u : Unit} → r ≡ Ok u → GoesOn m text x ps (Ok (Some x.after)) (record { after = x.after; kind = Kinds.Pieces y' }) ps'
+      unfolding again_step taken_step
+      pieces_go_on u = record {
+        step = λ ls f w has. pieces_step m text x ls f w e l h ∙ t.step (body_at m text x.after) ls f w has
+            ∙ ap (λ (z : Result Unit RunFault). taken_step text z y' ps' (body_at m text x.after) ls f w) u;
+        placed = record { after = p.after; kind = t.placed };
+        within = p.after;
       }
+
+    pub pieces_end : {before : Bytes} {q : Param} → length line ≤ y.from → before ≡ text_of y.before → Holds before q.text → q.delimiter ≡ (get_or ps (y.param - 1) no_param).delimiter
+        → GoesOn m text x ps (Ok None) (record { after = x.after; kind = Kinds.Pieces y }) (set ps (y.param - 1) q)
+    unfolding end_pass next_pass resume_at with_param again_step
+    pieces_end {before} {q} h b k d =
+        let n = ap (λ (s : Bytes). length s) l in
+        let i : ℕ = y.param - 1 in
+        let holds : Holds (text_of y.before) q.text = subst (λ (s : Bytes). Holds s q.text) b k in
+        let none : rest_of y ≡ [] = drop_of_length-le (text_of y.line) (omega arith) in
+        record {
+          step = λ ls f w has. by_kind m text x ls f w e
+              ∙ ap (λ (s : Bytes). next_pass m y.param s (list_of text y) (text_of y.before) (body_at m text x.after) ls f w) none
+              ∙ rw (has.params, has.delimiters, set_texts ps i q holds, same_delimiters ps i q d) refl;
+          placed = record { after = p.after; kind = rw e at p.kind };
+          within = tt;
+        }
 
 -- ---- end_pass
 
--- what end_piece asks
-pub pieces-inside : {text : Bytes} {c : Head} {nums : List ℕ} {bytes : Bytes} → Placed text (laid c nums bytes) → (c.depth ≡ 0 → ⊥) → ((iteration nums (c.depth - 1)).param ≡ 0 → ⊥)
-    → PassesAt text c nums (c.depth - 1)
-pieces-inside {c = c} p h e = let d = p.depth in record { place = omega arith; within = omega arith; param = omega arith; placed = p.iterations (c.depth - 1) (omega arith) }
+has : (m : Marks) (text : Bytes) (c : Call) → Has (frame_of m text c) c.params
+has m text c = record { params = refl; delimiters = refl }
 
-module _ {m : Marks} {text : Bytes} {c : Head} {nums : List ℕ} {bytes : Bytes} (p : Placed text (laid c nums bytes)) where
-  pub pass_outside : c.depth ≡ 0 → EndsPass m text (laid c nums bytes) (Ok c) nums bytes
-  unfolding end_pass pass_step loops_of
-  pass_outside e = record { step = λ w. ap (λ (k : ℕ). end_pass m (loops_of m text nums bytes k) (frame_of m text (laid c nums bytes)) w) e; placed = p }
-
-  pub pass_of_count : {r : Head} {nums' : List ℕ} → (c.depth ≡ 0 → ⊥) → (iteration nums (c.depth - 1)).param ≡ 0 → EndsCount c nums (c.depth - 1) r nums'
-      → EndsPass m text (laid c nums bytes) (Ok r) nums' bytes
-  unfolding pass_step
-  pass_of_count h e q =
-      let i : ℕ = c.depth - 1 in
+module _ {m : Marks} {text : Bytes} {c : Call} (p : Placed text c) where
+  pub ends_outside : ¬ (1 ≤ c.depth) → EndsPass m text c (Ok tt) c
+  unfolding loops_of end_pass pass_step
+  ends_outside h =
+      let z : c.depth ≡ 0 = omega arith in
       record {
-        step = λ w.
-            ap (λ (ls : List Loop). end_pass m ls (frame_of m text (laid c nums bytes)) w)
-            (loops_top m text nums bytes c.depth (omega arith) ∙ ap (λ (l : Loop). l ∷ loops_of m text nums bytes i) (loop-count m text (texts_at bytes i) (iteration nums i) e))
-            ∙ q.step m text bytes w p.bytes;
-        placed = q.placed text bytes p (omega arith);
+        step = λ w. ap (λ (n : ℕ). end_pass m (loops_of m text c.iterations n) (frame_of m text c) w) z;
+        placed = p;
       }
 
-  pub pass_of_pieces : {r : Result Head RunFault} {nums' : List ℕ} {bytes' : Bytes} → (c.depth ≡ 0 → ⊥) → ((iteration nums (c.depth - 1)).param ≡ 0 → ⊥)
-      → EndsPiece m text (laid c nums bytes) (c.depth - 1) r nums' bytes' → EndsPass m text (laid c nums bytes) r nums' bytes'
-  unfolding end_pass
-  pass_of_pieces h e q =
-      let i : ℕ = c.depth - 1 in
-      record {
-        step = λ w.
-            ap (λ (ls : List Loop). end_pass m ls (frame_of m text (laid c nums bytes)) w)
-            (loops_top m text nums bytes c.depth (omega arith) ∙ ap (λ (l : Loop). l ∷ loops_of m text nums bytes i) (loop-pieces m text (texts_at bytes i) (iteration nums i) e))
-            ∙ q.step w;
-        placed = q.placed;
-      }
+  module _ {i : ℕ} {r : Result (Option ℕ) RunFault} {x : Iteration} {ps : List Param} (inside : (1 ≤ c.depth) × (i ≡ c.depth - 1)) (four : length c.iterations ≡ 4)
+      (g : GoesOn m text (get_or c.iterations i no_iteration) c.params r x ps) where
+    stepped : (w : Shared) → end_pass m (frame_of m text c).loops (frame_of m text c) w ≡ again_step m text r x ps (loops_of m text c.iterations i) (frame_of m text c) w
+    stepped w =
+        let a = inside.0 in
+        ap (λ (ls : List Loop). end_pass m ls (frame_of m text c) w)
+        (loops_top m text c.iterations c.depth (omega arith) ∙ ap (λ (j : ℕ). loop_of m text (get_or c.iterations j no_iteration) ∷ loops_of m text c.iterations j) (sym inside.1))
+        ∙ g.step (loops_of m text c.iterations i) (frame_of m text c) w (has m text c)
+
+    loops : loops_of m text (set c.iterations i x) c.depth ≡ loop_of m text x ∷ loops_of m text c.iterations i
+    loops =
+        let a = inside.0 in
+        let b = inside.1 in
+        let d = p.depth in
+        let z : c.depth ≡ i + 1 = omega arith in
+        ap (λ (n : ℕ). loops_of m text (set c.iterations i x) n) z ∙ loops_entered text c.iterations i x (omega arith) m
+
+    within : (j : ℕ) → j < c.depth → PlacedLoop text (get_or (set c.iterations i x) j no_iteration)
+    within j u =
+        let a = inside.0 in
+        let b = inside.1 in
+        let d = p.depth in
+        placed_entered text c.iterations i x (omega arith) (λ j v. p.iterations j (omega arith)) g.placed j (omega arith)
+
+    pub pass_failed : {fault : RunFault} {s : Result Unit RunFault} → r ≡ Err fault → IsErrAnd s (λ f. f ≡ fault)
+        → EndsPass m text c s (record c { params = ps; iterations = set c.iterations i x })
+    unfolding again_step pass_step
+    pass_failed {s = Ok v} u e = absurd e
+    pass_failed {fault} {s = Err k} u e = record {
+      step = λ w. stepped w ∙ ap (λ (z : Result (Option ℕ) RunFault). again_step m text z x ps (loops_of m text c.iterations i) (frame_of m text c) w) u
+          ∙ ap (λ (q : RunFault). halts (run_number q) w) (sym e);
+      placed = record { number = p.number; next = p.next; depth = p.depth; iterations = within };
+    }
+
+    pub another_pass : {after : ℕ} → r ≡ Ok (Some after) → EndsPass m text c (Ok tt) (record c { next = after; params = ps; iterations = set c.iterations i x })
+    unfolding again_step pass_step
+    another_pass {after} u = record {
+      step = λ w. stepped w ∙ ap (λ (z : Result (Option ℕ) RunFault). again_step m text z x ps (loops_of m text c.iterations i) (frame_of m text c) w) u ∙ rw loops refl;
+      placed = record { number = p.number; next = rw u at g.within; depth = p.depth; iterations = within };
+    }
+
+    pub no_pass_more : r ≡ Ok None → EndsPass m text c (Ok tt) (record c { params = ps; iterations = set c.iterations i x; depth = i })
+    unfolding again_step pass_step
+    no_pass_more u =
+        let a = inside.0 in
+        let b = inside.1 in
+        let d = p.depth in
+        record {
+          step = λ w. stepped w ∙ ap (λ (z : Result (Option ℕ) RunFault). again_step m text z x ps (loops_of m text c.iterations i) (frame_of m text c) w) u
+              ∙ rw (loops_past m text c.iterations i x i (omega arith)) refl;
+          placed = record { number = p.number; next = p.next; depth = omega arith; iterations = λ j v. within j (omega arith) };
+        }
+
+-- ---- start_pass
+
+module _ {m : Marks} {text : Bytes} {c : Call} {d : ℕ} {line : Bytes} {list end : ℕ} {l : Text} {r : Result Unit RunFault} {x : Pieces} {ps : List Param}
+    (p : Placed text c) (k : Holds line l)
+    (t : TakesPass m text (record { param = d; list = list; end = end; from = 0; line = l; before = (get_or c.params (d - 1) no_param).text }) c.params r x ps) where
+  begun : (w : Shared)
+      → take_pass d (pass_of m (part text list end) line) (part text list end) (param (frame_of m text c) d) (frame_of m text c).next (frame_of m text c).loops (frame_of m text c) w
+      ≡ taken_step text r x ps (frame_of m text c).next (frame_of m text c).loops (frame_of m text c) w
+  unfolding param
+  begun w =
+      let f : Frame = frame_of m text c in
+      let old : param f d ≡ text_of (get_or c.params (d - 1) no_param).text = get_or-map (λ p. text_of p.text) c.params (d - 1) no_param in
+      ap₂ (λ (s before : Bytes). take_pass d (pass_of m (part text list end) s) (part text list end) before f.next f.loops f w) (sym k.is) old
+      ∙ t.step f.next f.loops f w (has m text c)
+
+  pub start_fails : {fault : RunFault} {s : Result Unit RunFault} → r ≡ Err fault → IsErrAnd s (λ f. f ≡ fault) → StartsPass m text c d line list end s (record c { params = ps })
+  unfolding taken_step pass_step
+  start_fails {s = Ok v} u e = absurd e
+  start_fails {fault} {s = Err n} u e = record {
+    step = λ w. begun w ∙ ap (λ (z : Result Unit RunFault). taken_step text z x ps (frame_of m text c).next (frame_of m text c).loops (frame_of m text c) w) u
+        ∙ ap (λ (q : RunFault). halts (run_number q) w) (sym e);
+    placed = record { number = p.number; next = p.next; depth = p.depth; iterations = p.iterations };
+  }
+
+  pub starts : {u : Unit} {c' : Call} → r ≡ Ok u → Enters (record c { params = ps }) (Kinds.Pieces x) c' → StartsPass m text c d line list end (Ok tt) c'
+  unfolding taken_step pass_step resume_at
+  starts {c' = c'} u e = record {
+    step = λ w. begun w ∙ ap (λ (z : Result Unit RunFault). taken_step text z x ps (frame_of m text c).next (frame_of m text c).loops (frame_of m text c) w) u
+        ∙ ap (λ (f : Frame). continues f w) (sym (e.frame m text));
+    placed = e.placed text (record { number = p.number; next = p.next; depth = p.depth; iterations = p.iterations }) t.placed;
+  }

@@ -1,16 +1,18 @@
 -- end_pass goes on with the innermost iteration, or ends it.
+use mathlib.Core.Path.{ap, ◌∙◌}
 use borrow.Author.Rules.{rules}
-use Rattle.iterate.proofs.Passes.{pieces-inside, pass_outside, pass_of_count, pass_of_pieces}
+use Rattle.std.specs.Prelude.{Ok}
+use Rattle.iterate.proofs.Passes.{ends_outside, pass_failed, another_pass, no_pass_more}
 use Rattle.iterate.proofs.end_pass.Goals as goal
 
-pub returns-then-c-eq0 : goal.returns-then-c-eq0
-returns-then-c-eq0 c = search (pass_outside, rules)
+pub returns-in_default : goal.returns-in_default
+returns-in_default c = ends_outside c.requires c.in_default.ensures
 
-pub returns-then-nums-i-eq0 : goal.returns-then-nums-i-eq0
-returns-then-nums-i-eq0 c = search (pass_of_count, rules)
+pub returns-in_err-after : goal.returns-in_err-after
+returns-in_err-after c = pass_failed c.requires c.in-Some.ensures (search rules) c.pass_again.ensures c.in_err-after.was c.from_residual.ensures.1
 
-pub end_piece-requires : goal.end_piece-requires
-end_piece-requires c = search (pieces-inside, rules)
+pub returns-in-Some-2 : goal.returns-in-Some-2
+returns-in-Some-2 c = another_pass c.requires c.in-Some.ensures (search rules) c.pass_again.ensures (c.in_ok-after.was ∙ ap Ok c.in-Some-2.is)
 
-pub returns : goal.returns
-returns c = search (pass_of_pieces, rules)
+pub returns-in-None : goal.returns-in-None
+returns-in-None c = no_pass_more c.requires c.in-Some.ensures (search rules) c.pass_again.ensures (c.in_ok-after.was ∙ ap Ok c.in-None.is)

@@ -1,13 +1,9 @@
--- start_pass lays an iteration out and makes its first pass.
-use borrow.Author.Rules.{rules}
-use Rattle.iterate.proofs.Passes.{starts_placed, starts_pieces, starts_pass}
+-- start_pass makes the first pass, and puts the iteration behind those that are open.
+use Rattle.iterate.proofs.Passes.{start_fails, starts}
 use Rattle.iterate.proofs.start_pass.Goals as goal
 
-pub take_pass-requires : goal.take_pass-requires
-take_pass-requires c =
-    let o = c.open_pass.ensures in
-    let p = c.requires.placed in
-    record { placed = starts_placed o p (search rules); passes_at = starts_pieces o p (search rules) (search rules) (search rules) (search rules) (search rules) (search rules) }
+pub returns-in_err-take_pass : goal.returns-in_err-take_pass
+returns-in_err-take_pass c = start_fails c.requires.placed c.new.ensures c.take_pass.ensures c.in_err-take_pass.was c.from_residual.ensures.1
 
 pub returns : goal.returns
-returns c = search (starts_pass, rules)
+returns c = starts c.requires.placed c.new.ensures c.take_pass.ensures c.in_ok-take_pass.was c.enter.ensures

@@ -1,10 +1,9 @@
 -- start_repeat begins an iteration, or skips past it.
-use borrow.Author.Rules.{rules}
 use Rattle.iterate.proofs.Repeats.{repeat_skips, repeat_begins}
 use Rattle.iterate.proofs.start_repeat.Goals as goal
 
-pub returns-then-n-eq0 : goal.returns-then-n-eq0
-returns-then-n-eq0 c = search (repeat_skips, rules)
+pub returns-in-None : goal.returns-in-None
+returns-in-None c = repeat_skips c.ranges.v c.count_passes.ensures c.in-None.ensures c.past_loop.ensures c.move_to.ensures
 
-pub returns : goal.returns
-returns c = search (repeat_begins, rules)
+pub returns-in-Some : goal.returns-in-Some
+returns-in-Some c = repeat_begins c.ranges.v c.count_passes.ensures c.in-Some.ensures c.enter.ensures

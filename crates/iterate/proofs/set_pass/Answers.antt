@@ -1,7 +1,0 @@
--- set_pass moves the rest, and sets the parameter and its delimiter.
-use borrow.Author.Rules.{rules}
-use Rattle.iterate.proofs.Passes.{sets_pass}
-use Rattle.iterate.proofs.set_pass.Goals as goal
-
-pub returns : goal.returns
-returns c = search (sets_pass, rules)
