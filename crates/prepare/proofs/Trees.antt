@@ -92,8 +92,8 @@ holds-tree {text} {row} {t} p u loads =
     })
 
 -- a text that is refused does not load
-pub refused-loads : {text : Bytes} {k n : ℕ} (u : Load.Loaded) → load text ≡ refused k n → load text ≡ loaded u → ⊥
-refused-loads u e q =
+pub refused-loads : (text : Bytes) {k n : ℕ} (u : Load.Loaded) → load text ≡ refused k n → load text ≡ loaded u → ⊥
+refused-loads text u e q =
     let z : refused _ _ ≡ loaded u = sym e ∙ q in
     let y : ◌≡◌ {A = ℕ} 0 1 = cc in
     omega (arith, y)
