@@ -24,9 +24,8 @@ use Rattle.call.specs.declared.Head.{Head}
 use Rattle.call.specs.Call.{Laid, laid, frame_of}
 use Rattle.call.specs.Params.{Moves}
 use Rattle.answer.specs.declared.Answer.{Answer}
-use Rattle.answer.specs.declared.Turn.{Turn}
 use Rattle.answer.specs.declared.Turn.TheVariants.{Continues, Offers, Back, Halts}
-use Rattle.answer.specs.Answers.{number_of_end, goes_further, goes_back, ends_with, is_left, is_offer, settle, next_at, next_of}
+use Rattle.answer.specs.Answers.{goes_further, goes_back, ends_with, is_left, is_offer, settle, next_at, next_of}
 use Rattle.answer.proofs.Coming.{none-placed}
 use Rattle.answer.proofs.Expansion.{skip-same, next_as}
 use Rattle.landing.specs.Landing.{LandsSkip, LandsAnswer}
