@@ -5,115 +5,53 @@ use Prim.Native.Nat.{ℕ, ◌+◌, ◌-◌, ◌*◌, ◌≤◌, ◌<◌}
 use native.Mathlib.Numerals.{add-one}
 use native.Mathlib.Omega.{arith}
 use borrow.Author.Count.{below_more}
-use lib.ListN.{length, get_or, set, take, drop, length-set, length-drop, length-append, take-append-drop, get_or-append}
-use lib.Seq.{ext_get_or, take-take, get_or-take, get_or-drop, get_or-set_same, get_or-set_other, get_or-append_seam, length-take-le}
+use borrow.Rule.Slice.PartMut.{put_mid, same_len_mid}
+use lib.ListN.{length, get_or, take, drop, length-drop, take-append-drop, get_or-append}
+use lib.Seq.{drop_at, ext_get_or, take-take, get_or-take, get_or-drop, length-take-le}
 use Rattle.model.specs.declared.Marks.{Marks}
 use Rattle.model.specs.Text.{Bytes}
 use Rattle.model.specs.Load.{body_at}
 use Rattle.model.specs.Machine.{Loop, resume_at}
 use Rattle.model.proofs.Text.{drop-take}
 use Rattle.call.specs.declared.Head.{Head}
-use Rattle.call.specs.Call.{Iteration, iteration, texts_at, loop_of, loops_of, slots, laid, frame_of, PlacedLoop, Placed}
+use Rattle.call.specs.Call.{iteration, texts_at, loop_of, loops_of, slots, laid, frame_of, PlacedLoop, Placed}
 use Rattle.call.proofs.Loops.{placed_agree, loops_agree}
 use Rattle.call.proofs.Slots.{slots_front}
-use Rattle.iterate.specs.Iterate.{iteration_of, with_rest, KeepsBefore, Numbers, BytesBefore}
+use Rattle.iterate.specs.declared.Iteration.{Iteration as Kept}
+use Rattle.iterate.specs.Iterate.{said, KeepsBefore, Numbers, BytesBefore}
 
 -- ---- numbers
 
--- a number past the place is another
-pub before-set : (nums : List ℕ) (i p v : ℕ) → 18 + 8 * i ≤ p → KeepsBefore nums i (set nums p v)
-before-set nums i p v h = record { is = λ q u. get_or-set_other nums p q v 0 (λ z. omega arith); long = length-set nums p v }
-
--- the numbers from place a on are vs
-record Known (nums : List ℕ) (a : ℕ) (vs nums' : List ℕ) : Type 0 where
-  before : (q : ℕ) → q < a → get_or nums' q 0 ≡ get_or nums q 0
-  long : length nums' ≡ length nums
-  is : (j : ℕ) → j < length vs → get_or nums' (a + j) 0 ≡ get_or vs j 0
-
-known-none : (nums : List ℕ) (a : ℕ) → Known nums a [] nums
-known-none nums a = record { before = λ q u. refl; long = refl; is = λ j u. absurd (omega arith) }
-
-known_more : {nums : List ℕ} {a : ℕ} {vs nums' : List ℕ} (v : ℕ) → a + length vs < length nums → Known nums a vs nums' → Known nums a (vs ++ (v ∷ [])) (set nums' (a + length vs) v)
-known_more {nums} {a} {vs} {nums'} v u k =
-    let n : ℕ = length vs in
-    let l = k.long in
-    let e = length-append vs (v ∷ []) in
-    record {
-      before = λ q w. get_or-set_other nums' (a + n) q v 0 (λ z. omega arith) ∙ k.before q w;
-      long = length-set nums' (a + n) v ∙ l;
-      is = λ j w. below_more (λ (j : ℕ). get_or (set nums' (a + n) v) (a + j) 0 ≡ get_or (vs ++ (v ∷ [])) j 0) n
-          (λ j w. get_or-set_other nums' (a + n) (a + j) v 0 (λ z. omega arith) ∙ k.is j w ∙ sym (get_or-append vs (v ∷ []) 0 j w))
-          (get_or-set_same nums' (a + n) v 0 (omega arith) ∙ sym (get_or-append_seam vs v [] 0)) j (omega arith);
-    }
-
-known_first : {nums : List ℕ} {a : ℕ} {vs nums' : List ℕ} → Known nums a vs nums' → 0 < length vs → get_or nums' a 0 ≡ get_or vs 0 0
-known_first {a = a} {nums' = nums'} k h = let z : a ≡ a + 0 = omega arith in ap (λ (p : ℕ). get_or nums' p 0) z ∙ k.is 0 h
-
-pub numbers : {nums : List ℕ} {i param after left list end to old : ℕ} → i < 4 → length nums ≡ 50
-    → Numbers nums i (iteration_of param after left list end to old)
-    (set (set (set (set (set (set (set (set nums (18 + 8 * i) param) (18 + 8 * i + 1) after) (18 + 8 * i + 2) left) (18 + 8 * i + 3) list)
-    (18 + 8 * i + 4) end) (18 + 8 * i + 5) 0) (18 + 8 * i + 6) to) (18 + 8 * i + 7) old)
-numbers {nums} {i} {param} {after} {left} {list} {end} {to} {old} h l =
+-- the eight numbers from its place on are those of x
+pub numbers : {nums vs : List ℕ} {i k : ℕ} {x : Kept} → k ≡ 8 → i < 4 → length nums ≡ 50 → vs ≡ x.param ∷ x.after ∷ x.left ∷ x.list ∷ x.end ∷ x.from ∷ x.to ∷ x.old ∷ []
+    → Numbers nums i (said x) (put_mid (18 + 8 * i) k nums vs)
+numbers {nums} {vs} {i} {k} {x} n h l e =
     let a : ℕ = 18 + 8 * i in
-    let z : a + 0 ≡ a = omega arith in
-    let one : Known nums a (param ∷ []) (set nums a param) = subst (λ (p : ℕ). Known nums a (param ∷ []) (set nums p param)) z (known_more param (omega arith) (known-none nums a)) in
-    let all =
-    known_more old (omega arith) (known_more to (omega arith) (known_more 0 (omega arith)
-    (known_more end (omega arith) (known_more list (omega arith) (known_more left (omega arith) (known_more after (omega arith) one)))))) in
-    record {
-      before = record { is = all.before; long = all.long };
+    let nums' : List ℕ = put_mid a 8 nums vs in
+    let few : length vs ≡ 8 = ap length e in
+    let front = length-take-le a nums (omega arith) in
+    let here = length-take-le 8 (drop a nums) (omega (arith, length-drop a nums)) in
+    let at : (j : ℕ) → j < 8 → get_or nums' (a + j) 0 ≡ get_or (x.param ∷ x.after ∷ x.left ∷ x.list ∷ x.end ∷ x.from ∷ x.to ∷ x.old ∷ []) j 0 =
+    λ j u. sym (get_or-drop a nums' j 0) ∙ ap (λ (ys : List ℕ). get_or ys j 0) (drop_at (take a nums) (vs ++ drop 8 (drop a nums)) a front)
+    ∙ get_or-append vs (drop 8 (drop a nums)) 0 j (omega arith) ∙ ap (λ (ys : List ℕ). get_or ys j 0) e in
+    let z : a ≡ a + 0 = omega arith in
+    subst (λ (k : ℕ). Numbers nums i (said x) (put_mid a k nums vs)) (sym n)
+    (record {
+      before = record {
+        is = λ q u. get_or-append (take a nums) (vs ++ drop 8 (drop a nums)) 0 q (omega arith) ∙ get_or-take a nums q 0 u;
+        long = same_len_mid a 8 nums vs (few ∙ sym here);
+      };
       is = rw (
-        known_first all (omega arith),
-        all.is 1 (omega arith),
-        all.is 2 (omega arith),
-        all.is 3 (omega arith),
-        all.is 4 (omega arith),
-        all.is 5 (omega arith),
-        all.is 6 (omega arith),
-        all.is 7 (omega arith),
+        ap (λ (p : ℕ). get_or nums' p 0) z ∙ at 0 (omega arith),
+        at 1 (omega arith),
+        at 2 (omega arith),
+        at 3 (omega arith),
+        at 4 (omega arith),
+        at 5 (omega arith),
+        at 6 (omega arith),
+        at 7 (omega arith),
       ) refl;
-    }
-
--- one of its numbers is another
-module _ (nums : List ℕ) (i v : ℕ) (h : i < 4) (l : length nums ≡ 50) where
-  other : (o k : ℕ) → (o ≡ k → ⊥) → get_or (set nums (18 + 8 * i + o) v) (18 + 8 * i + k) 0 ≡ get_or nums (18 + 8 * i + k) 0
-  other o k n = get_or-set_other nums (18 + 8 * i + o) (18 + 8 * i + k) v 0 (λ z. n (omega arith))
-
-  other_first : (o : ℕ) → 0 < o → get_or (set nums (18 + 8 * i + o) v) (18 + 8 * i) 0 ≡ get_or nums (18 + 8 * i) 0
-  other_first o n = get_or-set_other nums (18 + 8 * i + o) (18 + 8 * i) v 0 (λ z. omega arith)
-
-  same : (o : ℕ) → o < 8 → get_or (set nums (18 + 8 * i + o) v) (18 + 8 * i + o) 0 ≡ v
-  same o n = get_or-set_same nums (18 + 8 * i + o) v 0 (omega arith)
-
-  pub iteration_left : iteration (set nums (18 + 8 * i + 2) v) i
-      ≡ (let x : Iteration = iteration nums i in record { param = x.param; after = x.after; left = v; list = x.list; end = x.end; from = x.from; to = x.to; old = x.old })
-  iteration_left =
-      rw (
-        other_first 2 (omega arith),
-        other 2 1 (λ e. omega arith),
-        same 2 (omega arith),
-        other 2 3 (λ e. omega arith),
-        other 2 4 (λ e. omega arith),
-        other 2 5 (λ e. omega arith),
-        other 2 6 (λ e. omega arith),
-        other 2 7 (λ e. omega arith),
-      ) refl
-
-  iteration-from : iteration (set nums (18 + 8 * i + 5) v) i ≡ with_rest (iteration nums i) v
-  iteration-from =
-      rw (
-        other_first 5 (omega arith),
-        other 5 1 (λ e. omega arith),
-        other 5 2 (λ e. omega arith),
-        other 5 3 (λ e. omega arith),
-        other 5 4 (λ e. omega arith),
-        same 5 (omega arith),
-        other 5 6 (λ e. omega arith),
-        other 5 7 (λ e. omega arith),
-      ) refl
-
-pub moves-rest : {nums : List ℕ} {i v : ℕ} → i < 4 → length nums ≡ 50 → Numbers nums i (with_rest (iteration nums i) v) (set nums (18 + 8 * i + 5) v)
-moves-rest {nums} {i} {v} h l = record { before = before-set nums i (18 + 8 * i + 5) v (omega arith); is = iteration-from nums i v h l }
+    })
 
 -- ---- a call so far
 

@@ -4,7 +4,7 @@ use mathlib.Core.Option as Math
 use mathlib.Core.List.{List, [], ◌∷◌}
 use Prim.Native.Nat.{ℕ, suc, ◌+◌, ◌-◌, ◌*◌, ◌≤◌, ◌<◌}
 use native.Mathlib.Omega.{arith}
-use lib.ListN.{length, set, drop}
+use lib.ListN.{length, drop}
 use Rattle.std.specs.Prelude.{Option, Result, Ok, Err, IsErrAnd}
 use Rattle.faults.specs.declared.RunFault.{RunFault}
 use Rattle.faults.specs.Numbers.{run_number}
@@ -20,8 +20,9 @@ use Rattle.call.specs.declared.Head.{Head}
 use Rattle.call.specs.Call.{Iteration, iteration, texts_at, rest_of, old_of, loop_of, loops_of, laid, frame_of, PlacedLoop, Placed}
 use Rattle.call.specs.Params.{Sets, with_delimiter, Delimits}
 use Rattle.call.proofs.Loops.{loop-count, loop-pieces, loops_top}
-use Rattle.iterate.specs.Iterate.{pass_step, iteration_of, with_rest, Numbers, PassesAt, passed, SetsPass, Passes, OpensPass, StartsPass, EndsCount, EndsPiece, EndsPass}
-use Rattle.iterate.proofs.Iterations.{before-set, iteration_left, bytes_same, loops-before, frame-before, placed-before, frame_enters, placed_enters}
+use Rattle.iterate.specs.declared.Iteration.{Iteration as Kept}
+use Rattle.iterate.specs.Iterate.{pass_step, said, stored, iteration_of, with_rest, with_left, Numbers, PassesAt, passed, SetsPass, Passes, OpensPass, StartsPass, EndsCount, EndsPiece, EndsPass}
+use Rattle.iterate.proofs.Iterations.{bytes_same, loops-before, frame-before, placed-before, frame_enters, placed_enters}
 use Rattle.iterate.proofs.Texts.{line_from, old_at, texts-long, piece-at}
 
 -- ---- set_pass
@@ -51,6 +52,16 @@ sets_pass {c} {nums} {bytes} {i} {piece} {delimiter} {rest} {nums₁} {nums₂} 
           dl.placed text r bytes₂ (st.placed text r (placed_enters mv.before (bytes_same bytes i) l b (omega arith) text c x.after p small h.within
           (subst (λ (z : Iteration). PlacedLoop text z) (sym mv.is) (record { param = q.param; after = q.after; list = q.list; end = q.end; from = u; to = q.to; old = q.old })) q.after));
     }
+
+-- by the iteration as it is read
+pub passes_set : {c : Head} {nums : List ℕ} {bytes : Bytes} {i : ℕ} {x : Kept} {piece : Bytes} {delimiter : Option ℕ} {rest : ℕ} {nums₁ nums₂ : List ℕ} {bytes₂ : Bytes} {nums₃ : List ℕ}
+    → x ≡ stored nums i → i < 4 → 1 ≤ x.param → length nums ≡ 50 → length bytes ≡ 3400 → Numbers nums i (with_rest (said x) rest) nums₁
+    → Sets nums₁ bytes x.param piece nums₂ bytes₂ → Delimits nums₂ x.param delimiter nums₃
+    → SetsPass (laid c nums bytes) i piece delimiter rest (laid (record { number = c.number; next = x.after; depth = i + 1 }) nums₃ bytes₂)
+passes_set {c} {nums} {bytes} {i} {x} {piece} {delimiter} {rest} {nums₁} {nums₂} {bytes₂} {nums₃} e small some l b =
+    subst (λ (x : Kept). 1 ≤ x.param → Numbers nums i (with_rest (said x) rest) nums₁ → Sets nums₁ bytes x.param piece nums₂ bytes₂ → Delimits nums₂ x.param delimiter nums₃
+    → SetsPass (laid c nums bytes) i piece delimiter rest (laid (record { number = c.number; next = x.after; depth = i + 1 }) nums₃ bytes₂))
+    (sym e) (λ some mv st dl. sets_pass small some l b mv st dl) some
 
 -- ---- take_pass
 
@@ -147,37 +158,43 @@ module _ {text : Bytes} {c : Head} {nums : List ℕ} {bytes : Bytes} {d : ℕ} {
 -- ---- end_count
 
 module _ {c : Head} {nums : List ℕ} {i : ℕ} (h : i < 4) (l : length nums ≡ 50) where
-  pub count_ends : (iteration nums i).left ≡ 0 → EndsCount c nums i (record { number = c.number; next = c.next; depth = i }) nums
+  pub count_ends : {x : Kept} → x ≡ stored nums i → x.left ≡ 0 → EndsCount c nums i (record { number = c.number; next = c.next; depth = i }) nums
   unfolding end_pass resume_at
-  count_ends e = record {
+  count_ends r d = let e : (iteration nums i).left ≡ 0 = sym (ap (λ (x : Kept). x.left) r) ∙ d in record {
     step = λ m text bytes w b. ap (λ (n : ℕ). end_pass m (by_count n (body_at m text (iteration nums i).after) ∷ loops_of m text nums bytes i) (frame_of m text (laid c nums bytes)) w) e;
     placed = λ text bytes p u. record { number = p.number; next = p.next; depth = omega arith; nums = l; bytes = p.bytes; iterations = λ j v. p.iterations j (omega arith) };
   }
 
-  pub count_goes_on : ((iteration nums i).left ≡ 0 → ⊥) → (iteration nums i).param ≡ 0
-      → EndsCount c nums i (record { number = c.number; next = (iteration nums i).after; depth = i + 1 }) (set nums (18 + 8 * i + 2) ((iteration nums i).left - 1))
+  goes_on : {nums' : List ℕ} → ((iteration nums i).left ≡ 0 → ⊥) → (iteration nums i).param ≡ 0
+      → Numbers nums i (with_left (iteration nums i) ((iteration nums i).left - 1)) nums'
+      → EndsCount c nums i (record { number = c.number; next = (iteration nums i).after; depth = i + 1 }) nums'
   unfolding end_pass
-  count_goes_on ne e =
+  goes_on {nums'} ne e st =
       let x : Iteration = iteration nums i in
       let v : ℕ = x.left - 1 in
       let z : x.left ≡ suc v = omega arith in
-      let y : Iteration = record { param = x.param; after = x.after; left = v; list = x.list; end = x.end; from = x.from; to = x.to; old = x.old } in
-      let now : iteration (set nums (18 + 8 * i + 2) v) i ≡ y = iteration_left nums i v h l in
-      let before = before-set nums i (18 + 8 * i + 2) v (omega arith) in
       record {
         step = λ m text bytes w b.
             let ls : List Loop = loops_of m text nums bytes i in
             let after : List Bytes = body_at m text x.after in
-            let loop : loop_of m text (texts_at bytes i) (iteration (set nums (18 + 8 * i + 2) v) i) ≡ by_count v after =
-            ap (λ (k : Iteration). loop_of m text (texts_at bytes i) k) now ∙ loop-count m text (texts_at bytes i) y e in
+            let loop : loop_of m text (texts_at bytes i) (iteration nums' i) ≡ by_count v after =
+            ap (λ (k : Iteration). loop_of m text (texts_at bytes i) k) st.is ∙ loop-count m text (texts_at bytes i) (with_left x v) e in
             ap (λ (n : ℕ). end_pass m (by_count n after ∷ ls) (frame_of m text (laid c nums bytes)) w) z
             ∙ ap (λ (f : Frame). continues f w)
-            (sym (frame_enters before (bytes_same bytes i) l b (omega arith) m text c x.after ∙ ap (λ (k : Loop). resume_at (frame_of m text (laid c nums bytes)) (k ∷ ls) after) loop));
+            (sym (frame_enters st.before (bytes_same bytes i) l b (omega arith) m text c x.after ∙ ap (λ (k : Loop). resume_at (frame_of m text (laid c nums bytes)) (k ∷ ls) after) loop));
         placed = λ text bytes p u.
             let q = p.iterations i u in
-            placed_enters before (bytes_same bytes i) l p.bytes (omega arith) text c x.after p h (omega arith)
-            (subst (λ (k : Iteration). PlacedLoop text k) (sym now) (record { param = q.param; after = q.after; list = q.list; end = q.end; from = q.from; to = q.to; old = q.old })) q.after;
+            placed_enters st.before (bytes_same bytes i) l p.bytes (omega arith) text c x.after p h (omega arith)
+            (subst (λ (k : Iteration). PlacedLoop text k) (sym st.is) (record { param = q.param; after = q.after; list = q.list; end = q.end; from = q.from; to = q.to; old = q.old })) q.after;
       }
+
+  -- by the iteration as it is read
+  pub count_goes_on : {x : Kept} {nums' : List ℕ} → x ≡ stored nums i → (x.left ≡ 0 → ⊥) → (iteration nums i).param ≡ 0 → Numbers nums i (with_left (said x) (x.left - 1)) nums'
+      → EndsCount c nums i (record { number = c.number; next = x.after; depth = i + 1 }) nums'
+  count_goes_on {x} {nums'} e ne q =
+      subst (λ (x : Kept). (x.left ≡ 0 → ⊥) → Numbers nums i (with_left (said x) (x.left - 1)) nums'
+      → EndsCount c nums i (record { number = c.number; next = x.after; depth = i + 1 }) nums')
+      (sym e) (λ ne st. goes_on ne q st) ne
 
 -- ---- end_piece
 

@@ -12,6 +12,7 @@ use Rattle.pass.specs.Pass.{delimiter_bytes}
 use Rattle.call.specs.declared.Head.{Head}
 use Rattle.call.specs.Call.{first_loop, loop_numbers, Iteration, iteration, texts_at, rest_of, old_of, loops_of, Laid, laid, frame_of, PlacedLoop, Placed, param_bytes, loop_bytes, call_bytes}
 use Rattle.call.specs.Params.{Lies}
+use Rattle.iterate.specs.declared.Iteration.{Iteration as Kept}
 
 -- what an answer comes to, with the call's numbers and bytes at exit: the call goes on, or the number of a fault ends the run
 unfoldable pub pass_step : Marks → Bytes → Result Head RunFault → List ℕ → Bytes → Shared → Step
@@ -25,6 +26,23 @@ call_after c (Err e) = c
 
 -- ---- numbers and texts
 
+-- what the code's iteration says
+abbrev pub said : Kept → Iteration
+said x = record { param = x.param; after = x.after; left = x.left; list = x.list; end = x.end; from = x.from; to = x.to; old = x.old }
+
+-- the one that is stored at place i
+abbrev pub stored : List ℕ → ℕ → Kept
+stored nums i = record {
+  param = get_or nums (first_loop + loop_numbers * i) 0;
+  after = get_or nums (first_loop + loop_numbers * i + 1) 0;
+  left = get_or nums (first_loop + loop_numbers * i + 2) 0;
+  list = get_or nums (first_loop + loop_numbers * i + 3) 0;
+  end = get_or nums (first_loop + loop_numbers * i + 4) 0;
+  from = get_or nums (first_loop + loop_numbers * i + 5) 0;
+  to = get_or nums (first_loop + loop_numbers * i + 6) 0;
+  old = get_or nums (first_loop + loop_numbers * i + 7) 0;
+}
+
 -- an iteration that begins
 abbrev pub iteration_of : (param after left list end to old : ℕ) → Iteration
 iteration_of param after left list end to old = record { param = param; after = after; left = left; list = list; end = end; from = 0; to = to; old = old }
@@ -32,6 +50,10 @@ iteration_of param after left list end to old = record { param = param; after = 
 -- an ed7 whose rest starts elsewhere
 abbrev pub with_rest : Iteration → ℕ → Iteration
 with_rest x from = record { param = x.param; after = x.after; left = x.left; list = x.list; end = x.end; from = from; to = x.to; old = x.old }
+
+-- an eF7 with other passes left
+abbrev pub with_left : Iteration → ℕ → Iteration
+with_left x left = record { param = x.param; after = x.after; left = left; list = x.list; end = x.end; from = x.from; to = x.to; old = x.old }
 
 -- the numbers before those of place i are as they were
 pub record KeepsBefore (nums : List ℕ) (i : ℕ) (nums' : List ℕ) : Type 0 where
@@ -42,6 +64,10 @@ pub record KeepsBefore (nums : List ℕ) (i : ℕ) (nums' : List ℕ) : Type 0 w
 pub record Numbers (nums : List ℕ) (i : ℕ) (x : Iteration) (nums' : List ℕ) : Type 0 where
   pub before : KeepsBefore nums i nums'
   pub is : iteration nums' i ≡ x
+
+-- n bytes of the line of the iteration at place i, from offset `from` on
+abbrev pub piece_in : Bytes → (i from n : ℕ) → Bytes
+piece_in bytes i from n = part bytes (param_bytes + loop_bytes * i + from) (param_bytes + loop_bytes * i + from + n)
 
 -- the bytes before those of place i are as they were
 pub record BytesBefore (bytes : Bytes) (i : ℕ) (bytes' : Bytes) : Type 0 where

@@ -4,10 +4,9 @@
 // is 1 to 9, that its line has at most 200 bytes and that its list of delimiters lies in the text.
 #![tactic(auto)]
 
-ghost use Rattle.std.specs.Prelude.{◌≡◌, ◌+◌, ◌≤◌, ◌<◌, length};
-ghost use Rattle.model.specs.Text.{part};
+ghost use Rattle.std.specs.Prelude.{◌≡◌, ◌+◌, ◌-◌, ◌≤◌, ◌<◌, length};
 ghost use Rattle.call.specs.Call.{iteration, laid, Placed, Sized, call_numbers, call_bytes};
-ghost use Rattle.iterate.specs.Iterate.{iteration_of, with_rest, Numbers, KeepsTexts};
+ghost use Rattle.iterate.specs.Iterate.{stored, said, piece_in, Numbers, KeepsTexts};
 ghost use Rattle.iterate.specs.Iterate.{PassesAt, SetsPass, Passes, OpensPass, StartsPass, EndsCount, EndsPiece, EndsPass, CountsPasses, StartsRepeat};
 ghost use Rattle.model.specs.Limits.{line_most, nesting_most};
 
@@ -18,62 +17,88 @@ use call::{
 };
 use faults::RunFault;
 use model::{Integer, LINE_MOST, Marks};
-use pass::take_piece;
-
-// The numbers of an iteration, from its first on: the parameter of an ed7, or 0 for an eF7; then where the code line after the opening
-// line starts; an eF7's passes left; start and end of an ed7's list of delimiters in the text; from where to where the rest of its line
-// lies among its bytes; and the length of the parameter's old value.
-const AFTER: usize = 1;
-
-const LEFT: usize = 2;
-
-const LIST: usize = 3;
-
-const END: usize = 4;
-
-const FROM: usize = 5;
-
-const TO: usize = 6;
-
-const OLD: usize = 7;
+use pass::{Taken, take_piece};
 
 // Where the first iteration keeps its parameter's old value among the bytes.
 const OLD_VALUES: usize = PARAM_BYTES + LINE_MOST;
 
-// The rest of the line of the ed7 at place i starts elsewhere.
-fn move_rest(nums: &mut [usize], i: usize, from: usize)
-    requires { (i < nesting_most) × (length nums.old ≡ call_numbers) }
-    ensures { Numbers nums.old i (with_rest (iteration nums.old i) from) nums.new }
-{
-    let x = LOOPS + LOOP_NUMBERS * i;
-    nums[x + FROM] = from;
+// An iteration: what its eight numbers say, in their order.
+#[derive(Clone, Copy)]
+struct Iteration {
+    // the parameter of an ed7, or 0 for an eF7
+    param: usize,
+    // where the code line after the opening line starts
+    after: usize,
+    // an eF7's passes left
+    left: usize,
+    // an ed7's list of delimiters is text[list..end]
+    list: usize,
+    end: usize,
+    // from where to where the rest of an ed7's line lies among its bytes
+    from: usize,
+    to: usize,
+    // the length of the parameter's old value
+    old: usize,
 }
 
-// The ed7 at place i has taken the n bytes from offset `at` on, and goes on after its opening line.
+impl Iteration {
+    // The one at place i.
+    fn read(nums: &[usize], i: usize) -> Iteration
+        requires { (i < nesting_most) × (length nums.now ≡ call_numbers) }
+        ensures { result ≡ stored nums.now i }
+    {
+        let x = LOOPS + LOOP_NUMBERS * i;
+        Iteration {
+            param: nums[x],
+            after: nums[x + 1],
+            left: nums[x + 2],
+            list: nums[x + 3],
+            end: nums[x + 4],
+            from: nums[x + 5],
+            to: nums[x + 6],
+            old: nums[x + 7],
+        }
+    }
+
+    // It becomes the one at place i.
+    fn write(self, nums: &mut [usize], i: usize)
+        requires { (i < nesting_most) × (length nums.old ≡ call_numbers) }
+        ensures { Numbers nums.old i (said self) nums.new }
+    {
+        let x = LOOPS + LOOP_NUMBERS * i;
+        nums[x..x + LOOP_NUMBERS].copy_from_slice(&[
+            self.param, self.after, self.left, self.list, self.end, self.from, self.to, self.old,
+        ]);
+    }
+}
+
+// The ed7 at place i, which is x, has taken a piece, and goes on after its opening line.
 fn set_pass(
     c: Head,
     nums: &mut [usize],
     params: &mut [u8],
     i: usize,
-    at: usize,
-    n: usize,
-    delimiter: Option<u8>,
-    rest: usize,
+    x: Iteration,
+    taken: Taken,
 ) -> Head
-    requires i_lt_nesting_most { (i < nesting_most) × ((1 ≤ (iteration nums.old i).param) × ((iteration nums.old i).param ≤ 9)) }
+    requires x_stored { (i < nesting_most) × (x ≡ stored nums.old i) }
+    requires param { (1 ≤ x.param) × (x.param ≤ 9) }
     requires sized { Sized nums.old params.old }
-    requires n_le_line_most { (n ≤ line_most) × (at + n ≤ call_bytes) }
-    ensures { SetsPass (laid c nums.old params.old) i (part params.old at (at + n)) delimiter rest
+    requires taken_in { (x.from ≤ taken.end) × (taken.end ≤ line_most) }
+    ensures { SetsPass (laid c nums.old params.old) i (piece_in params.old i x.from (taken.end - x.from)) taken.delimiter taken.rest
         (laid result nums.new params.new) }
 {
-    let x = LOOPS + LOOP_NUMBERS * i;
-    let d = nums[x];
-    let after = nums[x + AFTER];
-    move_rest(nums, i, rest);
-    regain(nums, params, d, at, n);
-    set_delimiter(nums, d, delimiter);
+    let at = PARAM_BYTES + LOOP_BYTES * i + x.from;
+    let n = taken.end - x.from;
+    let rest = Iteration {
+        from: taken.rest,
+        ..x
+    };
+    rest.write(nums, i);
+    regain(nums, params, x.param, at, n);
+    set_delimiter(nums, x.param, taken.delimiter);
     Head {
-        next: after,
+        next: x.after,
         depth: i + 1,
         ..c
     }
@@ -92,50 +117,11 @@ fn take_pass(
     requires passes_at { PassesAt text.now c nums.old i }
     ensures { Passes m text.now (laid c nums.old params.old) i result nums.new params.new }
 {
-    let x = LOOPS + LOOP_NUMBERS * i;
-    let list = nums[x + LIST];
-    let end = nums[x + END];
-    let from = nums[x + FROM];
+    let x = Iteration::read(nums, i);
     let base = PARAM_BYTES + LOOP_BYTES * i;
-    let to = base + nums[x + TO];
-    let taken = take_piece(m, &params[base..to], from, &text[list..end])?;
-    let n = taken.end - from;
-    Ok(set_pass(
-        c,
-        nums,
-        params,
-        i,
-        base + from,
-        n,
-        taken.delimiter,
-        taken.rest,
-    ))
-}
-
-// The numbers of the iteration at place i.
-fn set_iteration(
-    nums: &mut [usize],
-    i: usize,
-    param: usize,
-    after: usize,
-    left: usize,
-    list: usize,
-    end: usize,
-    to: usize,
-    old: usize,
-)
-    requires { (i < nesting_most) × (length nums.old ≡ call_numbers) }
-    ensures { Numbers nums.old i (iteration_of param after left list end to old) nums.new }
-{
-    let x = LOOPS + LOOP_NUMBERS * i;
-    nums[x] = param;
-    nums[x + AFTER] = after;
-    nums[x + LEFT] = left;
-    nums[x + LIST] = list;
-    nums[x + END] = end;
-    nums[x + FROM] = 0;
-    nums[x + TO] = to;
-    nums[x + OLD] = old;
+    let line = &params[base..base + x.to];
+    let taken = take_piece(m, line, x.from, &text[x.list..x.end])?;
+    Ok(set_pass(c, nums, params, i, x, taken))
 }
 
 // The texts of the iteration at place i: a line, and the n bytes from offset `at` on.
@@ -166,7 +152,17 @@ fn open_pass(
 {
     let n = param_len(nums, d);
     keep_texts(params, c.depth, line, LINE_MOST * (d - 1), n);
-    set_iteration(nums, c.depth, d, c.next, 0, list, end, line.len(), n);
+    let opened = Iteration {
+        param: d,
+        after: c.next,
+        left: 0,
+        list,
+        end,
+        from: 0,
+        to: line.len(),
+        old: n,
+    };
+    opened.write(nums, c.depth);
 }
 
 // ed7: the first pass over the line, with the delimiters text[list..end].
@@ -196,15 +192,17 @@ fn end_count(c: Head, nums: &mut [usize], i: usize) -> Head
     requires i_value { (iteration nums.old i).param ≡ 0 }
     ensures { EndsCount c nums.old i result nums.new }
 {
-    let x = LOOPS + LOOP_NUMBERS * i;
-    let left = nums[x + LEFT];
-    if left == 0 {
+    let x = Iteration::read(nums, i);
+    if x.left == 0 {
         return Head { depth: i, ..c };
     }
-    let after = nums[x + AFTER];
-    nums[x + LEFT] = left - 1;
+    let fewer = Iteration {
+        left: x.left - 1,
+        ..x
+    };
+    fewer.write(nums, i);
     Head {
-        next: after,
+        next: x.after,
         depth: i + 1,
         ..c
     }
@@ -223,13 +221,11 @@ fn end_piece(
     requires passes_at { PassesAt text.now c nums.old i }
     ensures { EndsPiece m text.now (laid c nums.old params.old) i result nums.new params.new }
 {
-    let x = LOOPS + LOOP_NUMBERS * i;
-    if nums[x + FROM] < nums[x + TO] {
+    let x = Iteration::read(nums, i);
+    if x.from < x.to {
         return take_pass(m, text, c, nums, params, i);
     }
-    let d = nums[x];
-    let old = nums[x + OLD];
-    regain(nums, params, d, OLD_VALUES + LOOP_BYTES * i, old);
+    regain(nums, params, x.param, OLD_VALUES + LOOP_BYTES * i, x.old);
     Ok(Head { depth: i, ..c })
 }
 
@@ -248,7 +244,7 @@ pub fn end_pass(
         return Ok(c);
     }
     let i = c.depth - 1;
-    if nums[LOOPS + LOOP_NUMBERS * i] == 0 {
+    if Iteration::read(nums, i).param == 0 {
         return Ok(end_count(c, nums, i));
     }
     end_piece(m, text, c, nums, params, i)
@@ -271,7 +267,17 @@ pub fn start_repeat(m: Marks, text: &[u8], c: Head, nums: &mut [usize], v: Integ
     if n == 0 {
         return move_to(c, past_loop(m, text, c.next));
     }
-    set_iteration(nums, c.depth, 0, c.next, n - 1, 0, 0, 0, 0);
+    let counted = Iteration {
+        param: 0,
+        after: c.next,
+        left: n - 1,
+        list: 0,
+        end: 0,
+        from: 0,
+        to: 0,
+        old: 0,
+    };
+    counted.write(nums, c.depth);
     Head {
         depth: c.depth + 1,
         ..c
