@@ -12,12 +12,14 @@ use Rattle.state.specs.declared.State.{State}
 use Rattle.code.specs.declared.Part.{Part}
 use Rattle.code.specs.declared.Part.TheVariants.{Byte, Serial, Convert}
 use Rattle.code.specs.Tokens.{Parameter}
-use Rattle.call.specs.declared.Appended.{Appended}
+use Rattle.std.specs.Prelude.{Option, Result}
+use Rattle.faults.specs.declared.RunFault.{RunFault}
 use Rattle.call.specs.declared.Head.{Head}
 use Rattle.call.specs.Call.{Laid, laid, frame_of}
 use Rattle.call.specs.Line.{Appends}
 use Rattle.call.specs.Params.{Lies, Delimiter}
 use Rattle.convert.specs.declared.Added.{Added}
+use Rattle.convert.specs.declared.Failed.{Failed}
 use Rattle.convert.specs.Added.{answered}
 use Rattle.convert.specs.Converted.{Converts}
 use Rattle.convert.proofs.Adding.{adds_answered}
@@ -33,12 +35,12 @@ convert_parameter g e = (subst Ranges e g).is
 
 -- ---- what it adds
 
-part_as : {m : Marks} {c : Laid} {line : Bytes} {n : ℕ} {memory : Bytes} {s : State} {line' memory' : Bytes} {r : Added} {p q : Part} → p ≡ q → AddsPart m c q line n memory s line' memory' r
+part_as : {m : Marks} {c : Laid} {line : Bytes} {n : ℕ} {memory : Bytes} {s : State} {line' memory' : Bytes} {r : Result Added Failed} {p q : Part} → p ≡ q → AddsPart m c q line n memory s line' memory' r
     → AddsPart m c p line n memory s line' memory' r
 part_as {m} {c} {line} {n} {memory} {s} {line'} {memory'} {r} e a = subst (λ (x : Part). AddsPart m c x line n memory s line' memory' r) (sym e) a
 
-module _ {m : Marks} {nums : List ℕ} {bytes line : Bytes} {n : ℕ} {memory : Bytes} {s : State} {line' memory' : Bytes} {r : Added} {d : ℕ} {v : Conversion} where
-  pub converts : {i e : ℕ} → Lies nums d i → Delimiter nums d e → Converts m v (part bytes (200 * (d - 1)) (200 * (d - 1) + i)) e line n memory s line' memory' r
+module _ {m : Marks} {nums : List ℕ} {bytes line : Bytes} {n : ℕ} {memory : Bytes} {s : State} {line' memory' : Bytes} {r : Result Added Failed} {d : ℕ} {v : Conversion} where
+  pub converts : {i : ℕ} {e : Option ℕ} → Lies nums d i → Delimiter nums d e → Converts m v (part bytes (200 * (d - 1)) (200 * (d - 1) + i)) e line n memory s line' memory' r
       → AddsConversion m nums bytes d v line n memory s line' memory' r
   unfolding add_part
   converts l e a = record { adds = λ c. record { adds = λ text. a.adds (frame_of m text (laid c nums bytes)) d (l.is m text c bytes) (e.is m text c bytes) } }
@@ -46,7 +48,7 @@ module _ {m : Marks} {nums : List ℕ} {bytes line : Bytes} {n : ℕ} {memory : 
   pub part_convert : {c : Head} {p : Part} → p ≡ Convert d v → AddsConversion m nums bytes d v line n memory s line' memory' r → AddsPart m (laid c nums bytes) p line n memory s line' memory' r
   part_convert {c} e a = part_as e (a.adds c)
 
-module _ {m : Marks} {c : Laid} {p : Part} {line : Bytes} {n : ℕ} {memory : Bytes} {s : State} {line' : Bytes} {a : Appended} {r : Added}
+module _ {m : Marks} {c : Laid} {p : Part} {line : Bytes} {n : ℕ} {memory : Bytes} {s : State} {line' : Bytes} {a : Result ℕ RunFault} {r : Result Added Failed}
     (k : Kept memory s.index) (h : s.symbols ≤ s.index.count) where
   pub part_byte : {b : ℕ} → p ≡ Byte b → Appends line n (b ∷ []) line' a → r ≡ answered a s → AddsPart m c p line n memory s line' memory r
   unfolding add_part

@@ -5,20 +5,19 @@ ghost use Rattle.std.specs.Prelude.{◌≡◌, ◌≤◌, length};
 ghost use Rattle.store.specs.Memory.{Kept};
 ghost use Rattle.code.specs.Tokens.{Parameter};
 ghost use Rattle.call.specs.Call.{laid, Placed, Sized};
-ghost use Rattle.build.specs.Built.{Ranges, AddsConversion, AddsPart, built_of, Builds};
+ghost use Rattle.build.specs.Built.{Ranges, AddsConversion, AddsPart, Builds};
 ghost use Rattle.call.specs.Line.{HasBuilt};
 ghost use Rattle.model.specs.Limits.{line_most, fuel_most};
 
 use call::Head;
 use code::{Ending, Part, Token};
-use convert::Added;
+use convert::{Added, Failed};
 use model::{Conversion, LINE_MOST, Marks};
 use state::State;
 
-// The length of the built line and how its code line ends, where the number is 0; otherwise the number that ends the run.
+// A built line: its length, how its code line ends, and the state after it.
 #[derive(Clone, Copy)]
 pub struct Built {
-    pub number: usize,
     pub len: usize,
     pub ending: Ending,
     pub state: State,
@@ -35,7 +34,7 @@ fn add_conversion(
     n: usize,
     memory: &mut [u8],
     s: State,
-) -> Added
+) -> Result<Added, Failed>
     requires has_built { HasBuilt line.old n }
     requires kept { Kept memory.old s.index × (s.symbols ≤ s.index.count) }
     requires parameter { Parameter d × Sized nums.now params.now }
@@ -59,7 +58,7 @@ fn add_part(
     n: usize,
     memory: &mut [u8],
     s: State,
-) -> Added
+) -> Result<Added, Failed>
     requires has_built { HasBuilt line.old n }
     requires kept { Kept memory.old s.index × (s.symbols ≤ s.index.count) }
     requires ranges { Ranges p × (call.number ≤ fuel_most) × Sized nums.now params.now }
@@ -69,19 +68,6 @@ fn add_part(
         Part::Byte(b) => convert::answer(convert::add_byte(b, line, n), s),
         Part::Serial(k) => convert::answer(convert::add_number(call.number * 10 + k, line, n), s),
         Part::Convert(d, c) => add_conversion(m, nums, params, d, c, line, n, memory, s),
-    }
-}
-
-// The answer for a line and its ending.
-fn finish_line(a: Added, ending: Ending) -> Built
-    ensures { result ≡ built_of a ending }
-{
-    let state = a.state;
-    Built {
-        number: a.number,
-        len: a.len,
-        ending,
-        state,
     }
 }
 
@@ -97,30 +83,24 @@ pub fn build_line(
     line: &mut [u8],
     memory: &mut [u8],
     s: State,
-) -> Built
+) -> Result<Built, Failed>
     requires at_le_to { (at ≤ to) × (to ≤ length text.now) × (length line.old ≡ line_most) }
     requires kept { Kept memory.old s.index × (s.symbols ≤ s.index.count) }
     requires placed { Placed text.now (laid call nums.now params.now) }
     ensures { Builds m text.now at to (laid call nums.now params.now) memory.old s line.new memory.new result }
 {
-    let mut a = Added {
-        number: 0,
-        len: 0,
-        state: s,
-    };
+    let mut len = 0;
+    let mut state = s;
     let mut i = at;
     let mut first = true;
-    while a.number == 0 {
+    loop {
         match code::read_token(m, text, i, to, first) {
-            Token::Ends(k) => {
-                return finish_line(a, k);
-            }
-            Token::Has(p, e) => {
-                a = add_part(m, call, nums, params, p, line, a.len, memory, a.state);
-                i = e;
-                first = false;
+            Token::Ends(ending) => return Ok(Built { len, ending, state }),
+            Token::Has(part, end) => {
+                let added = add_part(m, call, nums, params, part, line, len, memory, state)?;
+                (len, state) = (added.len, added.state);
+                (i, first) = (end, false);
             }
         }
     }
-    finish_line(a, Ending::Malformed)
 }

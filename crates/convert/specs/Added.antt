@@ -1,25 +1,31 @@
 -- A line that is built with a part added, by value and as the expansion has it.
-use Rattle.std.specs.Prelude.{◌≡◌, true, false, cond, ℕ, ◌≤◌, eqb}
+use Rattle.std.specs.Prelude.{◌≡◌, ℕ, ◌≤◌, Result, Ok, Err, IfOk}
+use Rattle.faults.specs.declared.RunFault.{RunFault}
+use Rattle.faults.specs.Numbers.{run_number}
 use Rattle.model.specs.Limits.{line_most}
 use Rattle.model.specs.Text.{Bytes, part}
 use Rattle.model.specs.Machine.{Shared, Building, built, failed, Outputs}
 use Rattle.store.specs.Memory.{Kept}
 use Rattle.state.specs.declared.State.{State}
 use Rattle.state.specs.State.{shared_of}
-use Rattle.call.specs.declared.Appended.{Appended}
+use Rattle.call.specs.Line.{line_step}
 use Rattle.convert.specs.declared.Added.{Added}
+use Rattle.convert.specs.declared.Failed.{Failed}
 
--- a part is appended, or the line would be too long
-abbrev pub answered : Appended → State → Added
-answered a s = record { number = cond a.ok 0 12; len = a.len; state = s }
+-- a line's length or a fault, with the state
+abbrev pub answered : Result ℕ RunFault → State → Result Added Failed
+answered (Ok n) s = Ok (record { len = n; state = s })
+answered (Err e) s = Err (record { fault = e; state = s })
 
--- a number ends the run
-abbrev pub stopped : ℕ → State → Added
-stopped k s = record { number = k; len = 0; state = s }
+-- the state of an answer
+abbrev pub state_after : Result Added Failed → State
+state_after (Ok a) = a.state
+state_after (Err f) = f.state
 
--- the line that an answer holds, or the number that ends the run
-unfoldable pub added_step : Bytes → Added → Shared → Building
-added_step line r w = elim (eqb r.number 0) [ true ↦ built (part line 0 r.len) w | false ↦ failed r.number w ]
+-- the line that an answer holds, or the number of the fault that ends the run
+unfoldable pub added_step : Bytes → Result Added Failed → Shared → Building
+added_step line (Ok a) w = built (part line 0 a.len) w
+added_step line (Err f) w = failed (run_number f.fault) w
 
 -- t is s but for what is stored, which memory holds
 pub record Keeps (s : State) (memory : Bytes) (t : State) : Type 0 where
@@ -34,7 +40,12 @@ pub record Keeps (s : State) (memory : Bytes) (t : State) : Type 0 where
   pub fuel : t.fuel ≡ s.fuel
 
 -- what a step of the expansion makes of the state s and memory, whatever the outputs
-pub record Adds (step : Shared → Building) (s : State) (memory line memory' : Bytes) (r : Added) : Type 0 where
-  pub is : (o : Outputs) → step (shared_of s o memory) ≡ added_step line r (shared_of r.state o memory')
-  pub keeps : Keeps s memory' r.state
-  pub short : r.len ≤ line_most
+pub record Adds (step : Shared → Building) (s : State) (memory line memory' : Bytes) (r : Result Added Failed) : Type 0 where
+  pub is : (o : Outputs) → step (shared_of s o memory) ≡ added_step line r (shared_of (state_after r) o memory')
+  pub keeps : Keeps s memory' (state_after r)
+  pub short : IfOk r (λ a. a.len ≤ line_most)
+
+-- what a step that stores nothing makes, whatever the calls share
+pub record Lengthens (step : Shared → Building) (line : Bytes) (r : Result ℕ RunFault) : Type 0 where
+  pub is : (w : Shared) → step w ≡ line_step line r w
+  pub short : IfOk r (λ n. n ≤ line_most)

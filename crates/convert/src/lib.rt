@@ -3,136 +3,99 @@
 #![tactic(auto)]
 
 ghost use Rattle.std.specs.Prelude.{◌≡◌, [], ◌∷◌, ◌≤◌, ◌<◌, length};
-ghost use Rattle.model.specs.Store.{decimal};
+ghost use Rattle.model.specs.Store.{decimal, find};
 ghost use Rattle.model.specs.Value.{written};
-ghost use Rattle.pass.specs.Pass.{delimiter_of};
+ghost use Rattle.model.specs.Machine.{or_nothing};
+ghost use Rattle.pass.specs.Pass.{delimiter_bytes};
 ghost use Rattle.call.specs.Line.{Appends, HasBuilt};
 ghost use Rattle.store.specs.Memory.{held, Kept};
 ghost use Rattle.store.specs.Put.{Puts};
-ghost use Rattle.convert.specs.Added.{answered, stopped};
-ghost use Rattle.convert.specs.Converted.{word_of, Finds, Missing, AddsSymbol, AddsValue, AddsLength, AddsCodePoint, Converts};
+ghost use Rattle.convert.specs.Added.{answered};
+ghost use Rattle.convert.specs.Converted.{Missing, AddsSymbol, AddsValue, AddsLength, AddsCodePoint, Converts};
 
-use call::Appended;
 use character::count_characters;
+use faults::RunFault;
 use model::{Conversion, Integer, Marks};
-use number::Valued;
-use pass::NO_DELIMITER;
 use state::State;
-use store::{Index, Stored};
+use store::{Full, Index};
 
-// The length of the line with a part added, where the number is 0; otherwise the number that ends the run.
+// The line with a part added: its length, and the state after that.
 #[derive(Clone, Copy)]
 pub struct Added {
-    pub number: usize,
     pub len: usize,
     pub state: State,
 }
 
-// A part of a slice.
+// Why the run breaks off, and the state up to there.
 #[derive(Clone, Copy)]
-struct Span {
-    at: usize,
-    len: usize,
+pub struct Failed {
+    pub fault: RunFault,
+    pub state: State,
 }
 
-// A line that is too long ends the run with 12.
-pub fn answer(a: Appended, s: State) -> Added
-    ensures { result ≡ answered a s }
+// A line's length or a fault, with the state.
+pub fn answer(made: Result<usize, RunFault>, state: State) -> Result<Added, Failed>
+    ensures { result ≡ answered made state }
 {
-    if a.ok {
-        return Added {
-            number: 0,
-            len: a.len,
-            state: s,
-        };
-    }
-    Added {
-        number: 12,
-        len: a.len,
-        state: s,
-    }
-}
-
-// A number ends the run.
-fn stop(number: usize, s: State) -> Added
-    ensures { result ≡ stopped number s }
-{
-    Added {
-        number,
-        len: 0,
-        state: s,
+    match made {
+        Ok(len) => Ok(Added { len, state }),
+        Err(fault) => Err(Failed { fault, state }),
     }
 }
 
 // One byte.
-pub fn add_byte(b: u8, line: &mut [u8], n: usize) -> Appended
+pub fn add_byte(b: u8, line: &mut [u8], n: usize) -> Result<usize, RunFault>
     requires { HasBuilt line.old n }
     ensures { Appends line.old n (b ∷ []) line.new result }
 {
-    let one = [b; 1];
-    call::append(line, n, &one)
+    call::append(line, n, &[b])
 }
 
 // A number in decimal.
-pub fn add_number(v: usize, line: &mut [u8], n: usize) -> Appended
+pub fn add_number(v: usize, line: &mut [u8], n: usize) -> Result<usize, RunFault>
     requires { HasBuilt line.old n }
     ensures { Appends line.old n (decimal v) line.new result }
 {
-    let mut digits = [0u8; 20];
-    let k = buffer::write_decimal(v as u64, &mut digits);
-    call::append(line, n, &digits[0..k])
+    let mut digits = itoa::Buffer::new();
+    call::append(line, n, digits.format(v).as_bytes())
 }
 
-// Where the text lies that ed0 or ed1 brings in: it is the parameter, or stored under it in memory.
-fn find_word(stored: bool, param: &[u8], memory: &[u8], index: Index) -> Span
-    requires { Kept memory.now index }
-    ensures { Finds stored param.now memory.now index result }
-{
-    if stored {
-        let seen = store::seek(memory, index, param);
-        return Span {
-            at: seen.at,
-            len: seen.len,
-        };
-    }
-    Span {
-        at: 0,
-        len: param.len(),
-    }
-}
-
-// ed0, and ed1 where `stored`.
-fn add_word<'a>(
-    stored: bool,
-    param: &'a [u8],
-    memory: &'a [u8],
+// ed1: the text that is stored under the name, or nothing.
+fn add_stored(
+    name: &[u8],
+    memory: &[u8],
     index: Index,
     line: &mut [u8],
     n: usize,
-) -> Appended
+) -> Result<usize, RunFault>
     requires has_built { HasBuilt line.old n }
     requires kept { Kept memory.now index }
-    ensures { Appends line.old n (word_of stored param.now (held index.count memory.now)) line.new result }
+    ensures { Appends line.old n (or_nothing (find name.now (held index.count memory.now))) line.new result }
 {
-    let w = find_word(stored, param, memory, index);
-    let at = w.at;
-    let len = w.len;
-    call::append(line, n, call::bring(param, memory, stored, at, len))
+    match store::seek(memory, index, name) {
+        Some(text) => call::append(line, n, text),
+        None => call::append(line, n, &[]),
+    }
 }
 
 // A number is stored in decimal.
-fn put_number(v: usize, name: &[u8], memory: &mut [u8], index: Index) -> Stored
+fn put_number(v: usize, name: &[u8], memory: &mut [u8], index: Index) -> Result<Index, Full>
     requires kept { Kept memory.old index }
     requires name_len_bound { length name.now < 256 }
     ensures { Puts memory.old index name.now (decimal v) memory.new result }
 {
-    let mut digits = [0u8; 20];
-    let k = buffer::write_decimal(v as u64, &mut digits);
-    store::put(memory, index, name, &digits[0..k])
+    let mut digits = itoa::Buffer::new();
+    store::put(memory, index, name, digits.format(v).as_bytes())
 }
 
 // ed2 of a name that is not stored: the next number is, or 19.
-fn add_new_symbol(param: &[u8], line: &mut [u8], n: usize, memory: &mut [u8], s: State) -> Added
+fn add_new_symbol(
+    param: &[u8],
+    line: &mut [u8],
+    n: usize,
+    memory: &mut [u8],
+    s: State,
+) -> Result<Added, Failed>
     requires has_built { HasBuilt line.old n }
     requires kept { Kept memory.old s.index × (s.symbols ≤ s.index.count) }
     requires missing { Missing memory.old s.index param.now × (length param.now < 256) }
@@ -140,121 +103,112 @@ fn add_new_symbol(param: &[u8], line: &mut [u8], n: usize, memory: &mut [u8], s:
 {
     let next = s.symbols + 1;
     match put_number(next, param, memory, s.index) {
-        Stored::Full => stop(19, s),
-        Stored::Now(index) => answer(add_number(next, line, n), s.count_symbol(index)),
+        Ok(index) => answer(add_number(next, line, n), s.count_symbol(index)),
+        Err(full) => answer(Err(full.into()), s),
     }
 }
 
 // ed2: the text that is stored under the name, or its new number.
-fn add_symbol<'a>(
-    param: &'a [u8],
+fn add_symbol(
+    param: &[u8],
     line: &mut [u8],
     n: usize,
-    memory: &'a mut [u8],
+    memory: &mut [u8],
     s: State,
-) -> Added
+) -> Result<Added, Failed>
     requires has_built { HasBuilt line.old n }
     requires kept { Kept memory.old s.index × (s.symbols ≤ s.index.count) }
     requires param_len_bound { length param.now < 256 }
     ensures { AddsSymbol param.now line.old n memory.old s line.new memory.new result }
 {
-    let seen = store::seek(memory, s.index, param);
-    if seen.there {
-        let at = seen.at;
-        let len = seen.len;
-        return answer(
-            call::append(line, n, call::bring(param, memory, true, at, len)),
-            s,
-        );
+    match store::seek(memory, s.index, param) {
+        Some(text) => answer(call::append(line, n, text), s),
+        None => add_new_symbol(param, line, n, memory, s),
     }
-    add_new_symbol(param, line, n, memory, s)
 }
 
-// ed3: the latest delimiter; 256 or more is none.
-fn add_delimiter(delimiter: usize, line: &mut [u8], n: usize) -> Appended
+// ed3: the latest delimiter, if there is one.
+fn add_delimiter(delimiter: Option<u8>, line: &mut [u8], n: usize) -> Result<usize, RunFault>
     requires { HasBuilt line.old n }
-    ensures { Appends line.old n (delimiter_of delimiter) line.new result }
+    ensures { Appends line.old n (delimiter_bytes delimiter) line.new result }
 {
-    if NO_DELIMITER <= delimiter {
-        return Appended { ok: true, len: n };
+    match delimiter {
+        Some(b) => add_byte(b, line, n),
+        None => Ok(n),
     }
-    add_byte(buffer::narrow(delimiter), line, n)
 }
 
 // A value in decimal.
-fn add_signed(m: Marks, v: Integer, line: &mut [u8], n: usize) -> Appended
+fn add_signed(m: Marks, v: Integer, line: &mut [u8], n: usize) -> Result<usize, RunFault>
     requires { HasBuilt line.old n }
     ensures { Appends line.old n (written m v) line.new result }
 {
     let mut out = [0u8; 21];
     let k = number::write_value(m, v, &mut out);
-    call::append(line, n, &out[0..k])
+    call::append(line, n, &out[..k])
 }
 
 // ed4: the value, or 15.
-fn add_value(m: Marks, param: &[u8], line: &mut [u8], n: usize, memory: &[u8], s: State) -> Added
+fn add_value(
+    m: Marks,
+    param: &[u8],
+    memory: &[u8],
+    index: Index,
+    line: &mut [u8],
+    n: usize,
+) -> Result<usize, RunFault>
     requires has_built { HasBuilt line.old n }
-    requires kept { Kept memory.now s.index × (s.symbols ≤ s.index.count) }
-    ensures { AddsValue m param.now line.old n memory.now s line.new result }
+    requires kept { Kept memory.now index }
+    ensures { AddsValue m param.now memory.now index line.old n line.new result }
 {
-    match value::value(m, memory, s.index, param) {
-        Valued::Fault => stop(15, s),
-        Valued::Number(v) => answer(add_signed(m, v, line, n), s),
-    }
+    let v = value::value(m, memory, index, param).ok_or(RunFault::NoValue)?;
+    add_signed(m, v, line, n)
 }
 
 // ed5: the number of characters, or 21.
-fn add_length(param: &[u8], line: &mut [u8], n: usize, memory: &[u8], s: State) -> Added
-    requires has_built { HasBuilt line.old n }
-    requires kept { Kept memory.now s.index × (s.symbols ≤ s.index.count) }
-    ensures { AddsLength param.now line.old n memory.now s line.new result }
+fn add_length(param: &[u8], line: &mut [u8], n: usize) -> Result<usize, RunFault>
+    requires { HasBuilt line.old n }
+    ensures { AddsLength param.now line.old n line.new result }
 {
-    let counted = count_characters(param);
-    if counted.ok {
-        return answer(add_number(counted.count, line, n), s);
-    }
-    stop(21, s)
+    let counted = count_characters(param)?;
+    add_number(counted.count, line, n)
 }
 
 // ed8: the code point of exactly one character, or 21 or 16.
-fn add_code_point(param: &[u8], line: &mut [u8], n: usize, memory: &[u8], s: State) -> Added
-    requires has_built { HasBuilt line.old n }
-    requires kept { Kept memory.now s.index × (s.symbols ≤ s.index.count) }
-    ensures { AddsCodePoint param.now line.old n memory.now s line.new result }
+fn add_code_point(param: &[u8], line: &mut [u8], n: usize) -> Result<usize, RunFault>
+    requires { HasBuilt line.old n }
+    ensures { AddsCodePoint param.now line.old n line.new result }
 {
-    let counted = count_characters(param);
-    if !counted.ok {
-        return stop(21, s);
+    let characters = count_characters(param)?;
+    if characters.count != 1 {
+        return Err(RunFault::NoCodePoint);
     }
-    if counted.count != 1 {
-        return stop(16, s);
-    }
-    answer(add_number(counted.code, line, n), s)
+    add_number(characters.code, line, n)
 }
 
 // A conversion of a parameter with its latest delimiter.
-pub fn add_converted<'a>(
+pub fn add_converted(
     m: Marks,
     c: Conversion,
-    param: &'a [u8],
-    delimiter: usize,
+    param: &[u8],
+    delimiter: Option<u8>,
     line: &mut [u8],
     n: usize,
-    memory: &'a mut [u8],
+    memory: &mut [u8],
     s: State,
-) -> Added
+) -> Result<Added, Failed>
     requires has_built { HasBuilt line.old n }
     requires kept { Kept memory.old s.index × (s.symbols ≤ s.index.count) }
     requires param_len_bound { length param.now < 256 }
     ensures { Converts m c param.now delimiter line.old n memory.old s line.new memory.new result }
 {
     match c {
-        Conversion::Itself => answer(add_word(false, param, memory, s.index, line, n), s),
-        Conversion::StoredText => answer(add_word(true, param, memory, s.index, line, n), s),
+        Conversion::Itself => answer(call::append(line, n, param), s),
+        Conversion::StoredText => answer(add_stored(param, memory, s.index, line, n), s),
         Conversion::Symbol => add_symbol(param, line, n, memory, s),
         Conversion::LatestDelimiter => answer(add_delimiter(delimiter, line, n), s),
-        Conversion::ExpressionValue => add_value(m, param, line, n, memory, s),
-        Conversion::Length => add_length(param, line, n, memory, s),
-        Conversion::CodePoint => add_code_point(param, line, n, memory, s),
+        Conversion::ExpressionValue => answer(add_value(m, param, memory, s.index, line, n), s),
+        Conversion::Length => answer(add_length(param, line, n), s),
+        Conversion::CodePoint => answer(add_code_point(param, line, n), s),
     }
 }

@@ -1,11 +1,15 @@
 -- Input lines copied one after the other, up to the one that stops it.
 use mathlib.Core.Path.{◌≡◌, refl, sym, ap, subst, ◌∙◌}
 use mathlib.Core.Bool.{Bool, true, false}
-use mathlib.Core.Option.{Option, none, some}
+use mathlib.Core.Option as Math
+use mathlib.Core.Option.{none, some}
+use Rattle.std.specs.Prelude.{Option, Some}
+use Rattle.faults.specs.declared.RunFault.{RunFault}
+use Rattle.faults.specs.declared.RunFault.TheVariants.{LongInput}
 use mathlib.Core.List.{List, [], ◌∷◌}
 use Prim.Native.Nat.{ℕ, ◌+◌, ◌-◌, ◌≤◌, ◌<◌}
 use native.Mathlib.Omega.{arith}
-use lib.ListN.{length, take, drop, drop_of_length-le}
+use lib.ListN.{length, drop, drop_of_length-le}
 use native.Mathlib.Numerals.{add-one}
 use Rattle.model.specs.declared.Marks.{Marks}
 use Rattle.model.specs.declared.Channel.{Channel}
@@ -16,7 +20,7 @@ use Rattle.model.specs.Machine as Machine
 use Rattle.model.specs.Machine.{Rooms, Outputs, Frame, Shared, Next, running, ended, state_with, stepped, param, wrote, past_line, is_too_long, copies, copy_lines, copy_input}
 use Rattle.model.proofs.Choices.{when_true, when_false, false-not-true}
 use Rattle.model.proofs.Copies.{copies-named, copies-nothing}
-use Rattle.model.proofs.Text.{part_length, part-take}
+use Rattle.model.proofs.Text.{part_length}
 use Rattle.scan.specs.Lines.{ContentAt}
 use Rattle.state.specs.declared.State.{State}
 use Rattle.state.specs.State.{shared_of, state_of, Sound, with_written, with_input}
@@ -24,34 +28,24 @@ use Rattle.call.specs.declared.Head.{Head}
 use Rattle.call.specs.Call.{laid, frame_of, Placed}
 use Rattle.call.specs.Params.{Lies}
 use Rattle.answer.specs.declared.Answer.{Answer}
-use Rattle.answer.specs.Answers.{turn, is_left, goes_further, ends_with, settle, next_at, next_of, rooms_of}
+use Rattle.answer.specs.Answers.{number_of_end, is_left, goes_further, ends_with, settle, next_at, next_of, rooms_of}
 use Rattle.answer.specs.Kept.{Stays, ExtendsBoth, Comes}
 use Rattle.answer.proofs.Following.{extends_none, both_none, both_more, rooms_kept, stays_same}
 use Rattle.answer.proofs.Expansion.{unoffered_short}
 use Rattle.answer.proofs.Coming.{none-placed}
-use Rattle.write.specs.Output.{has_room_on, Writes, WritesLine}
-use Rattle.copying.specs.Copies.{ReadyToCopy, BeginsName, MeasuresLong, CopiesContent, CopiesLines, CopiesInput}
+use Rattle.write.specs.Output.{has_room_on, Writes}
+use Rattle.copying.specs.Copies.{ReadyToCopy, MeasuresLong, CopiesContent, CopiesLines, CopiesInput}
 
 -- ---- one content
 
--- how long it is
-measured : {ch : Channel} (text : Bytes) (at end : ℕ) {b : Bool} → end ≤ length text → MeasuresLong ch (end - at) b → b ≡ is_too_long ch (part text at end)
-measured text at end h m = m.is (part text at end) (part_length text at end h)
-
-module _ {ch : Channel} {text : Bytes} {at end : ℕ} {r : Answer} {o : Outputs} {b : Bool} (h : end ≤ length text) (m : MeasuresLong ch (end - at) b) where
+module _ {ch : Channel} {content : Bytes} {r : Answer} {o : Outputs} {b : Bool} (m : MeasuresLong ch (length content) b) where
   -- it is too long
-  pub content_long : {a : Answer} → b ≡ true → a ≡ ends_with 11 r.state → CopiesContent ch text at end r o a o
-  content_long e f = record { long = λ _. (f, refl); writes = λ g. false-not-true (sym g ∙ sym (measured text at end h m) ∙ e) }
+  pub content_long : {a : Answer} → b ≡ true → a ≡ ends_with (Some LongInput) r.state → CopiesContent ch content r o a o
+  content_long e f = record { long = λ _. (f, refl); writes = λ g. false-not-true (sym g ∙ sym (m.is content refl) ∙ e) }
 
   -- it is written, or there is no room
-  pub content_written : {a : Answer} {o' : Outputs} → at ≤ end → b ≡ false → WritesLine ch (part text at end) (end - at) r o a o' → CopiesContent ch text at end r o a o'
-  content_written {a} {o'} k e w =
-      let z : at + (end - at) ≡ end = omega arith in
-      let whole : take (end - at) (part text at end) ≡ part text at end = part-take text at end (end - at) (omega arith) ∙ ap (λ (j : ℕ). part text at j) z in
-      record {
-        long = λ g. false-not-true (sym e ∙ measured text at end h m ∙ g);
-        writes = λ _. subst (λ (l : Bytes). Writes ch l r o a o') whole w.writes;
-      }
+  pub content_written : {a : Answer} {o' : Outputs} → b ≡ false → Writes ch content r o a o' → CopiesContent ch content r o a o'
+  content_written e w = record { long = λ g. false-not-true (sym e ∙ m.is content refl ∙ g); writes = λ _. w }
 
 -- ---- how far the state has moved
 
@@ -134,7 +128,7 @@ module _ {m : Marks} {text : Bytes} {ch : Channel} {c : Head} {name : Bytes} {s 
   })
 
   -- or the run ends
-  run_ends : {k : ℕ} → ((frames : List Frame) (y : Tally) (memory : Bytes) → copy_lines m (rooms_of o) ch name (lines (drop s.at text)) (state_of text none frames y s o memory) ≡ ended k (state_of text none frames y t o₂ memory))
+  run_ends : {k : Option RunFault} → ((frames : List Frame) (y : Tally) (memory : Bytes) → copy_lines m (rooms_of o) ch name (lines (drop s.at text)) (state_of text none frames y s o memory) ≡ ended (number_of_end k) (state_of text none frames y t o₂ memory))
       → r ≡ ends_with k t → CopiesLines m text ch c name s o r o₂
   unfolding settle next_at next_of state_with
   run_ends f e = subst (λ (x : Answer). CopiesLines m text ch c name s o x o₂) (sym e) (record {
@@ -153,7 +147,7 @@ module _ {m : Marks} {text : Bytes} {ch : Channel} {name : Bytes} {s : State} {o
   copied_all h e = goes_on v.moved
       (λ frames y memory. v.same frames y memory ∙ ap (λ (x : Bytes). copy_lines m (rooms_of o) ch name (lines x) (state_of text none frames y st o₁ memory)) (drop_of_length-le text h)) e
 
-  module _ {end next : ℕ} {b : Bool} {t : State} (g : ContentAt text m.source st.at end next) (n : BeginsName text st.at end name b) (et : t ≡ with_input st next (st.line + 1)) where
+  module _ {end next : ℕ} {b : Bool} {t : State} (g : ContentAt text m.source st.at end next) (n : b ≡ begins name (part text st.at end)) (et : t ≡ with_input st next (st.line + 1)) where
     abbrev content : Bytes
     content = part text st.at end
 
@@ -167,7 +161,7 @@ module _ {m : Marks} {text : Bytes} {ch : Channel} {name : Bytes} {s : State} {o
         ap (λ (k : ℕ). record { input = lines (drop next text); line = k; pending = none; frames = frames; calls = st.calls; shared = shared_of st o₁ memory; events = st.events; tally = y }) (sym (add-one st.line))
 
     -- what is done with the next line: by what writing it comes to, by its length, and by its content
-    abbrev by_writing : List Frame → Tally → Bytes → Option Shared → Next
+    abbrev by_writing : List Frame → Tally → Bytes → Math.Option Shared → Next
     by_writing frames y memory w = elim w as (λ _. Next) [
       | none ↦ ended 13 (past_line (lines (drop next text)) (state_of text none frames y st o₁ memory))
       | some w ↦ copy_lines m (rooms_of o) ch name (lines (drop next text)) (state_with (past_line (lines (drop next text)) (state_of text none frames y st o₁ memory)) none frames w)
@@ -204,29 +198,29 @@ module _ {m : Marks} {text : Bytes} {ch : Channel} {name : Bytes} {s : State} {o
     -- it begins with the name
     pub copied_stops : {c : Head} {r : Answer} → b ≡ true → r ≡ goes_further c t → CopiesLines m text ch c name s o r o₁
     copied_stops {c} e er = goes_on (moved_read v.moved g)
-        (λ frames y memory. next_is frames y memory ∙ when_true _ _ (sym n.is ∙ e) ∙ ap (λ (x : Machine.State). running x) (past_is frames y memory)) (er ∙ ap (goes_further c) et)
+        (λ frames y memory. next_is frames y memory ∙ when_true _ _ (sym n ∙ e) ∙ ap (λ (x : Machine.State). running x) (past_is frames y memory)) (er ∙ ap (goes_further c) et)
 
-    module _ {c : Head} {x a : Answer} {o₂ : Outputs} (e : b ≡ false) (ex : x ≡ goes_further c t) (y : CopiesContent ch text st.at end x o₁ a o₂) where
+    module _ {c : Head} {x a : Answer} {o₂ : Outputs} (e : b ≡ false) (ex : x ≡ goes_further c t) (y : CopiesContent ch content x o₁ a o₂) where
       -- the answer before is that of the line read
-      at_read : CopiesContent ch text st.at end (goes_further c read) o₁ a o₂
-      at_read = subst (λ (z : Answer). CopiesContent ch text st.at end z o₁ a o₂) (ex ∙ ap (goes_further c) et) y
+      at_read : CopiesContent ch content (goes_further c read) o₁ a o₂
+      at_read = subst (λ (z : Answer). CopiesContent ch content z o₁ a o₂) (ex ∙ ap (goes_further c) et) y
 
       moved_on : Moved text s o read o₁
       moved_on = moved_read v.moved g
 
       not-begun : (frames : List Frame) (y : Tally) (memory : Bytes)
           → copy_lines m (rooms_of o) ch name (lines (drop s.at text)) (state_of text none frames y s o memory) ≡ by_length frames y memory content
-      not-begun frames y memory = next_is frames y memory ∙ when_false _ _ (sym n.is ∙ e)
+      not-begun frames y memory = next_is frames y memory ∙ when_false _ _ (sym n ∙ e)
 
-      writes_as : (memory : Bytes) {w : Option Shared} → wrote (rooms_of o₁) ch content (shared_of read o₁ memory) ≡ w → wrote (rooms_of o) ch content (shared_of st o₁ memory) ≡ w
+      writes_as : (memory : Bytes) {w : Math.Option Shared} → wrote (rooms_of o₁) ch content (shared_of read o₁ memory) ≡ w → wrote (rooms_of o) ch content (shared_of st o₁ memory) ≡ w
       writes_as memory f = ap (λ (k : Rooms). wrote k ch content (shared_of st o₁ memory)) (sym (rooms_kept v.moved.extends)) ∙ f
 
       -- it is too long, or there is no room: the run ends
-      pub copied_ends : is_left (turn a) ≡ true → CopiesLines m text ch c name s o a o₂
+      pub copied_ends : is_left a.turn ≡ true → CopiesLines m text ch c name s o a o₂
       copied_ends left = by (is_too_long ch content) refl
         where
           by_room : (k : Bool) → has_room_on ch content read o₁ ≡ k → is_too_long ch content ≡ false → Writes ch content (goes_further c read) o₁ a o₂ → CopiesLines m text ch c name s o a o₂
-          by_room true k q w = false-not-true (sym (ap (λ (z : Answer). is_left (turn z)) (w.fits k).0) ∙ left)
+          by_room true k q w = false-not-true (sym (ap (λ (z : Answer). is_left z.turn) (w.fits k).0) ∙ left)
           by_room false k q w = subst (λ (z : Outputs). CopiesLines m text ch c name s o a z) (sym (w.full k).1) (run_ends moved_on
               (λ frames y memory. not-begun frames y memory ∙ when_false _ _ q ∙ ap (by_writing frames y memory) (writes_as memory ((w.full k).2 memory)) ∙ ap (λ (z : Machine.State). ended 13 z) (past_is frames y memory)) (w.full k).0)
 
@@ -236,7 +230,7 @@ module _ {m : Marks} {text : Bytes} {ch : Channel} {name : Bytes} {s : State} {o
           by false q = by_room (has_room_on ch content read o₁) refl q (at_read.writes q)
 
       -- it is copied
-      pub copied_more : is_left (turn a) ≡ false → Copied m text ch name s o a.state o₂
+      pub copied_more : is_left a.turn ≡ false → Copied m text ch name s o a.state o₂
       unfolding state_with
       copied_more on = by (is_too_long ch content) refl
         where
@@ -251,14 +245,14 @@ module _ {m : Marks} {text : Bytes} {ch : Channel} {name : Bytes} {s : State} {o
                     (record { input = lines (drop (sym is i).at text); line = (sym is i).line; pending = none; frames = frames; calls = (sym is i).calls; shared = shared_of a.state o₂ memory; events = (sym is i).events; tally = y }));
                 moved = moved_written moved_on is w.extends;
               }
-          by_room false k q w = false-not-true (sym on ∙ ap (λ (z : Answer). is_left (turn z)) (w.full k).0)
+          by_room false k q w = false-not-true (sym on ∙ ap (λ (z : Answer). is_left z.turn) (w.full k).0)
 
           by : (q : Bool) → is_too_long ch content ≡ q → Copied m text ch name s o a.state o₂
-          by true q = false-not-true (sym on ∙ ap (λ (z : Answer). is_left (turn z)) (at_read.long q).0)
+          by true q = false-not-true (sym on ∙ ap (λ (z : Answer). is_left z.turn) (at_read.long q).0)
           by false q = by_room (has_room_on ch content read o₁) refl q (at_read.writes q)
 
       -- and less text is left
-      pub copied_falls : is_left (turn a) ≡ false → length text - a.state.at < length text - st.at
+      pub copied_falls : is_left a.turn ≡ false → length text - a.state.at < length text - st.at
       copied_falls on = by (is_too_long ch content) refl
         where
           falls : a.state.at ≡ next → length text - a.state.at < length text - st.at
@@ -266,10 +260,10 @@ module _ {m : Marks} {text : Bytes} {ch : Channel} {name : Bytes} {s : State} {o
 
           by_room : (k : Bool) → has_room_on ch content read o₁ ≡ k → Writes ch content (goes_further c read) o₁ a o₂ → length text - a.state.at < length text - st.at
           by_room true k w = falls (ap (λ (z : Answer). z.state.at) (w.fits k).0)
-          by_room false k w = false-not-true (sym on ∙ ap (λ (z : Answer). is_left (turn z)) (w.full k).0)
+          by_room false k w = false-not-true (sym on ∙ ap (λ (z : Answer). is_left z.turn) (w.full k).0)
 
           by : (q : Bool) → is_too_long ch content ≡ q → length text - a.state.at < length text - st.at
-          by true q = false-not-true (sym on ∙ ap (λ (z : Answer). is_left (turn z)) (at_read.long q).0)
+          by true q = false-not-true (sym on ∙ ap (λ (z : Answer). is_left z.turn) (at_read.long q).0)
           by false q = by_room (has_room_on ch content read o₁) refl (at_read.writes q)
 
 -- ---- F2
@@ -315,7 +309,7 @@ module _ {m : Marks} {text : Bytes} {ch : Channel} {c : Head} {nums : List ℕ} 
           ∙ ap (λ (x : Bytes). copy_lines m (rooms_of o) ch x (lines (drop s.at text)) (state_of text none (frame_of m text (laid c nums bytes) ∷ fs) y s o memory)) (named m q l)) ∙ v.same fs y nums bytes b memory;
       sound = v.sound memory h;
       placed = v.placed nums bytes q;
-      short = unoffered_short (turn r) v.settled;
+      short = unoffered_short r.turn v.settled;
       stays = v.stays;
       extends = v.extends;
     };

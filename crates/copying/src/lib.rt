@@ -2,30 +2,25 @@
 // ends (document 02, ticket 4). Each line is compared, then measured, then written; on channel 0 it is compared and dropped. No event is counted.
 #![tactic(auto)]
 
-ghost use Rattle.std.specs.Prelude.{◌≤◌, length};
+ghost use Rattle.std.specs.Prelude.{◌≡◌, ◌≤◌, length};
+ghost use Rattle.model.specs.Load.{begins};
 ghost use Rattle.model.specs.Machine.{outputs};
 ghost use Rattle.call.specs.Call.{laid, Placed};
-ghost use Rattle.copying.specs.Copies.{BeginsName, MeasuresLong, CopiesContent, CopiesLines, CopiesInput, ReadyToCopy};
+ghost use Rattle.copying.specs.Copies.{MeasuresLong, CopiesContent, CopiesLines, CopiesInput, ReadyToCopy};
 
-use answer::{Answer, end_with, go_on, is_left};
-use buffer::same_bytes;
+use answer::{Answer, end_with, go_on};
 use call::{Head, param_len};
+use faults::RunFault;
 use model::{Channel, LINE_MOST, Marks};
 use scan::read_content;
 use state::State;
-use write::write_line;
+use write::{Line, write};
 
-// Whether text[at..end] begins with a name.
-fn begins_name(text: &[u8], at: usize, end: usize, name: &[u8]) -> bool
-    requires { (at ≤ end) × (end ≤ length text.now) }
-    ensures { BeginsName text.now at end name.now result }
+// Whether a content begins with a name.
+fn begins_name(content: &[u8], name: &[u8]) -> bool
+    ensures { result ≡ begins name.now content.now }
 {
-    let n = name.len();
-    if end - at < n {
-        return false;
-    }
-    let to = at + n;
-    same_bytes(name, &text[at..to])
+    content.starts_with(name)
 }
 
 // Whether a content of n bytes is too long to be copied; a dropped one isn't measured.
@@ -34,30 +29,25 @@ fn is_too_long(ch: Channel, n: usize) -> bool
 {
     match ch {
         Channel::Nowhere => false,
-        Channel::First => LINE_MOST < n,
-        Channel::Second => LINE_MOST < n,
+        Channel::First | Channel::Second => LINE_MOST < n,
     }
 }
 
-// The content text[at..end] goes to a channel. The answer is r with the content written, or the run ends with 11 or 13.
+// A content goes to a channel. The answer is r with the content written, or the run ends with 11 or 13.
 fn copy_content(
     ch: Channel,
-    text: &[u8],
-    at: usize,
-    end: usize,
+    content: &[u8],
     output: &mut [u8],
     second: &mut [u8],
     r: Answer,
 ) -> Answer
-    requires { (at ≤ end) × (end ≤ length text.now) × (r.state.written ≤ length output.old) × (r.state.second ≤ length second.old) }
-    ensures { CopiesContent ch text.now at end r (outputs output.old second.old) result (outputs output.new second.new) }
+    requires { (r.state.written ≤ length output.old) × (r.state.second ≤ length second.old) }
+    ensures { CopiesContent ch content.now r (outputs output.old second.old) result (outputs output.new second.new) }
 {
-    let n = end - at;
-    if is_too_long(ch, n) {
-        return end_with(11, r.state);
+    if is_too_long(ch, content.len()) {
+        return end_with(RunFault::LongInput, r.state);
     }
-    let content = &text[at..end];
-    write_line(ch, content, n, output, second, r)
+    write(ch, &Line { bytes: content }, output, second, r)
 }
 
 // The lines up to one that begins with the name, or up to the input's end. The call then goes on.
@@ -77,15 +67,14 @@ fn copy_lines(
 {
     let mut st = s;
     while st.at < text.len() {
-        let at = st.at;
-        let content = read_content(text, m.source, at);
-        let end = content.end;
-        let t = st.set_input(content.next, st.line + 1);
-        if begins_name(text, at, end, name) {
+        let line = read_content(text, m.source, st.at);
+        let content = &text[st.at..line.end];
+        let t = st.set_input(line.next, st.line + 1);
+        if begins_name(content, name) {
             return go_on(call, t);
         }
-        let a = copy_content(ch, text, at, end, output, second, go_on(call, t));
-        if is_left(a) {
+        let a = copy_content(ch, content, output, second, go_on(call, t));
+        if a.is_left() {
             return a;
         }
         st = a.state;

@@ -1,5 +1,4 @@
 -- The laws of the search's steps, of a place taken up by them, and of the chosen reading; callers use can_fit.
-pub mod Nine
 mod Steps
 mod Taken
 mod Few

@@ -1,5 +1,5 @@
 -- What a search's answer and the lent notes say of what it comes to, and what the row of dead places holds then.
-use Rattle.std.specs.Prelude.{◌≡◌, ℕ, suc, ◌+◌, ◌-◌, ◌*◌, ◌%◌, ◌^◌, ◌<◌, ◌≤◌, List, [], ◌∷◌, map, length, take, drop, slice_index, slice_set}
+use Rattle.std.specs.Prelude.{◌≡◌, ℕ, suc, ◌+◌, ◌-◌, ◌*◌, ◌%◌, ◌^◌, ◌<◌, ◌≤◌, List, [], ◌∷◌, ◌++◌, map, length, take, drop, slice_set, Option as Answered, Some, None, IsSome, IfSome}
 use Rattle.std.proofs.Math.Option.{Option, none, some}
 use Rattle.model.specs.Limits.{line_most, nodes_most}
 use Rattle.model.specs.declared.Marks.{Marks}
@@ -10,6 +10,7 @@ use Rattle.nodes.specs.declared.Node.{Node}
 use Rattle.nodes.specs.Rows.{kid, holey, height, holes}
 use Rattle.nodes.specs.SideBySide.{Stands}
 use Rattle.places.specs.Bits.{bit}
+use Rattle.fit.specs.declared.Notes.{Notes}
 
 -- ---- the element that leads on
 
@@ -22,31 +23,23 @@ next_element (b ∷ s) = lit b
 abbrev pub element_at : Bytes → ℕ → Elem
 element_at line at = next_element (drop at line)
 
--- ---- the lent notes: nine starts and nine lengths of pieces, a count of places and one of bytes, and what is left of the open piece
+-- ---- the notes
 
-abbrev pub pieces_in : List ℕ → List ℕ
-pieces_in ns = take 18 ns
-
-abbrev pub places_in : List ℕ → ℕ
-places_in ns = slice_index ns 18
-
-abbrev pub bytes_in : List ℕ → ℕ
-bytes_in ns = slice_index ns 19
-
-abbrev pub rest_in : List ℕ → ℕ
-rest_in ns = slice_index ns 20
+-- the starts and the lengths of the pieces, in a row
+abbrev pub pieces_in : Notes → List ℕ
+pieces_in ns = ns.starts ++ ns.lens
 
 -- the same as words of 64 bits, which is all that a sum that may wrap tells
 abbrev pub SameWord : ℕ → ℕ → Type 0
 SameWord a b = a % 2 ^ 64 ≡ b % 2 ^ 64
 
 -- so many places and bytes are counted
-pub record Counted (places bytes : ℕ) (ns ns' : List ℕ) : Type 0 where
-  pub more_places : SameWord (places_in ns') (places_in ns + places)
-  pub more_bytes : SameWord (bytes_in ns') (bytes_in ns + bytes)
+pub record Counted (places bytes : ℕ) (ns ns' : Notes) : Type 0 where
+  pub more_places : SameWord ns'.places (ns.places + places)
+  pub more_bytes : SameWord ns'.bytes (ns.bytes + bytes)
 
 -- and the pieces stay
-pub record Counts (places bytes : ℕ) (ns ns' : List ℕ) : Type 0 where
+pub record Counts (places bytes : ℕ) (ns ns' : Notes) : Type 0 where
   pub counted : Counted places bytes ns ns'
   pub stay : pieces_in ns' ≡ pieces_in ns
 
@@ -61,20 +54,20 @@ with_pieces k (s ∷ ss) [] ps = ps
 with_pieces k (s ∷ ss) (l ∷ ls) ps = with_piece_at k s l (with_pieces (k + 1) ss ls ps)
 
 -- piece k is stored, and no piece is open before it
-pub record StoresPiece (k at : ℕ) (ns ns' : List ℕ) : Type 0 where
-  pub stored : pieces_in ns' ≡ with_piece_at k at (rest_in ns) (pieces_in ns)
+pub record StoresPiece (k at : ℕ) (ns ns' : Notes) : Type 0 where
+  pub stored : pieces_in ns' ≡ with_piece_at k at ns.rest (pieces_in ns)
   pub counted : Counted 0 0 ns ns'
-  pub closed : rest_in ns' ≡ 0
+  pub closed : ns'.rest ≡ 0
 
 -- the open piece has n bytes more
-pub record PassesAtom (n : ℕ) (ns ns' : List ℕ) : Type 0 where
+pub record PassesAtom (n : ℕ) (ns ns' : Notes) : Type 0 where
   pub counts : Counts 0 0 ns ns'
-  pub longer : rest_in ns' ≡ rest_in ns + n
+  pub longer : ns'.rest ≡ ns.rest + n
 
 -- a place is counted, and no piece is open
-pub record EndsTemplate (ns ns' : List ℕ) : Type 0 where
+pub record EndsTemplate (ns ns' : Notes) : Type 0 where
   pub counts : Counts 1 0 ns ns'
-  pub ended : rest_in ns' ≡ 0
+  pub ended : ns'.rest ≡ 0
 
 -- where the pieces of r start, if r starts at place `at`
 unfoldable pub starts_in : ℕ → List ReadingPart → List ℕ
@@ -88,14 +81,14 @@ lens_in r = map (λ p. length p) (pieces r)
 
 -- ---- what an answer says
 
--- the answer r and the notes say what is found from place `at` on, with k pieces before; where nothing is found, r is 0 and no piece is stored
-abbrev pub Told : (k at : ℕ) → Option Found → (r : ℕ) (ns ns' : List ℕ) → Type 0
-Told k at none r ns ns' = (r ≡ 0) × (pieces_in ns' ≡ pieces_in ns)
-Told k at (some f) r ns ns' = (0 < r) × (r ≡ f.node) × (rest_in ns' ≡ length f.rest)
+-- the answer r and the notes say what is found from place `at` on, with k pieces before; where nothing is found, no piece is stored
+abbrev pub Told : (k at : ℕ) → Option Found → (r : Answered ℕ) (ns ns' : Notes) → Type 0
+Told k at none r ns ns' = (r ≡ None) × (pieces_in ns' ≡ pieces_in ns)
+Told k at (some f) r ns ns' = (r ≡ Some f.node) × (ns'.rest ≡ length f.rest)
     × (pieces_in ns' ≡ with_pieces k (starts_in (at + length f.rest) f.parts) (lens_in f.parts) (pieces_in ns))
 
 -- and how many places were taken up, and bytes read
-pub record Says (k at : ℕ) (t : Tried) (r : ℕ) (ns ns' : List ℕ) : Type 0 where
+pub record Says (k at : ℕ) (t : Tried) (r : Answered ℕ) (ns ns' : Notes) : Type 0 where
   pub told : Told k at t.found r ns ns'
   pub counted : Counted (length t.taken) t.bytes ns ns'
 
@@ -111,15 +104,15 @@ HoldsDead count w row ds = (i p : ℕ) → i < count → p < w → bit row (i * 
 pub record Lent : Type 0 where
   pub dead : Bytes
   pub dead' : Bytes
-  pub notes : List ℕ
-  pub notes' : List ℕ
+  pub notes : Notes
+  pub notes' : Notes
 
 -- the answer from the node and place `at` on, for any fuel from b on and any dead places that the row holds, and those that it holds then
-pub record Outcomes (rows : List Node) (line : Bytes) (node at b : ℕ) (step : ℕ → List Place → Tried) (x : Lent) (r : ℕ) : Type 0 where
+pub record Outcomes (rows : List Node) (line : Bytes) (node at b : ℕ) (step : ℕ → List Place → Tried) (x : Lent) (r : Answered ℕ) : Type 0 where
   pub says : (n : ℕ) → b ≤ n → (ds : List Place) → HoldsDead (length rows) (suc (length line)) x.dead ds
       → Says (holes rows node) at (step n ds) r x.notes x.notes' × HoldsDead (length rows) (suc (length line)) x.dead' (step n ds).dead
-  pub short : ¬ (r ≡ 0) → rest_in x.notes' ≤ length line - at
-  pub there : r < length rows
+  pub short : IsSome r → x.notes'.rest ≤ length line - at
+  pub there : IfSome r (λ j. j < length rows)
 
 -- what is left of template and line
 abbrev pub size_in : List Node → Bytes → ℕ → ℕ → ℕ
@@ -147,42 +140,39 @@ module _ (m : Marks) (rows : List Node) (line : Bytes) (node at n : ℕ) where
 
 -- ---- in a row at whose front a tree stands
 
--- the node is one of such a tree's, the place lies in the first `end` bytes of the line, the row `dead` has a bit for each place, and there are
--- 21 notes
-pub record Asks (row : List Node) (dead : Bytes) (notes : List ℕ) (line : Bytes) (end node at : ℕ) : Type 0 where
+-- the node is one of such a tree's, the place lies in the line, and the row `dead` has a bit for each place
+pub record Asks (row : List Node) (dead line : Bytes) (node at : ℕ) : Type 0 where
   pub made : ℕ
   pub stands : Stands row made
   pub there : node < made
-  pub low : at ≤ end
-  pub high : end ≤ length line
+  pub low : at ≤ length line
   pub few : made ≤ nodes_most
-  pub short : end ≤ line_most
-  pub room : made * suc end ≤ 8 * length dead
-  pub all_notes : length notes ≡ 21
+  pub short : length line ≤ line_most
+  pub room : made * suc (length line) ≤ 8 * length dead
 
 -- the answer, whatever tree it is
-pub record Comes (row : List Node) (line : Bytes) (node at : ℕ) (fuel : List Node → ℕ) (step : List Node → ℕ → List Place → Tried) (x : Lent) (r : ℕ) : Type 0 where
+pub record Comes (row : List Node) (line : Bytes) (node at : ℕ) (fuel : List Node → ℕ) (step : List Node → ℕ → List Place → Tried) (x : Lent) (r : Answered ℕ) : Type 0 where
   pub each : (made : ℕ) → Stands row made → node < made → Outcomes (take made row) line node at (fuel (take made row)) (step (take made row)) x r
 
 -- of the search
-pub record SearchedIn (m : Marks) (row : List Node) (line : Bytes) (node at : ℕ) (dead dead' : Bytes) (notes notes' : List ℕ) (r : ℕ) : Type 0 where
+pub record SearchedIn (m : Marks) (row : List Node) (line : Bytes) (node at : ℕ) (dead dead' : Bytes) (notes notes' : Notes) (r : Answered ℕ) : Type 0 where
   pub comes : Comes row line node at (λ rows. suc (size_in rows line node at)) (λ rows n. place_tried m rows line node at n)
       (record { dead = dead; dead' = dead'; notes = notes; notes' = notes' }) r
 
 -- of its three steps
-pub record ByteSearched (m : Marks) (row : List Node) (line : Bytes) (node at : ℕ) (dead dead' : Bytes) (notes notes' : List ℕ) (r : ℕ) : Type 0 where
+pub record ByteSearched (m : Marks) (row : List Node) (line : Bytes) (node at : ℕ) (dead dead' : Bytes) (notes notes' : Notes) (r : Answered ℕ) : Type 0 where
   pub comes : Comes row line node at (λ rows. size_in rows line node at) (λ rows n. byte_step m rows line node at n)
       (record { dead = dead; dead' = dead'; notes = notes; notes' = notes' }) r
 
-pub record PieceSearched (m : Marks) (row : List Node) (line : Bytes) (node at : ℕ) (dead dead' : Bytes) (notes notes' : List ℕ) (r : ℕ) : Type 0 where
+pub record PieceSearched (m : Marks) (row : List Node) (line : Bytes) (node at : ℕ) (dead dead' : Bytes) (notes notes' : Notes) (r : Answered ℕ) : Type 0 where
   pub comes : Comes row line node at (λ rows. size_in rows line node at) (λ rows n. piece_step m rows line node at n)
       (record { dead = dead; dead' = dead'; notes = notes; notes' = notes' }) r
 
-pub record AtomSearched (m : Marks) (row : List Node) (line : Bytes) (node at : ℕ) (dead dead' : Bytes) (notes notes' : List ℕ) (r : ℕ) : Type 0 where
+pub record AtomSearched (m : Marks) (row : List Node) (line : Bytes) (node at : ℕ) (dead dead' : Bytes) (notes notes' : Notes) (r : Answered ℕ) : Type 0 where
   pub comes : Comes row line node at (λ rows. size_in rows line node at) (λ rows n. atom_step m rows line node at n)
       (record { dead = dead; dead' = dead'; notes = notes; notes' = notes' }) r
 
 -- and of all of them
-pub record TakenUp (m : Marks) (row : List Node) (line : Bytes) (node at : ℕ) (dead dead' : Bytes) (notes notes' : List ℕ) (r : ℕ) : Type 0 where
+pub record TakenUp (m : Marks) (row : List Node) (line : Bytes) (node at : ℕ) (dead dead' : Bytes) (notes notes' : Notes) (r : Answered ℕ) : Type 0 where
   pub comes : Comes row line node at (λ rows. size_in rows line node at) (λ rows n. all_steps m rows line node at n)
       (record { dead = dead; dead' = dead'; notes = notes; notes' = notes' }) r

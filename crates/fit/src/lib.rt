@@ -7,68 +7,115 @@
 ghost use Rattle.std.specs.Prelude.{◌≡◌, ◌+◌, ◌*◌, ◌^◌, ◌<◌, ◌≤◌, length, take};
 ghost use Rattle.model.specs.Limits.{line_most, nodes_most};
 ghost use Rattle.model.specs.Children.{element_of};
-ghost use Rattle.atom.specs.Atoms.{brackets, AtomAt};
-ghost use Rattle.fit.specs.Outcome.{rest_in, StoresPiece, PassesAtom, EndsTemplate, Counts, element_at, Asks, SearchedIn, TakenUp, ByteSearched, PieceSearched, AtomSearched};
-ghost use Rattle.fit.specs.Chosen.{no_choice, choice_of, Makes, Fits, Chooses};
+ghost use Rattle.atom.specs.Atoms.{brackets};
+ghost use Rattle.fit.specs.Outcome.{StoresPiece, PassesAtom, EndsTemplate, Counts, element_at, Asks, SearchedIn, TakenUp, ByteSearched, PieceSearched, AtomSearched};
+ghost use Rattle.fit.specs.Chosen.{reading_of, choice_of, Fits, Chooses};
 
-use atom::Scanned;
+use atom::scan_atom;
 use model::{END_KEY, Marks, PLACEHOLDER_KEY};
-use nodes::Node;
+use nodes::{Node, child, placeholder_child};
 use places::{clear, is_dead, set_dead};
 use std::num::wrapping_add_usize;
 
-// The lent notes of a search: nine starts and nine lengths of pieces, how many places were taken up, how many bytes were read where the next
-// atom was looked for, and where something is found the length of what is left of the piece that is open where the search starts. So a search
-// answers one number, and nothing is handed back and added up at every place.
-const NOTES: usize = 21;
-
-const PLACES: usize = 18;
-
-const BYTES: usize = 19;
-
-const REST: usize = 20;
-
-// Piece k starts at a place: what is left of it is all of it.
-fn store_piece(notes: &mut [usize], k: usize, at: usize)
-    requires { (k < 9) × (length notes.old ≡ 21) }
-    ensures { StoresPiece k at notes.old notes.new }
-{
-    notes[k] = at;
-    notes[k + 9] = notes[REST];
-    notes[REST] = 0;
+// A call: the number of its template, and where each piece starts and its length.
+#[derive(Clone, Copy)]
+pub struct Reading {
+    pub template: usize,
+    pub starts: [usize; 9],
+    pub lens: [usize; 9],
 }
 
-// The open piece has an atom of n bytes more.
-fn pass_atom(notes: &mut [usize], n: usize)
-    requires { (length notes.old ≡ 21) × (rest_in notes.old + n < 2 ^ 64) }
-    ensures { PassesAtom n notes.old notes.new }
-{
-    notes[REST] = notes[REST] + n;
+// What a line is: a call, if it has a reading; how many places were taken up to find it; and how many bytes were read.
+#[derive(Clone, Copy)]
+pub struct Choice {
+    pub reading: Option<Reading>,
+    pub places: usize,
+    pub bytes: usize,
 }
 
-// A template ends: its place is taken up, and no piece is open.
-fn end_template(notes: &mut [usize])
-    requires { length notes.old ≡ 21 }
-    ensures { EndsTemplate notes.old notes.new }
-{
-    count_place(notes);
-    notes[REST] = 0;
+// What a search notes: where each piece starts and its length, how many places were taken up, how many bytes were read where the next atom was
+// looked for, and where something is found the length of what is left of the piece that is open where the search starts. So nothing is handed
+// back and added up at every place.
+#[derive(Drop)]
+struct Notes {
+    starts: [usize; 9],
+    lens: [usize; 9],
+    places: usize,
+    bytes: usize,
+    rest: usize,
 }
 
-// A place is taken up. That no count comes near 2^64 is known of a whole search alone (Few); here it may wrap.
-fn count_place(notes: &mut [usize])
-    requires { length notes.old ≡ 21 }
-    ensures { Counts 1 0 notes.old notes.new }
-{
-    notes[PLACES] = wrapping_add_usize(notes[PLACES], 1);
+impl Notes {
+    // Piece k starts at a place: what is left of it is all of it.
+    fn store_piece(&mut self, k: usize, at: usize)
+        requires { k < 9 }
+        ensures { StoresPiece k at self.old self.new }
+    {
+        self.starts[k] = at;
+        self.lens[k] = self.rest;
+        self.rest = 0;
+    }
+
+    // The open piece has an atom of n bytes more.
+    fn pass_atom(&mut self, n: usize)
+        requires { self.old.rest + n < 2 ^ 64 }
+        ensures { PassesAtom n self.old self.new }
+    {
+        self.rest += n;
+    }
+
+    // A template ends: its place is taken up, and no piece is open.
+    fn end_template(&mut self)
+        ensures { EndsTemplate self.old self.new }
+    {
+        self.count_place();
+        self.rest = 0;
+    }
+
+    // A place is taken up. That no count comes near 2^64 is known of a whole search alone (Few); here it may wrap.
+    fn count_place(&mut self)
+        ensures { Counts 1 0 self.old self.new }
+    {
+        self.places = wrapping_add_usize(self.places, 1);
+    }
+
+    // So many bytes were read.
+    fn count_bytes(&mut self, n: usize)
+        ensures { Counts 0 n self.old self.new }
+    {
+        self.bytes = wrapping_add_usize(self.bytes, n);
+    }
+
+    // The call of a template, with the pieces that are noted.
+    fn read_pieces(&self, template: usize) -> Reading
+        ensures { result ≡ reading_of self.now template }
+    {
+        Reading {
+            template,
+            starts: self.starts,
+            lens: self.lens,
+        }
+    }
+
+    // A reading or none, with what is counted.
+    fn choose(&self, reading: Option<Reading>) -> Choice
+        ensures { result ≡ choice_of self.now reading }
+    {
+        Choice {
+            reading,
+            places: self.places,
+            bytes: self.bytes,
+        }
+    }
 }
 
-// So many bytes were read.
-fn count_bytes(notes: &mut [usize], n: usize)
-    requires { length notes.old ≡ 21 }
-    ensures { Counts 0 n notes.old notes.new }
-{
-    notes[BYTES] = wrapping_add_usize(notes[BYTES], n);
+// What each search is given and none changes: the two brackets, the row of nodes, the line. Of the marks the brackets alone go along.
+#[derive(Clone, Copy)]
+struct Task<'a> {
+    left: u8,
+    right: u8,
+    nodes: &'a [Node],
+    line: &'a [u8],
 }
 
 // The number of a place: so many positions for each node.
@@ -79,51 +126,31 @@ fn number_place(end: usize, node: usize, at: usize) -> usize
     node * (end + 1) + at
 }
 
-// The key of the element that leads on at a place of the first `end` bytes of a line: the byte's, or the template's end.
-fn element_at(line: &[u8], end: usize, at: usize) -> u16
-    requires { (at ≤ end) × (end ≤ length line.now) }
-    ensures { element_of result ≡ element_at (take end line.now) at }
+// The key of the element that leads on at a place of a line: the byte's, or the template's end.
+fn element_at(line: &[u8], at: usize) -> u16
+    ensures { element_of result ≡ element_at line.now at }
 {
-    if at < end {
-        return line[at] as u16;
+    if at < line.len() {
+        return u16::from(line[at]);
     }
     END_KEY
 }
 
-// The atom at a place of the first `end` bytes of a line.
-fn find_atom(left: u8, right: u8, line: &[u8], end: usize, at: usize) -> Scanned
-    requires { (at ≤ end) × (end ≤ length line.now) }
-    ensures { AtomAt (brackets left right) (take end line.now) at result }
-{
-    atom::scan_atom(&line[0..end], at, left, right)
-}
-
-// The place of the node and the position `at`, in the first `end` bytes of the line: it is taken up unless it is dead, and dead where it
-// leads nowhere. The node's height and what is left of the line fall from search to search. Of the marks the brackets alone go along: a
-// copy of all at each search costs a tenth of the time.
+// The place of the node and the position `at`: it is taken up unless it is dead, and dead where it leads nowhere. The node's height and what is
+// left of the line fall from search to search.
 #[cycle(search)]
-fn search(
-    left: u8,
-    right: u8,
-    nodes: &[Node],
-    dead: &mut [u8],
-    notes: &mut [usize],
-    line: &[u8],
-    end: usize,
-    node: usize,
-    at: usize,
-) -> usize
-    requires { Asks nodes.now dead.old notes.old line.now end node at }
-    ensures { SearchedIn (brackets left right) nodes.now (take end line.now) node at
+fn search(task: &Task, dead: &mut [u8], notes: &mut Notes, node: usize, at: usize) -> Option<usize>
+    requires { Asks task.now.nodes.now dead.old task.now.line.now node at }
+    ensures { SearchedIn (brackets task.now.left task.now.right) task.now.nodes.now task.now.line.now node at
         dead.old dead.new notes.old notes.new result }
 {
-    let place = number_place(end, node, at);
+    let place = number_place(task.line.len(), node, at);
     if is_dead(dead, place) {
-        return 0;
+        return None;
     }
-    count_place(notes);
-    let found = take_up(left, right, nodes, dead, notes, line, end, node, at);
-    if found == 0 {
+    notes.count_place();
+    let found = take_up(task, dead, notes, node, at);
+    if found.is_none() {
         set_dead(dead, place);
     }
     found
@@ -131,172 +158,82 @@ fn search(
 
 // From a place by the next byte or the line's end, else by a placeholder, else by an atom more.
 #[cycle(search)]
-fn take_up(
-    left: u8,
-    right: u8,
-    nodes: &[Node],
-    dead: &mut [u8],
-    notes: &mut [usize],
-    line: &[u8],
-    end: usize,
-    node: usize,
-    at: usize,
-) -> usize
-    requires { Asks nodes.now dead.old notes.old line.now end node at }
-    ensures { TakenUp (brackets left right) nodes.now (take end line.now) node at
+fn take_up(task: &Task, dead: &mut [u8], notes: &mut Notes, node: usize, at: usize) -> Option<usize>
+    requires { Asks task.now.nodes.now dead.old task.now.line.now node at }
+    ensures { TakenUp (brackets task.now.left task.now.right) task.now.nodes.now task.now.line.now node at
         dead.old dead.new notes.old notes.new result }
 {
-    let byte = search_byte(left, right, nodes, dead, notes, line, end, node, at);
-    if byte != 0 {
-        return byte;
+    if let Some(end) = search_byte(task, dead, notes, node, at) {
+        return Some(end);
     }
-    let piece = search_piece(left, right, nodes, dead, notes, line, end, node, at);
-    if piece != 0 {
-        return piece;
+    if let Some(end) = search_piece(task, dead, notes, node, at) {
+        return Some(end);
     }
-    search_atom(left, right, nodes, dead, notes, line, end, node, at)
+    search_atom(task, dead, notes, node, at)
 }
 
 // To the child for the next byte, or for the template's end.
 #[cycle(search)]
 fn search_byte(
-    left: u8,
-    right: u8,
-    nodes: &[Node],
+    task: &Task,
     dead: &mut [u8],
-    notes: &mut [usize],
-    line: &[u8],
-    end: usize,
+    notes: &mut Notes,
     node: usize,
     at: usize,
-) -> usize
-    requires { Asks nodes.now dead.old notes.old line.now end node at }
-    ensures { ByteSearched (brackets left right) nodes.now (take end line.now) node at
+) -> Option<usize>
+    requires { Asks task.now.nodes.now dead.old task.now.line.now node at }
+    ensures { ByteSearched (brackets task.now.left task.now.right) task.now.nodes.now task.now.line.now node at
         dead.old dead.new notes.old notes.new result }
 {
-    let c = nodes::child(nodes, node, element_at(line, end, at));
-    if c == 0 {
-        return 0;
+    let next = child(task.nodes, node, element_at(task.line, at))?;
+    if at == task.line.len() {
+        notes.end_template();
+        return Some(next);
     }
-    if at == end {
-        end_template(notes);
-        return c;
-    }
-    search(left, right, nodes, dead, notes, line, end, c, at + 1)
+    search(task, dead, notes, next, at + 1)
 }
 
 // To the placeholder's child, where a piece starts.
 #[cycle(search)]
 fn search_piece(
-    left: u8,
-    right: u8,
-    nodes: &[Node],
+    task: &Task,
     dead: &mut [u8],
-    notes: &mut [usize],
-    line: &[u8],
-    end: usize,
+    notes: &mut Notes,
     node: usize,
     at: usize,
-) -> usize
-    requires { Asks nodes.now dead.old notes.old line.now end node at }
-    ensures { PieceSearched (brackets left right) nodes.now (take end line.now) node at
+) -> Option<usize>
+    requires { Asks task.now.nodes.now dead.old task.now.line.now node at }
+    ensures { PieceSearched (brackets task.now.left task.now.right) task.now.nodes.now task.now.line.now node at
         dead.old dead.new notes.old notes.new result }
 {
-    let c = nodes::placeholder_child(nodes, node);
-    if c == 0 {
-        return 0;
-    }
-    let piece = search(left, right, nodes, dead, notes, line, end, c, at);
-    if piece == 0 {
-        return 0;
-    }
-    let n = nodes::node_at(nodes, node);
-    store_piece(notes, nodes::holes_of(n), at);
-    piece
+    let next = placeholder_child(task.nodes, node)?;
+    let end = search(task, dead, notes, next, at)?;
+    notes.store_piece(usize::from(task.nodes[node].holes), at);
+    Some(end)
 }
 
 // An atom more in the open piece, if the node is a placeholder's.
 #[cycle(search)]
 fn search_atom(
-    left: u8,
-    right: u8,
-    nodes: &[Node],
+    task: &Task,
     dead: &mut [u8],
-    notes: &mut [usize],
-    line: &[u8],
-    end: usize,
+    notes: &mut Notes,
     node: usize,
     at: usize,
-) -> usize
-    requires { Asks nodes.now dead.old notes.old line.now end node at }
-    ensures { AtomSearched (brackets left right) nodes.now (take end line.now) node at
+) -> Option<usize>
+    requires { Asks task.now.nodes.now dead.old task.now.line.now node at }
+    ensures { AtomSearched (brackets task.now.left task.now.right) task.now.nodes.now task.now.line.now node at
         dead.old dead.new notes.old notes.new result }
 {
-    if !nodes::has_element(nodes::node_at(nodes, node), PLACEHOLDER_KEY) {
-        return 0;
+    if task.nodes[node].element != PLACEHOLDER_KEY {
+        return None;
     }
-    let next = find_atom(left, right, line, end, at);
-    count_bytes(notes, next.read);
-    let past = next.end;
-    if past == 0 {
-        return 0;
-    }
-    let longer = search(left, right, nodes, dead, notes, line, end, node, past);
-    if longer == 0 {
-        return 0;
-    }
-    pass_atom(notes, past - at);
-    longer
-}
-
-// What a line is: a call of a template, with where each piece starts and its length, or no call; how many places were taken up; and how
-// many bytes were read.
-#[derive(Clone, Copy)]
-pub struct Choice {
-    pub found: bool,
-    pub template: usize,
-    pub starts: [usize; 9],
-    pub lens: [usize; 9],
-    pub places: usize,
-    pub bytes: usize,
-}
-
-// No call, after a search with these notes.
-fn no_choice(notes: &[usize]) -> Choice
-    requires { length notes.now ≡ 21 }
-    ensures { Makes (no_choice notes.now) result }
-{
-    Choice {
-        found: false,
-        template: 0,
-        starts: [0; 9],
-        lens: [0; 9],
-        places: notes[PLACES],
-        bytes: notes[BYTES],
-    }
-}
-
-// Nine numbers by value.
-fn copy_nine(a: &[usize]) -> [usize; 9]
-    requires { length a.now ≡ 9 }
-    ensures { result ≡ a.now }
-{
-    [a[0], a[1], a[2], a[3], a[4], a[5], a[6], a[7], a[8]]
-}
-
-// The call of a template, after a search with these notes.
-fn make_choice(notes: &[usize], template: usize) -> Choice
-    requires { length notes.now ≡ 21 }
-    ensures { Makes (choice_of notes.now template) result }
-{
-    Choice {
-        found: true,
-        template,
-        starts: copy_nine(&notes[0..9]),
-        lens: copy_nine(&notes[9..18]),
-        places: notes[PLACES],
-        bytes: notes[BYTES],
-    }
+    let atom = scan_atom(task.line, at, task.left, task.right);
+    notes.count_bytes(atom.read);
+    let past = atom.end?;
+    let end = search(task, dead, notes, node, past)?;
+    notes.pass_atom(past - at);
+    Some(end)
 }
 
 // The first of all readings of the first `end` bytes of a line by the templates of the tree, which has `count` nodes. At first no place of
@@ -313,13 +250,22 @@ pub fn first_reading(
     ensures { Chooses m nodes.now count (take end line.now) result }
 {
     clear(dead, count * (end + 1));
-    let mut notes = [0usize; NOTES];
-    let left = m.left;
-    let right = m.right;
-    let node = search(left, right, nodes, dead, &mut notes, line, end, 0, 0);
-    if node == 0 {
-        return no_choice(&notes);
-    }
-    let n = nodes::node_at(nodes, node);
-    make_choice(&notes, nodes::template_of(n))
+    let mut notes = Notes {
+        starts: [0; 9],
+        lens: [0; 9],
+        places: 0,
+        bytes: 0,
+        rest: 0,
+    };
+    let task = Task {
+        left: m.left,
+        right: m.right,
+        nodes,
+        line: &line[..end],
+    };
+    let Some(end) = search(&task, dead, &mut notes, 0, 0) else {
+        return notes.choose(None);
+    };
+    let reading = notes.read_pieces(usize::from(nodes[end].template));
+    notes.choose(Some(reading))
 }

@@ -4,7 +4,8 @@
 ghost use Rattle.std.specs.Prelude.{◌≤◌, length};
 ghost use Rattle.landing.specs.Landing.{LandsSkip, LandsAnswer};
 
-use answer::{Answer, BACK, end_with, go_back, go_on};
+use answer::{Answer, Turn, end_with, go_back, go_on};
+use body::Passed;
 use call::{Head, move_to};
 use model::Marks;
 use state::State;
@@ -15,19 +16,19 @@ pub fn land_skip(m: Marks, text: &[u8], call: Head, n: usize, s: State) -> Answe
     ensures { LandsSkip m text.now call n s result }
 {
     match body::pass_over(m, text, call.next, n) {
-        body::Passed::Landed(p) => go_on(move_to(call, p), s),
-        body::Passed::Beyond(k) => go_back(k, s),
-        body::Passed::Bad => end_with(18, s),
+        Ok(Passed::Landed(p)) => go_on(move_to(call, p), s),
+        Ok(Passed::Beyond(k)) => go_back(k, s),
+        Err(fault) => end_with(fault, s),
     }
 }
 
-// What the answer r comes to in the call whose answer q offered a line.
-pub fn land(m: Marks, text: &[u8], q: Answer, r: Answer) -> Answer
-    requires { q.call.next ≤ length text.now }
-    ensures { LandsAnswer m text.now q.call r result }
+// What the answer r to a line that a call offered comes to in that call.
+pub fn land(m: Marks, text: &[u8], call: Head, r: Answer) -> Answer
+    requires { call.next ≤ length text.now }
+    ensures { LandsAnswer m text.now call r result }
 {
-    if r.kind == BACK {
-        return land_skip(m, text, q.call, r.count, r.state);
+    match r.turn {
+        Turn::Back(n) => land_skip(m, text, call, n, r.state),
+        Turn::Continues | Turn::Offers(_) | Turn::Halts(_) => r,
     }
-    r
 }

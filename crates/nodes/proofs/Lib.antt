@@ -1,4 +1,4 @@
 -- The laws of a node's children, of the looks for one, and of walks down the tree.
 pub mod Rows
-mod Halving
+mod Looks
 pub mod Templates

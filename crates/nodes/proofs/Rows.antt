@@ -9,6 +9,8 @@ use native.Mathlib.Nat.{eq-or-lt_of_le}
 use lib.ListN.{length, get_or, take, length-append, get_or-eq_default}
 use lib.Seq.{length-take-le, get_or-take}
 use borrow.Author.Tests.{ne_eqb}
+use Rattle.std.specs.Prelude.{Option}
+use Rattle.std.proofs.lemmas.Option.{IfSome_then}
 use Rattle.model.specs.declared.Marks.{Marks}
 use Rattle.model.specs.Text.{Bytes}
 use Rattle.model.specs.Parts.{Elem, lit, hole, stop, elems}
@@ -200,15 +202,15 @@ module _ {row : List Node} {made : ℕ} (s : Stands row made) where
       greatest = λ j g. omega (arith, run.greatest j (child_inside j g), key_inside j g);
     }
 
-    -- the one that is found stands among the first nodes too
-    inside : (e : Elem) (r : ℕ) → r ≡ kid row node e → r < made
-    inside e zero q = omega (arith, lt)
-    inside e (suc m) q = omega (arith, (kid_child row node e m (sym q)).0.1, children_inside)
-
     -- the child in the row is the tree's
-    pub front_child : (k r : ℕ) → ChildFor row node k r → ChildFor (take made row) node k r
+    pub front_child : (k : ℕ) (r : Option ℕ) → ChildFor row node k r → ChildFor (take made row) node k r
     front_child k r c = record {
       is = c.is ∙ sym (front_among row made (element_of k) (first_of row node) (count_of row node) children_inside)
           ∙ ap (λ (x : Node). among (take made row) (element_of k) x.first x.count) (sym same);
-      within = omega (arith, inside (element_of k) r c.is, front_long);
+      child = IfSome_then r c.child child_inside;
+      within = IfSome_then r c.child (λ j h. omega (arith, h.1, children_inside, front_long));
     }
+
+    -- and comes after the node, so it is not the root
+    pub child_after : (j : ℕ) → Child row node j → node < j
+    child_after j h = run.after j (child_inside j h)

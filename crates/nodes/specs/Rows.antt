@@ -1,5 +1,6 @@
 -- The row of nodes, and how a child is found in it.
-use Rattle.std.specs.Prelude.{◌≡◌, Bool, true, false, List, ℕ, zero, suc, ◌+◌, ◌≤◌, ◌<◌, eqb, length, get_or}
+use Rattle.std.specs.Prelude.{◌≡◌, Bool, true, false, List, ℕ, zero, suc, ◌+◌, ◌≤◌, ◌<◌, eqb, length, get_or, Option, IfSome}
+use Rattle.std.specs.Option.{unwrap_or}
 use Rattle.model.specs.Parts.{Elem}
 use Rattle.model.specs.Places.{same_elem}
 use Rattle.model.specs.Children.{placeholder_key, element_of}
@@ -66,7 +67,8 @@ pub record InRun (rows : List Node) (node : ℕ) : Type 0 where
   pub ascending : Ascending rows node
   pub greatest : Keyed rows node
 
--- r is the child of the node for the element with key k, 0 where there is none
-pub record ChildFor (rows : List Node) (node k r : ℕ) : Type 0 where
-  pub is : r ≡ kid rows node (element_of k)
-  pub within : r < length rows
+-- r is the child of the node for the element with key k, none where the definition has 0
+pub record ChildFor (rows : List Node) (node k : ℕ) (r : Option ℕ) : Type 0 where
+  pub is : unwrap_or r 0 ≡ kid rows node (element_of k)
+  pub child : IfSome r (Child rows node)
+  pub within : IfSome r (λ j. j < length rows)

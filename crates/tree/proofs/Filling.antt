@@ -1,13 +1,10 @@
 -- The loop of `fill_children`, and what `add_children`, `grow_tree` and `build` do around it.
 use mathlib.Core.Path.{◌≡◌, refl, sym, ◌∙◌, ap, subst}
-use mathlib.Core.Bool.{Bool, true, false}
 use mathlib.Core.List.{List, []}
 use Prim.Native.Nat.{ℕ, suc, ◌+◌, ◌-◌, ◌≤◌, ◌<◌}
 use native.Mathlib.Omega.{arith}
-use lib.Dec.{eqb}
 use lib.ListN.{length, get_or, set}
 use lib.Seq.{get_or-set_same, get_or-set_other}
-use borrow.Author.Tests.{eqb-true, eqb-false}
 use Rattle.nodes.specs.declared.Node.{Node}
 use Rattle.nodes.specs.Rows.{no_node, elem, first_of, count_of, template_of, height}
 use Rattle.model.specs.Text.{Bytes}
@@ -39,14 +36,6 @@ pub record Filling (p : ℕ) (ts : List Bytes) (order : ℕ → ℕ) (rows : Lis
   pub more : made ≤ c
   pub within : c ≤ suc (beginnings ts)
   pub most : low ≤ 258
-
--- a node is an end, or none
-module _ (rows : List Node) (i : ℕ) {x : Node} {b : Bool} (e : x ≡ get_or rows i no_node) (q : b ≡ eqb x.element 256) where
-  pub is-end : b ≡ true → elem rows i ≡ 256
-  is-end t = subst (λ (y : Node). y.element ≡ 256) e (eqb-true x.element 256 (sym q ∙ t))
-
-  pub not_end : b ≡ false → ¬ (elem rows i ≡ 256)
-  not_end t = subst (λ (y : Node). ¬ (y.element ≡ 256)) e (eqb-false x.element 256 (sym q ∙ t))
 
 module _ (p : ℕ) (ts : List Bytes) (order : ℕ → ℕ) where
   abbrev f : ℕ → ℕ → ℕ

@@ -13,7 +13,7 @@ ghost use Rattle.model.specs.Children.{end_key, placeholder_key};
 
 use macros::Table;
 use model::{END_KEY, Marks};
-use nodes::{Node, ROOT_KEY, node_at, set_node};
+use nodes::{Node, ROOT_KEY};
 use templates::{Pick, holes_past, take_run};
 
 // How many elements stand up to and with a node.
@@ -21,7 +21,7 @@ fn depth_of(n: Node) -> usize
     requires { n.height ≤ 201 }
     ensures { result ≡ 201 - n.height }
 {
-    201 - n.height as usize
+    201 - usize::from(n.height)
 }
 
 // The node for a run of templates, below the node n.
@@ -36,21 +36,6 @@ fn make_child(n: Node, r: Pick) -> Node
         template: r.template as u16,
         height: n.height - 1,
         holes: holes_past(n.holes, r.key),
-    }
-}
-
-// A node with its children, from `first` up to c.
-fn join_children(n: Node, first: usize, c: usize) -> Node
-    requires { (first ≤ c) × (c < 65536) }
-    ensures { result ≡ with_kids n first (c - first) }
-{
-    Node {
-        element: n.element,
-        first: first as u16,
-        count: (c - first) as u16,
-        template: n.template,
-        height: n.height,
-        holes: n.holes,
     }
 }
 
@@ -82,15 +67,15 @@ fn fill_children(
     requires { NextNode mark text.now table.now n nodes.old i made × (elem nodes.old i ≡ end_key → ⊥) }
     ensures { Filled mark (templates_in text.now table.now n) (order_in table.now) nodes.new i result made }
 {
-    let parent = node_at(nodes, i);
+    let parent = nodes[i];
     let d = depth_of(parent);
-    let end = nodes::end_of(parent);
+    let end = parent.end_of_children();
     let mut c = made;
-    let mut at = nodes::first_of(parent);
+    let mut at = parent.first_child();
     while at < end {
         let r = take_run(mark, text, table, n, at, end, d);
         at = r.end;
-        set_node(nodes, c, make_child(parent, r));
+        nodes[c] = make_child(parent, r);
         c += 1;
     }
     c
@@ -101,8 +86,11 @@ fn link_children(nodes: &mut [Node], i: usize, first: usize, c: usize)
     requires { (i < length nodes.old) × (first ≤ c) × (c < 65536) }
     ensures { nodes.new ≡ set nodes.old i (with_kids (get_or nodes.old i no_node) first (c - first)) }
 {
-    let n = node_at(nodes, i);
-    set_node(nodes, i, join_children(n, first, c));
+    nodes[i] = Node {
+        first: first as u16,
+        count: (c - first) as u16,
+        ..nodes[i]
+    };
 }
 
 // Gives node i its children; an end has none.
@@ -118,7 +106,7 @@ fn add_children(
     requires { NextNode mark text.now table.now n nodes.old i made }
     ensures { NodesMade mark (templates_in text.now table.now n) (order_in table.now) nodes.new (i + 1) result }
 {
-    if nodes::has_element(node_at(nodes, i), END_KEY) {
+    if nodes[i].element == END_KEY {
         link_children(nodes, i, made, made);
         return made;
     }
@@ -146,6 +134,6 @@ pub fn build(m: Marks, text: &[u8], table: &Table, n: usize, nodes: &mut [Node])
     requires { Growing m.placeholder text.now table.now n nodes.old }
     ensures { (result ≤ length nodes.new) × Built m (templates_in text.now table.now n) (take result nodes.new) }
 {
-    set_node(nodes, 0, make_root(n));
+    nodes[0] = make_root(n);
     grow_tree(m.placeholder, text, table, n, nodes)
 }

@@ -13,8 +13,9 @@ use Rattle.model.specs.Store.{decimal}
 use Rattle.model.specs.Load.{Macro}
 use Rattle.model.specs.Report.{Row, use_rows, report_rows, row_bytes, rows_bytes, report_head, report_bytes}
 use Rattle.model.proofs.Printed.{decimal_few}
-use Rattle.macros.specs.Table.{Table, line_in, macro_in, macros_in}
-use Rattle.macros.proofs.Table.{macros_in_length}
+use Rattle.macros.specs.declared.Table.{Table}
+use Rattle.macros.specs.Table.{line_in, macro_in, macros_in}
+use Rattle.macros.proofs.Entries.{macros_in_length}
 use Rattle.rendering.specs.Prints.{RoomFor, Prints}
 use Rattle.rendering.proofs.Prints.{prints_none, prints_as, prints_more, prints_4, prints_written, room_as, room_1, room_2, room_3, room_4}
 use Rattle.usage.specs.Counts.{ReadyToReport, PrintsReport}

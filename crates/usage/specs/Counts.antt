@@ -5,7 +5,8 @@ use Rattle.model.specs.Limits.{text_most, macros_most, fuel_most, report_least}
 use Rattle.model.specs.declared.Marks.{Marks}
 use Rattle.model.specs.Text.{Bytes}
 use Rattle.model.specs.Report.{Tally, report_rows, report_bytes}
-use Rattle.macros.specs.Table.{Table, table_size, line_in, macros_in}
+use Rattle.macros.specs.declared.Table.{Table}
+use Rattle.macros.specs.Table.{line_in, macros_in}
 use Rattle.buffer.specs.Written.{Written}
 
 -- the tally of the first n macros
@@ -19,7 +20,6 @@ pub record Counts (counts : List ℕ) (fuel : ℕ) : Type 0 where
 
 -- what a report is printed from: with numbers of lines and counts that a text and a run can have, every row has room
 pub record ReadyToReport (t : Table) (n : ℕ) (counts : List ℕ) (report : Bytes) : Type 0 where
-  pub whole : table_size ≤ length t
   pub few : n ≤ macros_most
   pub lines : (k : ℕ) → k < n → line_in t k ≤ text_most
   pub long : length counts ≡ macros_most + 1

@@ -8,8 +8,7 @@ ghost use Rattle.model.specs.Report.{one_more_of, row_bytes};
 ghost use Rattle.rendering.specs.Prints.{RoomFor, Prints};
 ghost use Rattle.usage.specs.Counts.{ReadyToReport, PrintsReport};
 
-use buffer::widen;
-use macros::line_of;
+use macros::Table;
 use model::MACROS_MOST;
 use rendering::{add_bytes, add_decimal};
 
@@ -21,7 +20,7 @@ pub fn count_line(counts: &mut [usize], place: usize)
     requires { (place < length counts.old) × (get_or counts.old place 0 < fuel_most) }
     ensures { counts.new ≡ one_more_of place counts.old }
 {
-    counts[place] = counts[place] + 1;
+    counts[place] += 1;
 }
 
 // A row of the report: a line's number, a comma, a count, and byte 10.
@@ -29,22 +28,20 @@ fn add_row(report: &mut [u8], at: usize, line: usize, count: usize) -> usize
     requires { RoomFor report.old at (row_bytes (line, count)) }
     ensures { Prints report.old at (row_bytes (line, count)) result report.new }
 {
-    let comma = add_decimal(report, at, widen(line));
+    let comma = add_decimal(report, at, line as u64);
     let digits = add_bytes(report, comma, b",");
-    let end = add_decimal(report, digits, widen(count));
+    let end = add_decimal(report, digits, count as u64);
     add_bytes(report, end, b"\n")
 }
 
 // The report of the first n macros of the table, at the front of its room; the answer is its length.
-pub fn print_report(table: &[usize], n: usize, counts: &[usize], report: &mut [u8]) -> usize
+pub fn print_report(table: &Table, n: usize, counts: &[usize], report: &mut [u8]) -> usize
     requires { ReadyToReport table.now n counts.now report.old }
     ensures { PrintsReport table.now n counts.now report.old result report.new }
 {
     let mut at = add_bytes(report, 0, b"template,calls\n");
-    let mut k = 0;
-    while k < n {
-        at = add_row(report, at, line_of(table, k), counts[k]);
-        k += 1;
+    for k in 0..n {
+        at = add_row(report, at, table.line_of(k), counts[k]);
     }
     add_row(report, at, 0, counts[MACROS_MOST])
 }

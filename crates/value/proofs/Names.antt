@@ -74,8 +74,8 @@ module _ {m : Marks} {s : List ℕ} {at : ℕ} where
   naming_none h = record { is = refl; upto = h }
 
   module _ {i : ℕ} (n : Naming m s at i) where
-    pub naming_ended : length s ≤ i → EndsName m s at i
-    naming_ended h = record { is = sym (ended m s i (omega (arith, n.upto))) ∙ n.is; upto = n.upto }
+    pub naming_ended : length s ≤ i → EndsName m s at (length s)
+    naming_ended h = let e : i ≡ length s = omega (arith, n.upto) in rw (← e) (record { is = sym (ended m s i e) ∙ n.is; upto = n.upto })
 
     module _ (inside : i < length s) {q : Bool} (tested : q ≡ is_mark m (get_or s i 0)) where
       pub naming_mark : q ≡ true → EndsName m s at i

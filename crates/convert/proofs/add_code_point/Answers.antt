@@ -1,13 +1,13 @@
 -- add_code_point: only a parameter of one character has a code point.
-use borrow.Author.Tests.{not-true, not-false}
+use borrow.Author.Rules.{rules}
 use Rattle.convert.proofs.Adding.{point_malformed, point_others, point_added}
 use Rattle.convert.proofs.add_code_point.Goals as goal
 
-pub returns-then-not-counted : goal.returns-then-not-counted
-returns-then-not-counted c = search (point_malformed, not-true)
+pub returns-in_err-characters : goal.returns-in_err-characters
+returns-in_err-characters c = point_malformed c.count_characters.ensures c.in_err-characters.was c.from_residual.ensures.1
 
-pub returns-then-counted-ne1 : goal.returns-then-counted-ne1
-returns-then-counted-ne1 c = search (point_others, not-false)
+pub returns-then-characters-ne1 : goal.returns-then-characters-ne1
+returns-then-characters-ne1 c = point_others c.count_characters.ensures c.in_ok-characters.was (search rules)
 
 pub returns : goal.returns
-returns c = search (point_added, not-false)
+returns c = point_added c.count_characters.ensures c.in_ok-characters.was (search rules) c.add_number.ensures

@@ -2,8 +2,8 @@
 use Rattle.convert.proofs.Appending.{appends_delimiter, appends_none}
 use Rattle.convert.proofs.add_delimiter.Goals as goal
 
-pub returns-then-delimiter-ge-NO_DELIMITER : goal.returns-then-delimiter-ge-NO_DELIMITER
-returns-then-delimiter-ge-NO_DELIMITER c = search appends_none
+pub returns-in-Some : goal.returns-in-Some
+returns-in-Some c = appends_delimiter c.in-Some.is c.add_byte.ensures
 
-pub returns : goal.returns
-returns c = search appends_delimiter
+pub returns-in-None : goal.returns-in-None
+returns-in-None c = appends_none c.requires.0 c.in-None.is

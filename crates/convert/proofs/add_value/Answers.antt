@@ -2,8 +2,8 @@
 use Rattle.convert.proofs.Adding.{value-fault, value_number}
 use Rattle.convert.proofs.add_value.Goals as goal
 
-pub returns-in-Fault : goal.returns-in-Fault
-returns-in-Fault c = search value-fault
+pub returns-in_err-v : goal.returns-in_err-v
+returns-in_err-v c = value-fault c.value.ensures c.ok_or.ensures.value c.in_err-v.was c.from_residual.ensures.1
 
-pub returns-in-Number : goal.returns-in-Number
-returns-in-Number c = search value_number
+pub returns : goal.returns
+returns c = value_number c.value.ensures c.ok_or.ensures.value c.in_ok-v.was c.add_signed.ensures

@@ -1,10 +1,7 @@
--- begins_name compares the front of the content with the name.
-use borrow.Author.Rules.{rules}
-use Rattle.copying.proofs.Names.{begins_no_room, begins_there}
+-- begins_name compares the content's front with the name.
+use mathlib.Core.Path.{◌∙◌}
+use Rattle.copying.proofs.Names.{begins_front}
 use Rattle.copying.proofs.begins_name.Goals as goal
 
-pub returns-then-end-at : goal.returns-then-end-at
-returns-then-end-at c = search (begins_no_room, rules)
-
 pub returns : goal.returns
-returns c = search (begins_there, rules)
+returns c = c.starts_with.ensures.value ∙ begins_front c.args.name.now c.args.content.now

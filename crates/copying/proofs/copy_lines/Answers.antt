@@ -23,7 +23,7 @@ returns-then-begins_name c = search (copied_stops, rules)
 pub copy_content-a-requires : goal.copy_content-a-requires
 copy_content-a-requires c =
     let inv = c.loop-st.invariant in
-    let content = c.read_content-content.ensures in
+    let content = c.read_content-line.ensures in
     let first = first_written inv content c.begins_name.ensures c.set_input-t.ensures c.go_on-in-loop-st.ensures in
     let second = second_written inv content c.begins_name.ensures c.set_input-t.ensures c.go_on-in-loop-st.ensures in
     search rules
@@ -41,17 +41,17 @@ shape_of-second-then-is_left c =
 pub returns-then-is_left : goal.returns-then-is_left
 returns-then-is_left c =
     let inv = c.loop-st.invariant in
-    copied_ends inv c.read_content-content.ensures c.begins_name.ensures c.set_input-t.ensures c.if-begins_name.false c.go_on-in-loop-st.ensures c.copy_content-a.ensures (sym c.is_left.ensures ∙ c.if-is_left.true)
+    copied_ends inv c.read_content-line.ensures c.begins_name.ensures c.set_input-t.ensures c.if-begins_name.false c.go_on-in-loop-st.ensures c.copy_content-a.ensures (sym c.is_left.ensures ∙ c.if-is_left.true)
 
 pub loop-st-smaller : goal.loop-st-smaller
 loop-st-smaller c =
     let inv = c.loop-st.invariant in
-    copied_falls inv c.read_content-content.ensures c.begins_name.ensures c.set_input-t.ensures c.if-begins_name.false c.go_on-in-loop-st.ensures c.copy_content-a.ensures (sym c.is_left.ensures ∙ c.if-is_left.false)
+    copied_falls inv c.read_content-line.ensures c.begins_name.ensures c.set_input-t.ensures c.if-begins_name.false c.go_on-in-loop-st.ensures c.copy_content-a.ensures (sym c.is_left.ensures ∙ c.if-is_left.false)
 
 pub loop-st-preserved : goal.loop-st-preserved
 loop-st-preserved c =
     let inv = c.loop-st.invariant in
-    copied_more inv c.read_content-content.ensures c.begins_name.ensures c.set_input-t.ensures c.if-begins_name.false c.go_on-in-loop-st.ensures c.copy_content-a.ensures (sym c.is_left.ensures ∙ c.if-is_left.false)
+    copied_more inv c.read_content-line.ensures c.begins_name.ensures c.set_input-t.ensures c.if-begins_name.false c.go_on-in-loop-st.ensures c.copy_content-a.ensures (sym c.is_left.ensures ∙ c.if-is_left.false)
 
 pub returns : goal.returns
 returns c = search (copied_all, rules)

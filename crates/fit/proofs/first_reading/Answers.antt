@@ -1,5 +1,5 @@
 -- first_reading answers the chosen reading and the numbers of places and bytes: the law of the search, at the root, with no place dead.
-use Rattle.std.proofs.Common.{refl}
+use Rattle.std.proofs.Common.{arith}
 use Rattle.fit.proofs.Taken.{places_fit, clear_fits, asks_root, none_dead_front, front_short}
 use Rattle.fit.proofs.Choose.{searched_by-brackets, found_there, no_call, is_call}
 use Rattle.fit.proofs.first_reading.Goals as goal
@@ -10,18 +10,18 @@ overflow_mul-count c = record { fits = places_fit c.requires }
 pub clear-requires : goal.clear-requires
 clear-requires c = clear_fits c.requires
 
-pub search-node-requires : goal.search-node-requires
-search-node-requires c = asks_root c.requires c.clear.ensures c.clear.auto.row refl
+pub search-requires : goal.search-requires
+search-requires c = asks_root c.requires c.clear.ensures c.clear.auto.row
 
-pub returns-then-node-eq0 : goal.returns-then-node-eq0
-returns-then-node-eq0 c =
-    let found = searched_by-brackets c.args.m c.search-node.ensures in
-    no_call found c.requires refl (none_dead_front c.requires c.clear.ensures) (front_short c.requires) c.if-node-eq0.true c.no_choice.ensures
+pub returns-in_default : goal.returns-in_default
+returns-in_default c =
+    no_call (searched_by-brackets c.args.m c.search.ensures) c.requires (none_dead_front c.requires c.clear.ensures) (front_short c.requires) c.in_default.is
+    c.choose.ensures (omega (arith, c.choose.type_inv)) (omega (arith, c.choose.type_inv))
 
-pub node_at-n-requires : goal.node_at-n-requires
-node_at-n-requires c = found_there (searched_by-brackets c.args.m c.search-node.ensures) c.requires
+pub bounds-nodes-end : goal.bounds-nodes-end
+bounds-nodes-end c = found_there (searched_by-brackets c.args.m c.search.ensures) c.requires c.in-Some.is
 
 pub returns : goal.returns
 returns c =
-    let found = searched_by-brackets c.args.m c.search-node.ensures in
-    is_call found c.requires refl (none_dead_front c.requires c.clear.ensures) (front_short c.requires) c.if-node-eq0.false c.node_at-n.ensures c.template_of.ensures c.make_choice.ensures
+    is_call (searched_by-brackets c.args.m c.search.ensures) c.requires (none_dead_front c.requires c.clear.ensures) (front_short c.requires) c.in-Some.is
+    c.from.ensures c.read_pieces-reading.ensures (omega (arith, c.read_pieces-reading.type_inv)) c.choose-2.ensures (omega (arith, c.choose-2.type_inv)) (omega (arith, c.choose-2.type_inv))

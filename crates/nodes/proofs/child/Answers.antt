@@ -1,12 +1,20 @@
--- child finds the child with the key by halving: the middle is it, or one half is left; an empty part has none.
-use Rattle.nodes.proofs.Halving.{found_here, half_left, none_left}
+-- child finds the child with the key by a binary search among the children.
+use Rattle.std.proofs.Common.{◌∙◌, sym}
+use borrow.Author.Rules.{rules}
+use Rattle.std.proofs.lemmas.List.Sorted.{answers_always}
+use Rattle.nodes.proofs.Looks.{child_searched, child_is}
 use Rattle.nodes.proofs.child.Goals as goal
 
-pub returns-then-there-key : goal.returns-then-there-key
-returns-then-there-key c = found_here c.requires c.loop-low.invariant c.middle_of-mid.ensures c.node_at.ensures c.key_of-there.ensures c.if-there-key.true
-
-pub loop-low-preserved : goal.loop-low-preserved
-loop-low-preserved c = half_left c.requires c.loop-low.invariant c.middle_of-mid.ensures c.node_at.ensures c.key_of-there.ensures c.if-there-key.false c.low_after-low.ensures c.high_after-high.ensures
+pub returns-in_err-i : goal.returns-in_err-i
+returns-in_err-i c =
+    let facts = c.binary_search_by_key.ensures in
+    let by_key = facts.position (λ n. n.element) (answers_always _ _ _ (λ f a r g called. search rules)) in
+    let found = child_searched c.args.key c.requires c.first_child-first.ensures c.end_of_children-end.ensures _ facts.bound by_key in
+    rw c.from_residual.ensures (child_is _ _ _ found (sym c.ok.ensures.value ∙ c.in_err-i.was))
 
 pub returns : goal.returns
-returns c = none_left c.requires c.loop-low.invariant c.loop-low-test.false
+returns c =
+    let facts = c.binary_search_by_key.ensures in
+    let by_key = facts.position (λ n. n.element) (answers_always _ _ _ (λ f a r g called. search rules)) in
+    let found = child_searched c.args.key c.requires c.first_child-first.ensures c.end_of_children-end.ensures _ facts.bound by_key in
+    child_is _ _ _ found (sym c.ok.ensures.value ∙ c.in_ok-i.was)

@@ -1,14 +1,14 @@
 -- add_children gives a node its children; an end has none.
 use borrow.Author.Rules.{rules}
-use Rattle.tree.proofs.Filling.{is-end, link_end, link_full}
+use Rattle.tree.proofs.Filling.{link_end, link_full}
 use Rattle.tree.proofs.add_children.Goals as goal
 
-pub returns-then-has_element : goal.returns-then-has_element
-returns-then-has_element c =
+pub returns-then-nodes-i-eq-END_KEY : goal.returns-then-nodes-i-eq-END_KEY
+returns-then-nodes-i-eq-END_KEY c =
     let r = c.requires in
     record {
       within = r.grown.within;
-      made = link_end _ _ _ r.grown.made r.next (search rules) (is-end c.args.nodes.now c.args.i c.node_at.ensures c.has_element.ensures c.if-has_element.true) c.link_children.ensures;
+      made = link_end _ _ _ r.grown.made r.next (search rules) c.if-nodes-i-eq-END_KEY.true c.link_children.ensures;
     }
 
 pub returns : goal.returns

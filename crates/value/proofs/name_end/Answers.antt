@@ -1,5 +1,4 @@
--- name_end finds the end of the name. The loop keeps `Naming`: the name from i on ends where the one from `at` on does. The measure is
--- the length of the text less i.
+-- name_end finds the end of the name. The loop keeps `Naming`: the name from i on ends where the one from `at` on does.
 use Rattle.value.proofs.Names.{naming_none, naming_mark, naming_more, naming_ended}
 use Rattle.value.proofs.name_end.Goals as goal
 
@@ -13,4 +12,4 @@ pub loop-i-preserved : goal.loop-i-preserved
 loop-i-preserved c = search naming_more
 
 pub returns : goal.returns
-returns c = search naming_ended
+returns c = naming_ended c.loop-i.invariant c.loop-i-test.false
