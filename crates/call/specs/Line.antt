@@ -1,21 +1,17 @@
--- What the functions over a line that is built answer.
-use Rattle.std.specs.Prelude.{◌≡◌, ℕ, ◌≤◌, length, Result, Ok, Err, IfOk}
+-- What a part added to a line that is built comes to.
+use Rattle.std.specs.Prelude.{◌≡◌, Result, Ok, Err}
 use Rattle.faults.specs.declared.RunFault.{RunFault}
 use Rattle.faults.specs.Numbers.{run_number}
-use Rattle.model.specs.Limits.{line_most}
-use Rattle.model.specs.Text.{Bytes, part}
+use Rattle.model.specs.Text.{Bytes}
 use Rattle.model.specs.Machine.{Shared, Building, built, failed, add}
+use Rattle.call.specs.declared.Text.{Text}
+use Rattle.call.specs.Call.{text_of}
 
--- a line has room for all of its bytes, and n of them are built
-abbrev pub HasBuilt : Bytes → ℕ → Type 0
-HasBuilt line n = (n ≤ line_most) × (length line ≡ line_most)
-
--- the line that an answer holds, or the number of its fault
-unfoldable pub line_step : Bytes → Result ℕ RunFault → Shared → Building
-line_step line (Ok n) w = built (part line 0 n) w
+-- the line that is built, or the number of the fault that ends the run
+unfoldable pub line_step : Bytes → Result Unit RunFault → Shared → Building
+line_step line (Ok _) w = built line w
 line_step line (Err e) w = failed (run_number e) w
 
--- a part is added to the first n bytes of a line
-pub record Appends (line : Bytes) (n : ℕ) (s line' : Bytes) (r : Result ℕ RunFault) : Type 0 where
-  pub is : (w : Shared) → add (part line 0 n) s w ≡ line_step line' r w
-  pub short : IfOk r (λ k. k ≤ line_most)
+-- a part comes at the end of a line, which stays as it was where there is no room
+pub record Appends (x : Text) (s : Bytes) (r : Result Unit RunFault) (y : Text) : Type 0 where
+  pub is : (w : Shared) → add (text_of x) s w ≡ line_step (text_of y) r w

@@ -1,16 +1,14 @@
 // An open call, and the line that its code builds (document 01, "A call's code").
-// Asked is that a parameter's number is 1 to 9, that the pieces that a call is opened with lie in their line, that what becomes a parameter
-// or an iteration's text has at most 200 bytes, and that a line that is built has 200 (`HasBuilt`). What a call says is free: a length
-// counts as at most 200.
+// Asked is that a parameter's number is 1 to 9, that the pieces that a call is opened with lie in their line, and that what becomes a
+// parameter or an iteration's text has at most 200 bytes. What a call says is free: a length counts as at most 200.
 #![tactic(auto)]
 
 ghost use Rattle.std.specs.Prelude.{◌≡◌, ◌≤◌, ◌<◌, length};
 ghost use Rattle.call.specs.Call.{Holds, text_of};
 ghost use Rattle.call.specs.Params.{PiecesInside, Opens, Reads, Sets, Delimiter, Delimits, Moves, Enters};
-ghost use Rattle.call.specs.Line.{Appends, HasBuilt};
+ghost use Rattle.call.specs.Line.{Appends};
 ghost use Rattle.model.specs.Limits.{line_most, nesting_most};
 
-use buffer::copy;
 use faults::RunFault;
 use model::{LINE_MOST, NESTING_MOST, PLACEHOLDERS_MOST};
 
@@ -53,6 +51,20 @@ impl Text {
         let n = bytes.len();
         self.bytes[..n].copy_from_slice(bytes);
         self.len = n;
+    }
+
+    // A part comes at its end, or it stays as it was where that would pass 200 bytes.
+    pub fn append(&mut self, part: &[u8]) -> Result<(), RunFault>
+        ensures { Appends self.old part.now result self.new }
+    {
+        let n = self.as_bytes().len();
+        if LINE_MOST - n < part.len() {
+            return Err(RunFault::LongLine);
+        }
+        let end = n + part.len();
+        self.bytes[n..end].copy_from_slice(part);
+        self.len = end;
+        Ok(())
     }
 }
 
@@ -205,16 +217,4 @@ impl Call {
         };
         self.depth += 1;
     }
-}
-
-// A part comes at the end of a line that is built, of which n bytes are there.
-pub fn append(line: &mut [u8], n: usize, part: &[u8]) -> Result<usize, RunFault>
-    requires { HasBuilt line.old n }
-    ensures { Appends line.old n part.now line.new result }
-{
-    if LINE_MOST - n < part.len() {
-        return Err(RunFault::LongLine);
-    }
-    copy(line, n, part);
-    Ok(n + part.len())
 }

@@ -1,6 +1,6 @@
 -- append adds a part to the line, or leaves it as it is.
 use Rattle.call.proofs.Line.{appends, too_long}
-use Rattle.call.proofs.append.Goals as goal
+use Rattle.call.proofs.Text.append.Goals as goal
 
 pub returns-then-n-part : goal.returns-then-n-part
 returns-then-n-part c = search too_long
