@@ -1,4 +1,4 @@
--- What a run's state by value, with the lent outputs and memory, stands for in the expansion.
+-- What a run's state, with the lent outputs, stands for in the expansion.
 use Rattle.std.proofs.Math.Option.{Option}
 use Rattle.std.specs.Prelude.{List, ℕ, ◌+◌, ◌-◌, ◌≤◌, length, take, drop}
 use Rattle.model.specs.Limits.{fuel_most}
@@ -6,29 +6,27 @@ use Rattle.model.specs.Text.{Bytes, lines}
 use Rattle.model.specs.Report.{Tally}
 use Rattle.model.specs.Machine as Machine
 use Rattle.model.specs.Machine.{Frame, Outputs, outputs, Shared}
-use Rattle.store.specs.declared.Index.{Index}
-use Rattle.store.specs.Memory.{held, Kept}
+use Rattle.model.specs.Store.{Store}
 use Rattle.state.specs.declared.State.{State}
 
 -- what every call shares
-abbrev pub shared_of : State → Outputs → (memory : Bytes) → Shared
-shared_of s o memory = record { symbols = s.symbols; store = held s.index.count memory; output = outputs (take s.written o.first) (take s.second o.second) }
+abbrev pub shared_of : State → Outputs → Shared
+shared_of s o = record { symbols = s.symbols; store = s.store; output = outputs (take s.written o.first) (take s.second o.second) }
 
 -- the expansion's state, with a line that is perhaps to be offered, the open calls, and what was decided of the lines offered
-abbrev pub state_of : Bytes → Option Bytes → List Frame → Tally → State → Outputs → (memory : Bytes) → Machine.State
-state_of text pending frames y s o memory =
-    record { input = lines (drop s.at text); line = s.line; pending = pending; frames = frames; calls = s.calls; shared = shared_of s o memory; events = s.events; tally = y }
+abbrev pub state_of : Bytes → Option Bytes → List Frame → Tally → State → Outputs → Machine.State
+state_of text pending frames y s o =
+    record { input = lines (drop s.at text); line = s.line; pending = pending; frames = frames; calls = s.calls; shared = shared_of s o; events = s.events; tally = y }
 
 -- what every function of a run asks of its state
-pub record Sound (text : Bytes) (s : State) (o : Outputs) (memory : Bytes) : Type 0 where
+pub record Sound (text : Bytes) (s : State) (o : Outputs) : Type 0 where
   -- each line that is read has a byte at least, so that lines are never too many to be counted
   pub within : s.at ≤ length text
   pub lines : s.line + length text ≤ fuel_most + s.at
   pub written : s.written ≤ length o.first
   pub second : s.second ≤ length o.second
-  pub kept : Kept memory s.index
   -- each number of ed2 has its name
-  pub symbols : s.symbols ≤ s.index.count
+  pub symbols : s.symbols ≤ length s.store
   pub calls : s.calls ≤ s.events
   pub total : s.events + s.fuel ≤ fuel_most
 
@@ -37,11 +35,11 @@ pub record Sound (text : Bytes) (s : State) (o : Outputs) (memory : Bytes) : Typ
 abbrev pub counted_event : State → State
 counted_event s = record s { events = s.events + 1; fuel = s.fuel - 1 }
 
-abbrev pub with_index : State → Index → State
-with_index s x = record s { index = x }
+abbrev pub with_store : State → Store → State
+with_store s x = record s { store = x }
 
-abbrev pub with_symbol : State → Index → State
-with_symbol s x = record s { symbols = s.symbols + 1; index = x }
+abbrev pub with_symbol : State → Store → State
+with_symbol s x = record s { symbols = s.symbols + 1; store = x }
 
 abbrev pub with_written : State → (first second : ℕ) → State
 with_written s n k = record s { written = n; second = k }

@@ -1,14 +1,14 @@
-// What a run carries from one event to the next, by value. The outputs and memory are lent slices beside it.
+// What a run carries from one event to the next. The outputs are lent slices beside it.
 // An event asks that fuel is left, and what is counted has to be at most 1,000,000, so that no sum is too large. Nothing else is asked.
 #![tactic(auto)]
 
 ghost use Rattle.std.specs.Prelude.{◌≡◌, ◌+◌, ◌≤◌, ◌<◌};
-ghost use Rattle.state.specs.State.{counted_event, with_index, with_symbol, with_written, with_input, with_call};
+ghost use Rattle.state.specs.State.{counted_event, with_input, with_call};
 ghost use Rattle.model.specs.Limits.{fuel_most};
 
-use store::Index;
+use store::Store;
 
-#[derive(Clone, Copy)]
+#[derive(Drop)]
 pub struct State {
     // where the input left starts in the text
     pub at: usize,
@@ -18,8 +18,8 @@ pub struct State {
     pub calls: usize,
     // the last number of ed2
     pub symbols: usize,
-    // of the memory
-    pub index: Index,
+    // the names that are stored, with their texts
+    pub store: Store,
     // how many bytes of the output are written
     pub written: usize,
     // and how many of the second output
@@ -30,62 +30,27 @@ pub struct State {
 
 impl State {
     // An event is counted.
-    pub fn count_event(self) -> State
-        requires { (0 < self.fuel) × (self.events + self.fuel ≤ fuel_most) }
-        ensures { result ≡ counted_event self }
+    pub fn count_event(&mut self)
+        requires { (0 < self.old.fuel) × (self.old.events + self.old.fuel ≤ fuel_most) }
+        ensures { self.new ≡ counted_event self.old }
     {
-        State {
-            events: self.events + 1,
-            fuel: self.fuel - 1,
-            ..self
-        }
-    }
-
-    // Memory has another index.
-    pub fn set_index(self, index: Index) -> State
-        ensures { result ≡ with_index self index }
-    {
-        State { index, ..self }
-    }
-
-    // A number of ed2 is stored.
-    pub fn count_symbol(self, index: Index) -> State
-        requires { self.symbols ≤ fuel_most }
-        ensures { result ≡ with_symbol self index }
-    {
-        State {
-            symbols: self.symbols + 1,
-            index,
-            ..self
-        }
-    }
-
-    // So many bytes of the outputs are written.
-    pub fn set_written(self, written: usize, second: usize) -> State
-        ensures { result ≡ with_written self written second }
-    {
-        State {
-            written,
-            second,
-            ..self
-        }
+        self.events += 1;
+        self.fuel -= 1;
     }
 
     // The input is read up to a place of the text.
-    pub fn set_input(self, at: usize, line: usize) -> State
-        ensures { result ≡ with_input self at line }
+    pub fn set_input(&mut self, at: usize, line: usize)
+        ensures { self.new ≡ with_input self.old at line }
     {
-        State { at, line, ..self }
+        self.at = at;
+        self.line = line;
     }
 
     // A call is opened.
-    pub fn add_call(self) -> State
-        requires { self.calls ≤ fuel_most }
-        ensures { result ≡ with_call self }
+    pub fn add_call(&mut self)
+        requires { self.old.calls ≤ fuel_most }
+        ensures { self.new ≡ with_call self.old }
     {
-        State {
-            calls: self.calls + 1,
-            ..self
-        }
+        self.calls += 1;
     }
 }

@@ -3,3 +3,4 @@ pub mod Memory
 pub mod Seek
 pub mod Put
 pub mod List
+pub mod Names

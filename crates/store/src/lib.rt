@@ -3,6 +3,8 @@
 // the order in which their names were first stored, with nothing between them.
 #![tactic(auto)]
 
+mod names;
+
 ghost use Rattle.std.specs.Prelude.{◌≡◌, [], ◌+◌, ◌≤◌, ◌<◌, length, get_or, option_copied};
 ghost use Rattle.store.specs.Memory.{held, Kept, Holds};
 ghost use Rattle.store.specs.Seek.{EntryAt, Locates, SeeksName};
@@ -13,6 +15,7 @@ ghost use Rattle.faults.specs.declared.RunFault.TheVariants.{FullStore};
 
 use faults::RunFault;
 use model::{MEMORY_MOST, NAMES_MOST};
+pub use names::Store;
 
 // How many entries there are, and how many bytes they take.
 #[derive(Clone, Copy)]

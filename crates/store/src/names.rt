@@ -1,0 +1,69 @@
+// The store: names and the texts stored under them, as a list in the order in which the names were first stored.
+ghost use Rattle.std.specs.Prelude.{◌≡◌, [], ◌<◌, ◌≤◌, length, option_copied};
+ghost use Rattle.model.specs.Limits.{store_least};
+ghost use Rattle.store.specs.Names.{Names, GetsText, PutsText, ListsNames};
+
+use super::{Full, Index, empty, listing, put, seek};
+use model::STORE_LEAST;
+use std::marker::Model;
+
+// Entries stand at the front of its bytes.
+#[derive(Drop)]
+pub struct Store {
+    bytes: [u8; STORE_LEAST],
+    entries: Index,
+}
+
+impl Model for Store {
+    ghost use Rattle.store.specs.Names.{Names};
+    ghost use Rattle.store.specs.Memory.{held, Kept};
+
+    ghost Value = { Names };
+
+    ghost view = { λ s. held s.entries.count s.bytes };
+
+    ghost invariant = { λ s. Kept s.bytes s.entries };
+}
+
+impl Store {
+    // Nothing is stored.
+    pub fn new() -> Store
+        ensures { result ≡ [] }
+    {
+        let bytes = [0; STORE_LEAST];
+        let entries = empty(&bytes);
+        Store { bytes, entries }
+    }
+
+    // How many names are stored.
+    pub fn len(&self) -> usize
+        ensures { result ≡ length self.now }
+    {
+        self.entries.count
+    }
+
+    // The text that is stored under a name.
+    pub fn get(&self, name: &[u8]) -> Option<&[u8]>
+        ensures { GetsText self.now name.now (option_copied result) }
+    {
+        seek(&self.bytes, self.entries, name)
+    }
+
+    // The text is stored under the name, in place of the one before. Where there is no room, nothing changes.
+    pub fn put(&mut self, name: &[u8], text: &[u8]) -> Result<(), Full>
+        requires { (length name.now < 256) × (length text.now < 256) }
+        ensures { PutsText self.old name.now text.now result self.new }
+    {
+        self.entries = put(&mut self.bytes, self.entries, name, text)?;
+        Ok(())
+    }
+
+    // The listing, to the front of room: the names with a byte 0 between two, a byte 10, and each text with a byte 10 after it. The answer is
+    // its length.
+    pub fn list(&self, room: &mut [u8]) -> usize
+        requires { store_least ≤ length room.old }
+        ensures { ListsNames self.now room.old result room.new }
+    {
+        listing(&self.bytes, self.entries, room)
+    }
+}
