@@ -1,75 +1,58 @@
 // What the arguments of expand name: a text's file, then -4 and a file, then --report and a file, each or none.
 #![tactic(auto)]
 
-use source::{arg, asks_report, asks_second, is_option};
+ghost use Rattle.std.specs.Prelude.{◌<◌, IsTrue, IfSome};
+
+use source::{ARGUMENT_ROOM, Argument, arg, read_argument};
 use std::env::Env;
 
-// The arguments that name a text's file, the one for channel 4 and the one for the report, 0 where there is none; and whether that is what
-// the arguments say.
+// The arguments that name a text's file, the one for channel 4 and the one for the report.
 #[derive(Clone, Copy)]
 pub struct Names {
-    pub right: bool,
-    pub file: usize,
-    pub second: usize,
-    pub report: usize,
+    pub file: Option<usize>,
+    pub second: Option<usize>,
+    pub report: Option<usize>,
 }
 
-// ---- one argument; on Linux none is longer than 131,071 bytes
-
-// Whether argument i is no option.
-fn is_name(env: &impl Env, i: usize) -> bool {
-    let mut space = [0u8; 131072];
-    let n = arg(env, i, &mut space);
-    !is_option(&space[..n])
+// Whether argument i, of so many, says this.
+fn says(env: &impl Env, count: usize, i: usize, what: Argument) -> bool
+    ensures { IsTrue result → i < count }
+{
+    let mut space = [0u8; ARGUMENT_ROOM];
+    i < count && read_argument(arg(env, i, &mut space)) == what
 }
 
-// Whether it is -4.
-fn is_second(env: &impl Env, i: usize) -> bool {
-    let mut space = [0u8; 131072];
-    let n = arg(env, i, &mut space);
-    asks_second(&space[..n])
+// Argument i, if it is a name.
+fn find_name(env: &impl Env, count: usize, i: usize) -> Option<usize>
+    ensures { IfSome result (λ j. j < count) }
+{
+    says(env, count, i, Argument::Name).then_some(i)
 }
 
-// Whether it is --report.
-fn is_report(env: &impl Env, i: usize) -> bool {
-    let mut space = [0u8; 131072];
-    let n = arg(env, i, &mut space);
-    asks_report(&space[..n])
-}
-
-// ---- all of them
-
-fn make_names(right: bool, file: usize, second: usize, report: usize) -> Names {
-    Names {
-        right,
-        file,
-        second,
-        report,
+// The name behind argument i, if that is this option.
+fn find_option(env: &impl Env, count: usize, i: usize, option: Argument) -> Option<usize>
+    ensures { IfSome result (λ j. j < count) }
+{
+    if says(env, count, i, option) {
+        return find_name(env, count, i + 1);
     }
-}
-
-// With an option as argument i and a name as argument j, and a text's file or none.
-fn find_option(env: &impl Env, right: bool, file: usize, i: usize, j: usize) -> Names {
-    if is_report(env, i) {
-        return make_names(right & is_name(env, j), file, 0, j);
-    }
-    make_names(right & (is_second(env, i) & is_name(env, j)), file, j, 0)
-}
-
-// Whether both options are there, each with a name behind it.
-fn has_both(env: &impl Env, i: usize, second: usize, j: usize, report: usize) -> bool {
-    (is_second(env, i) & is_name(env, second)) & (is_report(env, j) & is_name(env, report))
+    None
 }
 
 // With so many arguments, the program's own name among them: a text's file, then -4 and a file, then --report and a file, each or none.
-pub fn find_names(env: &impl Env, count: usize) -> Names {
-    match count {
-        0 | 1 => make_names(true, 0, 0, 0),
-        2 => make_names(is_name(env, 1), 1, 0, 0),
-        3 => find_option(env, true, 0, 1, 2),
-        4 => find_option(env, is_name(env, 1), 1, 2, 3),
-        5 => make_names(has_both(env, 1, 2, 3, 4), 0, 2, 4),
-        6 => make_names(is_name(env, 1) & has_both(env, 2, 3, 4, 5), 1, 3, 5),
-        _ => make_names(false, 0, 0, 0),
-    }
+pub fn find_names(env: &impl Env, count: usize) -> Option<Names> {
+    let file = find_name(env, count, 1);
+    let second = find_option(env, count, file.unwrap_or(0) + 1, Argument::Second);
+    let report = find_option(
+        env,
+        count,
+        second.or(file).unwrap_or(0) + 1,
+        Argument::Report,
+    );
+    let last = report.or(second).or(file).unwrap_or(0);
+    (count <= last + 1).then_some(Names {
+        file,
+        second,
+        report,
+    })
 }

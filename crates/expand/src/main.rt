@@ -7,242 +7,99 @@
 
 ghost use Rattle.std.specs.Prelude.{◌≡◌};
 ghost use Rattle.model.specs.Printed.{expand_prints, expand_writes, expand_reports};
+ghost use Rattle.expand.specs.Room.{room_for};
 
-use arguments::{Names, find_names};
+use arguments::find_names;
 use model::{REPORT_LEAST, TEXT_MOST};
 use printed::{EXPAND_ROOM, print_run};
-use source::{arg, arg_count, read_all, read_file, tell};
+use source::{Program, Trouble, arg_count, read_named_or_input, tell};
 use std::env::Env;
 use std::io::{Read, Write};
 use std::rt::Files;
-use targets::{Target, open_target, tell_unwritten, write_target};
+use targets::{Target, open_target, write_target};
 
-fn tell_use(errors: &mut impl Write) {
-    let _ = errors.write_all(
-        b"expand: give the file of a text, or nothing to expand standard input; then -4 and a file for channel 4, or nothing; then --report and a file for the usage report, or nothing\n",
-    );
-}
+const EXPAND: Program = Program {
+    name: b"expand: ",
+    usage: b"expand: give the file of a text, or nothing to expand standard input; then -4 and a file for channel 4, or nothing; then --report and a file for the usage report, or nothing\n",
+};
 
 // ---- what is written; the caller of each shows that it is that
 
 // What is printed for a text, with so many bytes of room for channel 4.
 fn write_printed(
     output: &mut impl Write,
-    errors: &mut impl Write,
     text: &[u8],
     room: usize,
     shown: &[u8],
-)
+) -> Result<(), Trouble>
     requires { shown.now ≡ expand_prints room text.now }
 {
-    if output.write_all(shown).is_err() {
-        tell(
-            errors,
-            b"expand: ",
-            b"standard output",
-            b" cannot be written\n",
-        );
-    }
+    output
+        .write_all(shown)
+        .map_err(|_| Trouble::UnwrittenOutput)
 }
 
-// What it has for channel 4.
+// What it has for channel 4, which has room only where there is a file for it.
 fn write_second<F: Write + Drop>(
-    env: &impl Env,
-    errors: &mut impl Write,
     text: &[u8],
     room: usize,
     shown: &[u8],
-    styles: Target<F>,
-) -> bool
-    requires { shown.now ≡ expand_writes room text.now }
+    styles: Option<Target<F>>,
+) -> Result<(), Trouble>
+    requires room { room ≡ room_for styles }
+    requires written { shown.now ≡ expand_writes room text.now }
 {
-    write_target(env, errors, b"expand: ", styles, shown)
+    write_target(styles, shown)
 }
 
 // Its usage report.
 fn write_report<F: Write + Drop>(
-    env: &impl Env,
-    errors: &mut impl Write,
     text: &[u8],
     room: usize,
     shown: &[u8],
-    uses: Target<F>,
-) -> bool
+    uses: Option<Target<F>>,
+) -> Result<(), Trouble>
     requires { shown.now ≡ expand_reports room text.now }
 {
-    write_target(env, errors, b"expand: ", uses, shown)
-}
-
-// All three. Nothing is printed before the files are written.
-fn write_run<F: Write + Drop>(
-    env: &impl Env,
-    output: &mut impl Write,
-    errors: &mut impl Write,
-    text: &[u8],
-    room: usize,
-    second: &[u8],
-    report: &[u8],
-    shown: &[u8],
-    styles: Target<F>,
-    uses: Target<F>,
-)
-    requires { (second.now ≡ expand_writes room text.now) × (report.now ≡ expand_reports room text.now) × (shown.now ≡ expand_prints room text.now) }
-{
-    if !write_second(env, errors, text, room, second, styles) {
-        return;
-    }
-    if !write_report(env, errors, text, room, report, uses) {
-        return;
-    }
-    write_printed(output, errors, text, room, shown);
+    write_target(uses, shown)
 }
 
 // ---- a text
 
-// With no room for channel 4, so that nothing which is written there is lost in silence.
-fn expand_alone<F: Write + Drop>(
-    env: &impl Env,
+// Nothing is printed before the files are written. Where there is no file for channel 4 it has no room, so that nothing which is written
+// there is lost in silence.
+fn expand_text<F: Write + Drop>(
     output: &mut impl Write,
-    errors: &mut impl Write,
     text: &[u8],
-    styles: Target<F>,
-    uses: Target<F>,
-) {
-    let mut out = [0u8; EXPAND_ROOM];
-    let mut second = [0u8; 0];
-    let mut report = [0u8; REPORT_LEAST];
-    let shown = print_run(text, &mut out, &mut second, &mut report);
-    let n = shown.printed;
-    let k = shown.second;
-    let j = shown.report;
-    write_run(
-        env,
-        output,
-        errors,
-        text,
-        0,
-        &second[0..k],
-        &report[0..j],
-        &out[0..n],
-        styles,
-        uses,
-    );
-}
-
-// With a file that is open for channel 4.
-fn expand_both<F: Write + Drop>(
-    env: &impl Env,
-    output: &mut impl Write,
-    errors: &mut impl Write,
-    text: &[u8],
-    styles: Target<F>,
-    uses: Target<F>,
-) {
+    styles: Option<Target<F>>,
+    uses: Option<Target<F>>,
+) -> Result<(), Trouble> {
     let mut out = [0u8; EXPAND_ROOM];
     let mut second = [0u8; TEXT_MOST];
     let mut report = [0u8; REPORT_LEAST];
-    let shown = print_run(text, &mut out, &mut second, &mut report);
-    let n = shown.printed;
-    let written = shown.second;
-    let j = shown.report;
-    write_run(
-        env,
-        output,
-        errors,
-        text,
-        TEXT_MOST,
-        &second[0..written],
-        &report[0..j],
-        &out[0..n],
-        styles,
-        uses,
-    );
+    let room = if styles.is_some() { TEXT_MOST } else { 0 };
+    let shown = print_run(text, &mut out, &mut second[..room], &mut report);
+    write_second(text, room, &second[..shown.second], styles)?;
+    write_report(text, room, &report[..shown.report], uses)?;
+    write_printed(output, text, room, &out[..shown.printed])
 }
 
-// Nothing is run before the files are open.
-fn expand_text<R: Env + Files>(
-    rt: &R,
-    output: &mut impl Write,
-    errors: &mut impl Write,
-    text: &[u8],
-    names: Names,
-) {
-    let styles = open_target(rt, names.second);
-    if !styles.right {
-        tell_unwritten(rt, errors, b"expand: ", &styles);
-        return;
-    }
-    let uses = open_target(rt, names.report);
-    if !uses.right {
-        tell_unwritten(rt, errors, b"expand: ", &uses);
-        return;
-    }
-    if styles.name == 0 {
-        expand_alone(rt, output, errors, text, styles, uses);
-        return;
-    }
-    expand_both(rt, output, errors, text, styles, uses);
-}
-
-// A byte past the limit is read too, so that a text that is too large is seen to be.
-fn expand_standard_input<R: Env + Files>(
+// A byte past the limit is read too, so that a text that is too large is seen to be. Nothing is run before the files are open.
+fn expand<R: Env + Files>(
     rt: &R,
     input: &mut impl Read,
     output: &mut impl Write,
-    errors: &mut impl Write,
-    names: Names,
-) {
-    let mut text = [0u8; 65537];
-    let got = read_all(input, &mut text);
-    if !got.ok {
-        tell(errors, b"expand: ", b"standard input", b" cannot be read\n");
-        return;
-    }
-    let n = got.length;
-    expand_text(rt, output, errors, &text[0..n], names);
-}
-
-// The same for a file.
-fn expand_file<R: Env + Files>(
-    rt: &R,
-    output: &mut impl Write,
-    errors: &mut impl Write,
-    name: &[u8],
-    names: Names,
-) {
-    let mut text = [0u8; 65537];
-    let got = read_file(rt, name, &mut text);
-    if !got.ok {
-        tell(errors, b"expand: ", name, b" cannot be read\n");
-        return;
-    }
-    let n = got.length;
-    expand_text(rt, output, errors, &text[0..n], names);
-}
-
-// The same for the file that an argument names; on Linux no argument is longer than 131,071 bytes.
-fn expand_argument<R: Env + Files>(
-    rt: &R,
-    output: &mut impl Write,
-    errors: &mut impl Write,
-    names: Names,
-) {
-    let mut space = [0u8; 131072];
-    let n = arg(rt, names.file, &mut space);
-    expand_file(rt, output, errors, &space[..n], names);
+) -> Result<(), Trouble> {
+    let names = find_names(rt, arg_count(rt)).ok_or(Trouble::Arguments)?;
+    let mut space = [0u8; 65537];
+    let text = read_named_or_input(rt, input, names.file, &mut space)?;
+    let styles = open_target(rt, names.second)?;
+    let uses = open_target(rt, names.report)?;
+    expand_text(output, text, styles, uses)
 }
 
 fn main(rt: HostRuntime) {
-    let mut output = rt.stdout();
-    let mut errors = rt.stderr();
-    let names = find_names(&rt, arg_count(&rt));
-    if !names.right {
-        tell_use(&mut errors);
-        return;
+    if let Err(trouble) = expand(&rt, &mut rt.stdin(), &mut rt.stdout()) {
+        tell(&rt, &mut rt.stderr(), &EXPAND, trouble);
     }
-    if names.file == 0 {
-        expand_standard_input(&rt, &mut rt.stdin(), &mut output, &mut errors, names);
-        return;
-    }
-    expand_argument(&rt, &mut output, &mut errors, names);
 }

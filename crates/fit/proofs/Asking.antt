@@ -6,6 +6,6 @@ use Rattle.model.specs.Text.{Bytes}
 use Rattle.nodes.specs.declared.Node.{Node}
 use Rattle.fit.specs.Chosen.{Fits, TreeAt}
 
-pub can_fit : {m : Marks} {row : List Node} {count : ℕ} {ts : List Bytes} {dead line : Bytes} {end : ℕ} → TreeAt m row count ts → end ≤ length line → end ≤ line_most → dead_least ≤ length dead
-    → Fits row count dead line end
-can_fit {m} {ts = ts} t high short room = record { stands = record { within = t.within; marks = m; templates = ts; tree = t.tree }; few = t.few; high = high; short = short; room = room }
+pub can_fit : {m : Marks} {row : List Node} {count : ℕ} {ts : List Bytes} {dead line : Bytes} → TreeAt m row count ts → length line ≤ line_most → dead_least ≤ length dead
+    → Fits row count dead line
+can_fit {m} {ts = ts} t short room = record { stands = record { within = t.within; marks = m; templates = ts; tree = t.tree }; few = t.few; short = short; room = room }

@@ -189,7 +189,7 @@ searched_by-brackets m {row} {line} {node} {at} {dead} {dead'} {notes} {notes'} 
 
 -- ---- in a row at whose front the tree stands
 
-module _ {m : Marks} {row : List Node} {line : Bytes} {o : Answered ℕ} {dead dead' : Bytes} {notes' : Notes} (done : SearchedIn m row line 0 0 dead dead' no_notes notes' o) {count : ℕ} {whole : Bytes} {dead0 : Bytes} {end : ℕ} (f : Fits row count dead0 whole end) where
+module _ {m : Marks} {row : List Node} {line : Bytes} {o : Answered ℕ} {dead dead' : Bytes} {notes' : Notes} (done : SearchedIn m row line 0 0 dead dead' no_notes notes' o) {count : ℕ} {dead0 : Bytes} (f : Fits row count dead0 line) where
   -- the search of the tree
   from-none : Outcomes (take count row) line 0 0 (suc (size_in (take count row) line 0 0)) (λ n. place_tried m (take count row) line 0 0 n)
       (record { dead = dead; dead' = dead'; notes = no_notes; notes' = notes' }) o

@@ -1,5 +1,5 @@
 -- A place taken up by its three steps in turn, and the search of a place: dead places are passed over, and places that lead nowhere become dead.
-use Rattle.std.proofs.Common.{◌≡◌, ℕ, zero, suc, ◌+◌, ◌*◌, ◌^◌, ◌<◌, ◌≤◌, Bool, true, false, ◌&&◌, eqb, List, [], ◌∷◌, length, take, drop, sym, refl, ap, subst, ◌∙◌, mul-le-mul_right, suc-mul, mul-le-mul, mul-le-mul_left, arith, length-append, length-take-le}
+use Rattle.std.proofs.Common.{◌≡◌, ℕ, zero, suc, ◌+◌, ◌*◌, ◌^◌, ◌<◌, ◌≤◌, Bool, true, false, ◌&&◌, eqb, List, [], ◌∷◌, length, take, drop, sym, refl, ap, subst, ◌∙◌, mul-le-mul_right, suc-mul, mul-le-mul, mul-le-mul_left, arith, length-append}
 use Rattle.std.specs.Prelude.{Option as Answered, Some, None, IsSome, IsNone}
 use mathlib.Core.Option.{Option, none, some}
 use Rattle.model.specs.Limits.{line_most, nodes_most}
@@ -226,38 +226,30 @@ product_fits node end at n e a = omega (arith, number_fits node end at n e a)
 
 -- ---- the root
 
-module _ {row : List Node} {count : ℕ} {dead line : Bytes} {end : ℕ} (f : Fits row count dead line end) where
+module _ {row : List Node} {count : ℕ} {dead line : Bytes} (f : Fits row count dead line) where
   -- the tree's places in the line have bits in the row
-  places_there : count * (end + 1) ≤ 411648
-  places_there = let u = mul-le-mul {n₁ = count} {m₁ = end + 1} {n₂ = 2048} {m₂ = 201} f.few (omega (arith, f.short)) in omega (arith, u)
+  places_there : count * (length line + 1) ≤ 411648
+  places_there = let u = mul-le-mul {n₁ = count} {m₁ = length line + 1} {n₂ = 2048} {m₂ = 201} f.few (omega (arith, f.short)) in omega (arith, u)
 
   -- so that all of them can be cleared
-  pub clear_fits : count * (end + 1) ≤ 8 * length dead
+  pub clear_fits : count * (length line + 1) ≤ 8 * length dead
   clear_fits = omega (arith, places_there, f.room)
 
   -- and counted
-  pub places_fit : count * (end + 1) < 2 ^ 64
+  pub places_fit : count * (length line + 1) < 2 ^ 64
   places_fit = omega (arith, places_there)
 
-  -- the line that is searched is short
-  pub front_short : length (take end line) ≤ 200
-  front_short = omega (arith, length-take-le end line f.high, f.short)
-
-  module _ {dead1 : Bytes} (h : ClearsBits dead dead1 (count * (end + 1))) where
+  module _ {dead1 : Bytes} (h : ClearsBits dead dead1 (count * (length line + 1))) where
     -- then none of them is dead
-    none_dead : HoldsDead count (suc end) dead1 []
+    pub none_dead : HoldsDead (length (take count row)) (suc (length line)) dead1 []
     unfolding is_in
     none_dead i p li lp =
-        let w : i * suc end ≡ i * (end + 1) = ap (λ (n : ℕ). i * n) (omega arith) in
-        h.none (i * suc end + p) (omega (arith, mul-le-mul_right {m = suc i} {n = count} (end + 1) li, suc-mul i (end + 1), w, lp))
+        let lt : i < count = omega (arith, front_long f.stands) in
+        let w : i * suc (length line) ≡ i * (length line + 1) = ap (λ (n : ℕ). i * n) (omega arith) in
+        h.none (i * suc (length line) + p) (omega (arith, mul-le-mul_right {m = suc i} {n = count} (length line + 1) lt, suc-mul i (length line + 1), w, lp))
 
-    -- and the search can start, in the line's front
-    pub asks_root : length dead1 ≡ length dead → Asks row dead1 (take end line) 0 0
+    -- and the search can start
+    pub asks_root : length dead1 ≡ length dead → Asks row dead1 line 0 0
     asks_root l =
-        let w : count * suc end ≡ count * (end + 1) = ap (λ (n : ℕ). count * n) (omega arith) in
-        let z : length (take end line) ≡ end = length-take-le end line f.high in
-        record { made = count; stands = f.stands; there = front_root f.stands; low = omega arith; few = f.few; short = omega (arith, z, f.short); room = rw z (omega (arith, clear_fits, l, w)) }
-
-    -- for the line that is searched, too
-    pub none_dead_front : HoldsDead (length (take count row)) (suc (length (take end line))) dead1 []
-    none_dead_front = rw (length-take-le end line f.high, front_long f.stands) none_dead
+        let w : count * suc (length line) ≡ count * (length line + 1) = ap (λ (n : ℕ). count * n) (omega arith) in
+        record { made = count; stands = f.stands; there = front_root f.stands; low = omega arith; few = f.few; short = f.short; room = omega (arith, clear_fits, l, w) }

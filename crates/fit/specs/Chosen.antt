@@ -22,12 +22,11 @@ reading_of ns template = record { template = template; starts = ns.starts; lens 
 abbrev pub choice_of : Notes → Option Reading → Choice
 choice_of ns r = record { reading = r; places = ns.places; bytes = ns.bytes }
 
--- what fitting the first `end` bytes of a line asks: a tree of `count` nodes stands in the row of nodes, and the row of dead places is long enough
-pub record Fits (row : List Node) (count : ℕ) (dead line : Bytes) (end : ℕ) : Type 0 where
+-- what fitting a line asks: a tree of `count` nodes stands in the row of nodes, and the row of dead places is long enough
+pub record Fits (row : List Node) (count : ℕ) (dead line : Bytes) : Type 0 where
   pub stands : Stands row count
   pub few : count ≤ nodes_most
-  pub high : end ≤ length line
-  pub short : end ≤ line_most
+  pub short : length line ≤ line_most
   pub room : dead_least ≤ length dead
 
 -- the first `count` nodes of the row are the tree of the templates ts, no two of which are equal, and the brackets differ

@@ -1,10 +1,10 @@
 // The first reading of a line by the templates (document 01, "Fitting a line"): a recursive search over node and position, which takes up
 // no place twice (document 02, ticket 3). A dead place, which was found to lead nowhere, is marked by its bit in a lent row.
-// first_reading asks that a tree stands at the front of the row of nodes, that the line's first `end` bytes are there, and that the lent row has a
-// bit for each place. The five searches call one another, and are proved together.
+// first_reading asks that a tree stands at the front of the row of nodes, that the line is short enough, and that the lent row has a bit
+// for each place. The five searches call one another, and are proved together.
 #![tactic(auto)]
 
-ghost use Rattle.std.specs.Prelude.{◌≡◌, ◌+◌, ◌*◌, ◌^◌, ◌<◌, ◌≤◌, length, take};
+ghost use Rattle.std.specs.Prelude.{◌≡◌, ◌+◌, ◌*◌, ◌^◌, ◌<◌, ◌≤◌, length};
 ghost use Rattle.model.specs.Limits.{line_most, nodes_most};
 ghost use Rattle.model.specs.Children.{element_of};
 ghost use Rattle.atom.specs.Atoms.{brackets};
@@ -236,20 +236,13 @@ fn search_atom(
     Some(end)
 }
 
-// The first of all readings of the first `end` bytes of a line by the templates of the tree, which has `count` nodes. At first no place of
-// the tree and the line is dead.
-pub fn first_reading(
-    m: Marks,
-    nodes: &[Node],
-    count: usize,
-    dead: &mut [u8],
-    line: &[u8],
-    end: usize,
-) -> Choice
-    requires { Fits nodes.now count dead.old line.now end }
-    ensures { Chooses m nodes.now count (take end line.now) result }
+// The first of all readings of a line by the templates of the tree, which has `count` nodes: the row of nodes is lent, and its length is the
+// lender's. At first no place of the tree and the line is dead.
+pub fn first_reading(m: Marks, nodes: &[Node], count: usize, dead: &mut [u8], line: &[u8]) -> Choice
+    requires { Fits nodes.now count dead.old line.now }
+    ensures { Chooses m nodes.now count line.now result }
 {
-    clear(dead, count * (end + 1));
+    clear(dead, count * (line.len() + 1));
     let mut notes = Notes {
         starts: [0; 9],
         lens: [0; 9],
@@ -261,7 +254,7 @@ pub fn first_reading(
         left: m.left,
         right: m.right,
         nodes,
-        line: &line[..end],
+        line,
     };
     let Some(end) = search(&task, dead, &mut notes, 0, 0) else {
         return notes.choose(None);

@@ -7,114 +7,69 @@ ghost use Rattle.std.specs.Prelude.{◌≡◌, ◌≤◌, length};
 ghost use Rattle.model.specs.Printed.{fit_prints};
 
 use printed::{FILE_MOST, FIT_ROOM, print_fits};
-use source::{arg, arg_count, read_file, tell};
+use source::{Program, Trouble, arg_count, read_named, tell};
 use std::env::Env;
 use std::io::Write;
 use std::rt::Files;
 
+const FIT_LINE: Program = Program {
+    name: b"fit_line: ",
+    usage: b"fit_line: give the file of a text and the file of the lines\n",
+};
+
 // Writes what is printed for a text and a file of lines; the caller shows that it is that.
-fn write_printed(output: &mut impl Write, text: &[u8], file: &[u8], shown: &[u8]) -> bool
+fn write_printed(
+    output: &mut impl Write,
+    text: &[u8],
+    file: &[u8],
+    shown: &[u8],
+) -> Result<(), Trouble>
     requires { shown.now ≡ fit_prints text.now file.now }
 {
-    output.write_all(shown).is_ok()
+    output
+        .write_all(shown)
+        .map_err(|_| Trouble::UnwrittenOutput)
 }
 
 // Fits the lines in room that is lent.
 fn fit_lines(
     output: &mut impl Write,
-    errors: &mut impl Write,
     text: &[u8],
     file: &[u8],
     out: &mut [u8],
-)
+) -> Result<(), Trouble>
     requires file_len_bound { length file.now ≤ 65536 }
     requires in_bounds { 3342387 ≤ length out.old }
 {
     let n = print_fits(text, file, out);
-    if !write_printed(output, text, file, &out[0..n]) {
-        tell(
-            errors,
-            b"fit_line: ",
-            b"standard output",
-            b" cannot be written\n",
-        );
-    }
+    write_printed(output, text, file, &out[..n])
 }
 
-fn lend_room(output: &mut impl Write, errors: &mut impl Write, text: &[u8], file: &[u8])
+fn lend_room(output: &mut impl Write, text: &[u8], file: &[u8]) -> Result<(), Trouble>
     requires { length file.now ≤ 65536 }
 {
     let mut out = [0u8; FIT_ROOM];
-    fit_lines(output, errors, text, file, &mut out);
+    fit_lines(output, text, file, &mut out)
 }
 
-// The lines of the file with this name. A byte past the limit is read too, so that a file that is too large is seen to be.
-fn fit_file(
-    files: &impl Files,
-    output: &mut impl Write,
-    errors: &mut impl Write,
-    text: &[u8],
-    name: &[u8],
-) {
-    let mut file = [0u8; 65537];
-    let got = read_file(files, name, &mut file);
-    if !got.ok {
-        tell(errors, b"fit_line: ", name, b" cannot be read\n");
-        return;
+// The first argument names the text, the second the file of lines. Of each a byte past the limit is read too, so that one that is too large
+// is seen to be.
+fn fit_files<R: Env + Files>(rt: &R, output: &mut impl Write) -> Result<(), Trouble> {
+    if arg_count(rt) != 3 {
+        return Err(Trouble::Arguments);
     }
-    let n = got.length;
-    if FILE_MOST < n {
-        tell(
-            errors,
-            b"fit_line: ",
-            name,
-            b" has more than 65,536 bytes\n",
-        );
-        return;
+    let mut space = [0u8; 65537];
+    let mut lines = [0u8; 65537];
+    let text = read_named(rt, 1, &mut space)?;
+    let file = read_named(rt, 2, &mut lines)?;
+    if FILE_MOST < file.len() {
+        return Err(Trouble::LargeFile(2));
     }
-    lend_room(output, errors, text, &file[0..n]);
-}
-
-// The file of lines is the second argument; on Linux no argument is longer than 131,071 bytes.
-fn fit_second<R: Env + Files>(
-    rt: &R,
-    output: &mut impl Write,
-    errors: &mut impl Write,
-    text: &[u8],
-) {
-    let mut space = [0u8; 131072];
-    let n = arg(rt, 2, &mut space);
-    fit_file(rt, output, errors, text, &space[..n]);
-}
-
-// The text of the file with this name. A byte past the limit is read too, so that a text that is too large is seen to be.
-fn fit_named<R: Env + Files>(
-    rt: &R,
-    output: &mut impl Write,
-    errors: &mut impl Write,
-    name: &[u8],
-) {
-    let mut text = [0u8; 65537];
-    let got = read_file(rt, name, &mut text);
-    if !got.ok {
-        tell(errors, b"fit_line: ", name, b" cannot be read\n");
-        return;
-    }
-    let n = got.length;
-    fit_second(rt, output, errors, &text[0..n]);
-}
-
-fn tell_use(errors: &mut impl Write) {
-    let _ = errors.write_all(b"fit_line: give the file of a text and the file of the lines\n");
+    lend_room(output, text, file)
 }
 
 fn main(rt: HostRuntime) {
-    let mut errors = rt.stderr();
-    if arg_count(&rt) != 3 {
-        tell_use(&mut errors);
-        return;
+    if let Err(trouble) = fit_files(&rt, &mut rt.stdout()) {
+        tell(&rt, &mut rt.stderr(), &FIT_LINE, trouble);
     }
-    let mut space = [0u8; 131072];
-    let n = arg(&rt, 1, &mut space);
-    fit_named(&rt, &mut rt.stdout(), &mut errors, &space[..n]);
 }

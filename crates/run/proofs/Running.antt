@@ -9,7 +9,8 @@ use lib.Seq.{length-take-le}
 use Rattle.model.specs.declared.Ran.{Ran}
 use Rattle.model.specs.Text.{Bytes}
 use Rattle.model.specs.Store.{listing}
-use Rattle.model.specs.Load.{Macro, Loaded, load}
+use Rattle.model.specs.Load as Load
+use Rattle.model.specs.Load.{Macro, load}
 use Rattle.model.specs.Report.{report_rows, report_bytes}
 use Rattle.model.specs.Machine.{rooms, outputs, Next, running, after, no_output, initial, Result, outcome, no_run, run}
 use Rattle.model.specs.Results.{ran_as}
@@ -22,16 +23,20 @@ use Rattle.store.specs.Memory.{held, Holds}
 use Rattle.store.specs.List.{Lists}
 use Rattle.state.specs.declared.State.{State}
 use Rattle.state.specs.State.{state_of, Sound}
-use Rattle.load.specs.declared.Loading.{Loading}
+use Rattle.faults.specs.Numbers.{load_number}
+use Rattle.load.specs.declared.Loaded.{Loaded}
+use Rattle.load.specs.declared.Refused.{Refused}
+use Rattle.std.specs.Prelude as Prelude
+use Rattle.std.specs.Prelude.{Err}
 use Rattle.macros.specs.Table.{HasBodies}
-use Rattle.macros.proofs.Table.{macros_in_length, macros_in_at}
+use Rattle.macros.proofs.Entries.{macros_in_length, macros_in_at}
 use Rattle.load.specs.Answer.{loaded_of}
-use Rattle.load.proofs.Answer.{loads_loaded, loads_refused}
 use Rattle.usage.specs.Counts.{tally_of, Counts, ReadyToReport, PrintsReport}
 use Rattle.usage.proofs.Counts.{counts_none, counts_start, counts_few}
-use Rattle.matching.specs.Book.{Prepared, tally_in}
-use Rattle.prepare.specs.declared.Tables.{Tables}
-use Rattle.prepare.specs.Prepares.{Prepares}
+use Rattle.matching.specs.Book as Book
+use Rattle.matching.specs.Book.{tally_in}
+use Rattle.prepare.specs.declared.Prepared.{Prepared}
+use Rattle.prepare.specs.Prepares.{IsPrepared, Prepares}
 use Rattle.answer.specs.declared.Answer.{Answer}
 use Rattle.answer.specs.Answers.{turn, end_number, result_after}
 use Rattle.answer.specs.Kept.{Extends}
@@ -72,23 +77,24 @@ unfolding ran_as no_output
 refused_as e f = λ i. record { number = e i; line = f i; events = 0; output = 0; second = 0; store = 0; report = 0 }
 
 -- a text that is refused
-pub refused_runs : {text : Bytes} {row : List Node} {t : Tables} (fuel : ℕ) {output second store report : Bytes} {r : Ran} → Prepares text row t → ¬ (t.loading.number ≡ 0)
-    → r ≡ ran_as (no_run t.loading.number t.loading.line) → Runs (run fuel (rooms (length output) (length second)) (load text)) output second store report r output second store report
+pub refused_runs : (text : Bytes) (row : List Node) {t : Prelude.Result Prepared Refused} {f : Refused} (fuel : ℕ) {output second store report : Bytes} {k : ℕ} {r : Ran} → Prepares text row t → t ≡ Err f
+    → k ≡ load_number f.fault → r ≡ ran_as (no_run k f.line) → Runs (run fuel (rooms (length output) (length second)) (load text)) output second store report r output second store report
 unfolding run
-refused_runs fuel {output = output} {second = second} p z e = same_runs (ap (run fuel (rooms (length output) (length second))) (sym (loads_refused p.all z))) (refuses e)
+refused_runs text row {f = f} fuel {output = output} {second = second} p z n e =
+    same_runs (ap (run fuel (rooms (length output) (length second))) (sym (rw z at p))) (refuses (e ∙ ap (λ (k : ℕ). ran_as (no_run k f.line)) n))
 
 -- ---- a text that is prepared is ready for its expansion
 
-pub ready : {text : Bytes} {row : List Node} {t : Tables} {bodies : List ℕ} → Prepares text row t → t.loading.number ≡ 0 → HasBodies t.table bodies → ReadyToRun text row bodies t
-ready {text} {row} {t} p z b =
-    let l = t.loading in
-    let h = p.all in
-    let inside = h.inside z in
-    let q = p.has_tree z in
+pub ready : {text : Bytes} {row : List Node} {t : Prepared} {bodies : List ℕ} → IsPrepared text row t → HasBodies t.table bodies → ReadyToRun text row bodies t
+ready {text} {row} {t} p b =
+    let l = t.loaded in
+    let h = p.loads in
+    let inside = h.sound.inside in
+    let q = p.has_tree in
     let count = macros_in_length l.marks text t.table l.count in
     let at = macros_in_at l.marks text t.table l.count in
     record {
-      loads = loads_loaded h z;
+      loads = h.is;
       book = record {
         marks = refl;
         short = q.short;
@@ -99,11 +105,10 @@ ready {text} {row} {t} p z b =
         body = λ k. λ lt. rw (b.same k (omega (arith, inside.entries.few))) (ap (λ x. x.body) (at k (omega arith)));
         nested = q.nested;
       };
-      whole = inside.entries.whole;
       few = inside.entries.few;
-      lines = λ k u. subst (λ (x : Macro). x.line ≤ 65536) (at k u) (macro_line text _ (loads_loaded h z) k);
-      at = h.input;
-      line = omega (arith, h.read z, h.input, q.short);
+      lines = λ k u. subst (λ (x : Macro). x.line ≤ 65536) (at k u) (macro_line text _ h.is k);
+      at = h.sound.input;
+      line = omega (arith, h.sound.read, h.sound.input, q.short);
     }
 
 -- ---- the expansion of a text that is ready
@@ -123,15 +128,15 @@ extended : {o : Bytes} {w : ℕ} {o' : Bytes} {w' : ℕ} → Extends o w o' w' �
 extended {o} {w} {o'} {w'} e =
     sym (take-append-drop w' o') ∙ ap (λ (z : Bytes). take w' o' ++ z) e.rest ∙ ap (λ (n : ℕ). take w' o' ++ drop n o) (sym (length-take-le w' o' (omega (arith, e.long, e.fits))))
 
-module _ {text : Bytes} {row : List Node} {bodies : List ℕ} {t : Tables} (y : ReadyToRun text row bodies t) where
-  abbrev l : Loading
-  l = t.loading
+module _ {text : Bytes} {row : List Node} {bodies : List ℕ} {t : Prepared} (y : ReadyToRun text row bodies t) where
+  abbrev l : Loaded
+  l = t.loaded
 
   -- the loaded text
-  abbrev u : Loaded
-  u = loaded_of text t.table t.loading
+  abbrev u : Load.Loaded
+  u = loaded_of text t.table t.loaded
 
-  pub prepared : Prepared l.marks text row l.nodes bodies
+  pub prepared : Book.Prepared l.marks text row l.nodes bodies
   prepared = record { table = u; book = y.book }
 
   -- how many macros it has
@@ -140,7 +145,7 @@ module _ {text : Bytes} {row : List Node} {bodies : List ℕ} {t : Tables} (y : 
 
   -- what the report is printed from
   pub report_ready : {counts : List ℕ} {fuel : ℕ} {report : Bytes} → Counts counts fuel → 2048 ≤ length report → ReadyToReport t.table l.count counts report
-  report_ready h room = record { whole = y.whole; few = y.few; lines = y.lines; long = h.long; counted = counts_few h; room = room }
+  report_ready h room = record { few = y.few; lines = y.lines; long = h.long; counted = counts_few h; room = room }
 
   module _ {x : Index} {fuel : ℕ} {s : State} (is : s ≡ start_of l x fuel) {memory : Bytes} (h : Holds memory x []) where
     pub starts_sound : {output second : Bytes} → fuel ≤ 1000000 → Sound text s (outputs output second) memory

@@ -10,26 +10,25 @@ use Rattle.nodes.specs.declared.Node.{Node}
 use Rattle.store.specs.declared.Index.{Index}
 use Rattle.store.specs.Memory.{held}
 use Rattle.state.specs.declared.State.{State}
-use Rattle.macros.specs.Table.{table_size, line_in}
-use Rattle.load.specs.declared.Loading.{Loading}
+use Rattle.macros.specs.Table.{line_in}
+use Rattle.load.specs.declared.Loaded.{Loaded}
 use Rattle.load.specs.Answer.{loaded_of}
-use Rattle.prepare.specs.declared.Tables.{Tables}
+use Rattle.prepare.specs.declared.Prepared.{Prepared}
 use Rattle.matching.specs.Book.{Book}
 use Rattle.answer.specs.declared.Answer.{Answer}
 use Rattle.answer.specs.Answers.{turn, end_number}
 
 -- a text is loaded into t: the tree of its templates stands in the row, and `bodies` says where their bodies start
-pub record ReadyToRun (text : Bytes) (row : List Node) (bodies : List ℕ) (t : Tables) : Type 0 where
-  pub loads : load text ≡ loaded (loaded_of text t.table t.loading)
-  pub book : Book t.loading.marks text row t.loading.nodes bodies (loaded_of text t.table t.loading)
-  pub whole : table_size ≤ length t.table
-  pub few : t.loading.count ≤ macros_most
-  pub lines : (k : ℕ) → k < t.loading.count → line_in t.table k ≤ text_most
-  pub at : t.loading.input ≤ length text
-  pub line : t.loading.line ≤ text_most
+pub record ReadyToRun (text : Bytes) (row : List Node) (bodies : List ℕ) (t : Prepared) : Type 0 where
+  pub loads : load text ≡ loaded (loaded_of text t.table t.loaded)
+  pub book : Book t.loaded.marks text row t.loaded.nodes bodies (loaded_of text t.table t.loaded)
+  pub few : t.loaded.count ≤ macros_most
+  pub lines : (k : ℕ) → k < t.loaded.count → line_in t.table k ≤ text_most
+  pub at : t.loaded.input ≤ length text
+  pub line : t.loaded.line ≤ text_most
 
 -- the state before the first input line
-abbrev pub start_of : Loading → Index → ℕ → State
+abbrev pub start_of : Loaded → Index → ℕ → State
 start_of r x fuel = record { at = r.input; line = r.line; calls = 0; symbols = 0; index = x; written = 0; second = 0; events = 0; fuel = fuel }
 
 -- r is the answer of a run that ended with q, with a report of so many bytes, and what memory holds is listed in the store

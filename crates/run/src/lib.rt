@@ -19,10 +19,10 @@ ghost use Rattle.model.specs.Limits.{store_least, dead_least, report_least, fuel
 use answer::{Answer, end_number};
 use buffer::widen;
 use input::expand_input;
-use load::Loading;
-use model::{MACROS_MOST, Ran, STORE_LEAST};
+use load::{Loaded, Refused};
+use model::{Ran, STORE_LEAST};
 use nodes::Node;
-use prepare::{Tables, fetch_bodies};
+use prepare::Prepared;
 use state::State;
 use store::{Index, empty, listing};
 use usage::{COUNTS_SIZE, print_report};
@@ -43,12 +43,12 @@ pub fn refuse(number: usize, line: usize) -> Ran
 }
 
 // The state before the first input line, with the names that memory has.
-fn start(loading: Loading, index: Index, fuel: usize) -> State
-    ensures { result ≡ start_of loading index fuel }
+fn start(loaded: Loaded, index: Index, fuel: usize) -> State
+    ensures { result ≡ start_of loaded index fuel }
 {
     State {
-        at: loading.input,
-        line: loading.line,
+        at: loaded.input,
+        line: loaded.line,
         calls: 0,
         symbols: 0,
         index,
@@ -78,13 +78,11 @@ fn end(q: Answer, reported: usize, memory: &[u8], store: &mut [u8]) -> Ran
 }
 
 // Prints how often each template was chosen.
-fn report_uses(t: Tables, counts: &[usize], report: &mut [u8]) -> usize
-    requires { ReadyToReport t.table t.loading.count counts.now report.old }
-    ensures { PrintsReport t.table t.loading.count counts.now report.old result report.new }
+fn report_uses(t: &Prepared, counts: &[usize], report: &mut [u8]) -> usize
+    requires { ReadyToReport t.now.table t.now.loaded.count counts.now report.old }
+    ensures { PrintsReport t.now.table t.now.loaded.count counts.now report.old result report.new }
 {
-    let table = t.table;
-    let loading = t.loading;
-    print_report(&table, loading.count, counts, report)
+    print_report(&t.table, t.loaded.count, counts, report)
 }
 
 // The run of a text that is loaded. At first nothing is stored and nothing counted.
@@ -93,7 +91,7 @@ fn run_loaded(
     nodes: &[Node],
     dead: &mut [u8],
     bodies: &[usize],
-    t: Tables,
+    t: &Prepared,
     fuel: usize,
     output: &mut [u8],
     second: &mut [u8],
@@ -102,21 +100,21 @@ fn run_loaded(
     store: &mut [u8],
     report: &mut [u8],
 ) -> Ran
-    requires { ReadyToRun text.now nodes.now bodies.now t
+    requires { ReadyToRun text.now nodes.now bodies.now t.now
         × Holds memory.old index [] × (fuel ≤ fuel_most) × (store_least ≤ length store.old) × (dead_least ≤ length dead.old)
         × (report_least ≤ length report.old) }
     ensures { Runs (Machine.run fuel (rooms (length output.old) (length second.old)) (Load.load text.now))
         output.old second.old store.old report.old result
         output.new second.new store.new report.new }
 {
-    let loading = t.loading;
-    let s = start(loading, index, fuel);
+    let loaded = t.loaded;
+    let s = start(loaded, index, fuel);
     let mut counts = [0usize; COUNTS_SIZE];
     let q = expand_input(
-        loading.marks,
+        loaded.marks,
         text,
         nodes,
-        loading.nodes,
+        loaded.nodes,
         dead,
         bodies,
         output,
@@ -134,39 +132,39 @@ pub fn run_prepared(
     text: &[u8],
     nodes: &[Node],
     dead: &mut [u8],
-    t: Tables,
+    t: &Result<Prepared, Refused>,
     fuel: usize,
     output: &mut [u8],
     second: &mut [u8],
     store: &mut [u8],
     report: &mut [u8],
 ) -> Ran
-    requires { Prepares text.now nodes.now t × (fuel ≤ fuel_most) × (store_least ≤ length store.old) × (dead_least ≤ length dead.old)
+    requires { Prepares text.now nodes.now t.now × (fuel ≤ fuel_most) × (store_least ≤ length store.old) × (dead_least ≤ length dead.old)
         × (report_least ≤ length report.old) }
     ensures { Runs (Machine.run fuel (rooms (length output.old) (length second.old)) (Load.load text.now))
         output.old second.old store.old report.old result
         output.new second.new store.new report.new }
 {
-    let loading = t.loading;
-    if loading.number != 0 {
-        return refuse(loading.number, loading.line);
+    match t {
+        Err(refused) => refuse(refused.fault.into(), refused.line),
+        Ok(prepared) => {
+            let bodies = prepared.table.list_bodies();
+            let mut memory = [0u8; STORE_LEAST];
+            let index = empty(&memory);
+            run_loaded(
+                text,
+                nodes,
+                dead,
+                &bodies,
+                prepared,
+                fuel,
+                output,
+                second,
+                &mut memory,
+                index,
+                store,
+                report,
+            )
+        }
     }
-    let mut bodies = [0usize; MACROS_MOST];
-    fetch_bodies(t, &mut bodies);
-    let mut memory = [0u8; STORE_LEAST];
-    let index = empty(&memory);
-    run_loaded(
-        text,
-        nodes,
-        dead,
-        &bodies,
-        t,
-        fuel,
-        output,
-        second,
-        &mut memory,
-        index,
-        store,
-        report,
-    )
 }

@@ -1,19 +1,21 @@
 -- The first byte of an argument.
-use mathlib.Core.Path.{◌≡◌, refl}
-use mathlib.Core.Bool.{false}
+use mathlib.Core.Path.{◌≡◌, refl, ◌∙◌}
+use mathlib.Core.Bool.{Bool, true, false, ◌&&◌}
 use mathlib.Core.List.{[], ◌∷◌}
-use Prim.Native.Nat.{ℕ, ◌<◌}
-use native.Mathlib.Omega.{arith}
+use Prim.Native.Nat.{ℕ}
 use lib.Dec.{eqb}
-use lib.ListN.{length, get_or}
+use Rattle.std.proofs.Common.{rules}
+use Rattle.std.specs.List.{starts_with as begins}
 use Rattle.model.specs.Text.{Bytes, starts_with}
 
-pub none_first : (b : ℕ) (s : Bytes) → length s ≡ 0 → false ≡ starts_with b s
-unfolding starts_with
-none_first b [] e = refl
-none_first b (x ∷ s) e = absurd (omega arith)
+both : (q : Bool) → (q && true) ≡ q
+both true = refl
+both false = refl
 
-pub first_is : (b : ℕ) (s : Bytes) → 0 < length s → eqb (get_or s 0 0) b ≡ starts_with b s
+turned : (a b : ℕ) → eqb a b ≡ eqb b a
+turned a b = search rules
+
+pub begins_first : (b : ℕ) (s : Bytes) → begins eqb s (b ∷ []) ≡ starts_with b s
 unfolding starts_with
-first_is b [] h = absurd (omega arith)
-first_is b (x ∷ s) h = refl
+begins_first b [] = refl
+begins_first b (x ∷ s) = both (eqb b x) ∙ turned b x

@@ -1,2 +1,3 @@
 -- What the contracts cite.
-pub mod Answer
+pub mod Argument
+pub mod Trouble

@@ -1,184 +1,191 @@
-// What a program reads: all that a reader gives or a whole file into a lent buffer, with a failed read told from the end; what its
-// arguments are; and its messages about files.
+// What a program is given: its arguments, and all that a reader gives or a whole file, read into a lent buffer; and what it says where
+// something keeps it from its work.
 #![tactic(auto)]
 
-ghost use Rattle.std.specs.Prelude.{◌≡◌, true, false, [], ◌∷◌, ◌+◌, ◌≤◌, length};
-ghost use Rattle.model.specs.Text.{same, starts_with};
-ghost use Rattle.source.specs.Answer.{Answers, got_of};
+ghost use Rattle.std.specs.Prelude.{◌≡◌, ◌≤◌, ◌<◌, IfOk, IfErr, IfSome, length, take};
+ghost use Rattle.std.specs.Io.KnownBytes.{Consumes, IsAtEnd};
+ghost use Rattle.source.specs.Argument.{argument_of};
+ghost use Rattle.source.specs.Trouble.{unread_of};
+ghost use Rattle.source.specs.declared.Trouble.TheVariants.{UnreadFile};
 
+use buffer::same_bytes;
 use std::env::{Env, FillError};
 use std::io::{Read, Write};
 use std::rt::Files;
-use std::{fs, str};
-
-// How many bytes were read, and whether no read failed. A length that is all of the buffer says that there may be more.
-#[derive(Clone, Copy)]
-pub struct Got {
-    pub ok: bool,
-    pub length: usize,
-}
-
-// A read that failed.
-fn fail_read() -> Got
-    ensures { (result.ok ≡ false) × (result.length ≡ 0) }
-{
-    Got {
-        ok: false,
-        length: 0,
-    }
-}
-
-// How many of buf's bytes a read's answer tells of: none where it is negative, and never more than there are.
-fn count(got: isize, buf: &[u8]) -> usize
-    ensures { result ≡ (got_of got (length buf.now)).length }
-{
-    match usize::try_from(got) {
-        Ok(n) => n.min(buf.len()),
-        Err(_) => 0,
-    }
-}
-
-// What a read to buf answered.
-fn take_answer(got: isize, buf: &[u8]) -> Got
-    ensures value { result ≡ got_of got (length buf.now) }
-    ensures length_in_bounds { result.length ≤ length buf.now }
-{
-    if got < 0 {
-        return Got {
-            ok: false,
-            length: 0,
-        };
-    }
-    Got {
-        ok: true,
-        length: count(got, buf),
-    }
-}
-
-// One call of the reader: it answers -1 where that failed, or how many bytes it put at the start of buf, 0 at the end of the input.
-fn read_once<R: Read>(from: &mut R, buf: &mut [u8]) -> isize
-    ensures { Answers (length buf.new) result }
-{
-    match from.read(buf) {
-        Ok(n) => isize::try_from(n).unwrap_or(isize::MAX),
-        Err(_) => -1,
-    }
-}
-
-// One read, to what follows `at` in buf.
-fn read_some<R: Read>(from: &mut R, buf: &mut [u8], at: usize) -> Got
-    requires { at ≤ length buf.old }
-    ensures { at + result.length ≤ length buf.new }
-{
-    let got = read_once(from, &mut buf[at..]);
-    take_answer(got, &buf[at..])
-}
-
-// Reads until buf is full or the input ends.
-pub fn read_all<R: Read>(from: &mut R, buf: &mut [u8]) -> Got
-    ensures { result.length ≤ length buf.new }
-{
-    let mut done = 0;
-    while done < buf.len() {
-        let turn = read_some(from, buf, done);
-        if !turn.ok {
-            return fail_read();
-        }
-        if turn.length == 0 {
-            break;
-        }
-        done += turn.length;
-    }
-    Got {
-        ok: true,
-        length: done,
-    }
-}
-
-// Reads a file by its name, which is opened once. A name that is not UTF-8 cannot be opened.
-pub fn read_file<F: Files>(files: &F, name: &[u8], buf: &mut [u8]) -> Got
-    ensures { result.length ≤ length buf.new }
-{
-    let Ok(path) = str::from_utf8(name) else {
-        return fail_read();
-    };
-    match fs::open(files, path) {
-        Ok(mut file) => read_all(&mut file, buf),
-        Err(_) => fail_read(),
-    }
-}
+use std::{fs, io, str};
 
 // ---- arguments; on Linux none is longer than 131,071 bytes
 
-// Puts argument i at the start of buf, whatever its bytes are, and answers its length, or 0 where it is missing or longer than buf.
-pub fn arg(env: &impl Env, i: usize, buf: &mut [u8]) -> usize
-    ensures { result ≤ length buf.new }
-{
-    match env.arg(i, buf) {
-        Ok(n) => n,
-        Err(_) => 0,
-    }
-}
+pub const ARGUMENT_ROOM: usize = 131072;
 
-// Whether there is an argument i.
-fn has_arg(env: &impl Env, i: usize) -> bool {
-    match env.arg(i, &mut []) {
-        Err(FillError::NotPresent) => false,
-        _ => true,
-    }
+// Puts argument i at the start of buf, whatever its bytes are, and answers it. One that is missing or longer than buf is taken for empty.
+pub fn arg<'a>(env: &impl Env, i: usize, buf: &'a mut [u8]) -> &'a [u8]
+    ensures { length result.now ≤ length buf.old }
+{
+    let n = env.arg(i, buf).unwrap_or(0);
+    &buf[..n]
 }
 
 // How many arguments there are, the program's own name among them.
 pub fn arg_count(env: &impl Env) -> usize {
     for i in 0..usize::MAX {
-        if !has_arg(env, i) {
+        if let Err(FillError::NotPresent) = env.arg(i, &mut []) {
             return i;
         }
     }
     usize::MAX
 }
 
-// Whether an argument asks how a program is called.
-pub fn asks_help(argument: &[u8]) -> bool
-    ensures { result ≡ same argument.now (45 ∷ 45 ∷ 104 ∷ 101 ∷ 108 ∷ 112 ∷ []) }
-{
-    buffer::same_bytes(argument, b"--help")
+// What an argument says: how a program is called is asked, a file for channel 4 or one for the usage report follows, an option that is none
+// of these, or a name.
+#[derive(Clone, Copy, PartialEq, Eq)]
+pub enum Argument {
+    Help,
+    Second,
+    Report,
+    Unknown,
+    Name,
 }
 
-// Whether the first argument does.
-pub fn is_help_asked(env: &impl Env) -> bool {
-    let mut space = [0u8; 131072];
-    let n = arg(env, 1, &mut space);
-    asks_help(&space[..n])
-}
-
-// Whether an argument is an option, and no name: it begins with a minus.
-pub fn is_option(argument: &[u8]) -> bool
-    ensures { result ≡ starts_with 45 argument.now }
+// An argument by its bytes; an option begins with a minus.
+pub fn read_argument(argument: &[u8]) -> Argument
+    ensures { result ≡ argument_of argument.now }
 {
-    if argument.len() == 0 {
-        return false;
+    if same_bytes(argument, b"--help") {
+        Argument::Help
+    } else if same_bytes(argument, b"-4") {
+        Argument::Second
+    } else if same_bytes(argument, b"--report") {
+        Argument::Report
+    } else if argument.starts_with(b"-") {
+        Argument::Unknown
+    } else {
+        Argument::Name
     }
-    argument[0] == b'-'
 }
 
-// Whether it is the option that the file for channel 4 follows.
-pub fn asks_second(argument: &[u8]) -> bool
-    ensures { result ≡ same argument.now (45 ∷ 52 ∷ []) }
+// ---- readers and files
+
+// Reads until buf is full or the input ends, and answers how many bytes were read.
+fn fill<R: Read>(from: &mut R, buf: &mut [u8]) -> io::Result<usize>
+    ensures bound { IfOk result (λ n. n ≤ length buf.new) }
+    ensures bytes { IfOk result (λ n. Consumes (R.remaining from.old) (R.remaining from.new) (take n buf.new)) }
+    ensures end { IfOk result (λ n. n < length buf.new → IsAtEnd (R.remaining from.new)) }
 {
-    buffer::same_bytes(argument, b"-4")
+    let mut done = 0;
+    while done < buf.len() {
+        let n = from.read(&mut buf[done..])?;
+        if n == 0 {
+            return Ok(done);
+        }
+        done += n;
+    }
+    Ok(done)
 }
 
-// Whether it is the option that the file for the usage report follows.
-pub fn asks_report(argument: &[u8]) -> bool
-    ensures { result ≡ same argument.now (45 ∷ 45 ∷ 114 ∷ 101 ∷ 112 ∷ 111 ∷ 114 ∷ 116 ∷ []) }
+// The same, and answers what was read. Where that is as long as buf, there may be more.
+pub fn read_all<'a, R: Read>(from: &mut R, buf: &'a mut [u8]) -> io::Result<&'a [u8]>
+    ensures bound { IfOk result (λ s. length s.now ≤ length buf.old) }
+    ensures bytes { IfOk result (λ s. Consumes (R.remaining from.old) (R.remaining from.new) s.now) }
+    ensures end { IfOk result (λ s. length s.now < length buf.old → IsAtEnd (R.remaining from.new)) }
 {
-    buffer::same_bytes(argument, b"--report")
+    let n = fill(from, buf)?;
+    Ok(&buf[..n])
 }
 
-// Says of a file, after the program's name, what is wrong with it. Where that cannot be written, nothing can say so.
-pub fn tell(errors: &mut impl Write, program: &[u8], name: &[u8], wrong: &[u8]) {
-    let _ = errors.write_all(program);
+// Reads a file by its name, which is opened once. A name that is not UTF-8 cannot be opened.
+pub fn read_file<'a, F: Files>(files: &F, name: &[u8], buf: &'a mut [u8]) -> Option<&'a [u8]>
+    ensures { IfSome result (λ s. length s.now ≤ length buf.old) }
+{
+    let path = str::from_utf8(name).ok()?;
+    let mut file = fs::open(files, path).ok()?;
+    read_all(&mut file, buf).ok()
+}
+
+// ---- what keeps a program from its work
+
+// What that is; a file goes by the argument that names it.
+#[derive(Clone, Copy)]
+pub enum Trouble {
+    Arguments,
+    UnreadInput,
+    UnreadFile(usize),
+    LargeFile(usize),
+    ManyFiles(usize),
+    UnwrittenOutput,
+    UnwrittenFile(usize),
+}
+
+// Reads the file that argument i names.
+pub fn read_named<'a, R: Env + Files>(
+    rt: &R,
+    i: usize,
+    buf: &'a mut [u8],
+) -> Result<&'a [u8], Trouble>
+    ensures bound { IfOk result (λ s. length s.now ≤ length buf.old) }
+    ensures named { IfErr result (λ e. e ≡ UnreadFile i) }
+{
+    let mut space = [0u8; ARGUMENT_ROOM];
+    read_file(rt, arg(rt, i, &mut space), buf).ok_or(Trouble::UnreadFile(i))
+}
+
+// Reads standard input where no argument names a file.
+pub fn read_named_or_input<'a, R: Env + Files>(
+    rt: &R,
+    input: &mut impl Read,
+    i: Option<usize>,
+    buf: &'a mut [u8],
+) -> Result<&'a [u8], Trouble>
+    ensures bound { IfOk result (λ s. length s.now ≤ length buf.old) }
+    ensures named { IfErr result (λ e. e ≡ unread_of i) }
+{
+    match i {
+        Some(i) => read_named(rt, i, buf),
+        None => read_all(input, buf).map_err(|_| Trouble::UnreadInput),
+    }
+}
+
+// What a program is called in its messages, and what it says where its arguments are wrong.
+pub struct Program {
+    pub name: &'static [u8],
+    pub usage: &'static [u8],
+}
+
+// Says of a file or a stream, after the program's name, what is wrong with it. Where that cannot be written, nothing can say so.
+fn say(errors: &mut impl Write, program: &Program, name: &[u8], wrong: &[u8]) {
+    let _ = errors.write_all(program.name);
     let _ = errors.write_all(name);
     let _ = errors.write_all(wrong);
+}
+
+// Says it of the file that argument i names.
+fn say_of_file(env: &impl Env, errors: &mut impl Write, program: &Program, i: usize, wrong: &[u8]) {
+    let mut space = [0u8; ARGUMENT_ROOM];
+    say(errors, program, arg(env, i, &mut space), wrong);
+}
+
+// Says what keeps a program from its work.
+pub fn tell(env: &impl Env, errors: &mut impl Write, program: &Program, trouble: Trouble) {
+    match trouble {
+        Trouble::Arguments => {
+            let _ = errors.write_all(program.usage);
+        }
+        Trouble::UnreadInput => say(errors, program, b"standard input", b" cannot be read\n"),
+        Trouble::UnreadFile(i) => say_of_file(env, errors, program, i, b" cannot be read\n"),
+        Trouble::LargeFile(i) => say_of_file(
+            env,
+            errors,
+            program,
+            i,
+            b" has more than 65,536 bytes\n",
+        ),
+        Trouble::ManyFiles(i) => say_of_file(env, errors, program, i, b" is one file too many\n"),
+        Trouble::UnwrittenOutput => say(
+            errors,
+            program,
+            b"standard output",
+            b" cannot be written\n",
+        ),
+        Trouble::UnwrittenFile(i) => say_of_file(env, errors, program, i, b" cannot be written\n"),
+    }
 }

@@ -16,7 +16,7 @@ use Rattle.std.specs.Prelude.{None}
 use Rattle.std.specs.Prelude.{Ok, Err}
 use Rattle.store.specs.declared.Full.{Full}
 use Rattle.store.proofs.Packed.{packed_append, size-packed, filled}
-use Rattle.store.proofs.Entry.{missing}
+use Rattle.store.proofs.Placed.{missing}
 use Rattle.store.proofs.Holding.{holds_by, puts_done, puts_full, too_many, too_large}
 
 -- the entries with one more

@@ -2,7 +2,7 @@
 pub mod Walk
 pub mod Seeking
 pub mod Packed
-pub mod Entry
+pub mod Placed
 pub mod Holding
 pub mod Replaced
 pub mod Appended

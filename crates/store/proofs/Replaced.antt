@@ -1,23 +1,22 @@
 -- The text of a name that is there, replaced.
-use mathlib.Core.Path.{◌≡◌, refl, sym, ap, ap₂, ◌∙◌}
+use mathlib.Core.Path.{◌≡◌, sym, ap, ap₂, ◌∙◌}
 use mathlib.Core.List.{List, [], ◌∷◌, ◌++◌, append_assoc}
 use Prim.Native.Nat.{ℕ, ◌+◌, ◌-◌, ◌*◌, ◌≤◌, ◌<◌}
 use native.Mathlib.Omega.{arith}
-use lib.ListN.{length, set, take, drop, length-set, length-append}
+use lib.ListN.{length, get_or, set, take, drop, length-set, length-append}
 use lib.Seq.{paste, take-length, take-take, take-append-le, drop-drop, take_at, drop_at, set_at, length-take-le, take-append_seam, drop-append_seam}
 use Rattle.model.specs.Store.{Store, put}
 use Rattle.buffer.specs.Pasted.{Pasted}
 use Rattle.buffer.proofs.Pasted.{pasted_long}
 use Rattle.store.specs.Memory.{held, Kept}
-use Rattle.store.specs.Seek.{EntryAt, Locates}
+use Rattle.store.specs.Seek.{Locates}
 use Rattle.store.specs.Put.{Puts}
 use Rattle.store.specs.declared.Index.{Index}
-use Rattle.store.specs.declared.Bounds.{Bounds}
 use Rattle.std.specs.Prelude.{Some}
 use Rattle.std.specs.Prelude.{Ok, Err}
 use Rattle.store.specs.declared.Full.{Full}
 use Rattle.store.proofs.Packed.{size-packed}
-use Rattle.store.proofs.Entry.{Entry, entry, entry_name, entry_text, entry_from-text, packed-long}
+use Rattle.store.proofs.Placed.{Entry, entry, entry_text, entry_from-text, packed-long}
 use Rattle.store.proofs.Holding.{holds_by, puts_done, puts_full, too_large}
 
 module _ {m : List ℕ} {x : Index} {name : List ℕ} {p : ℕ} (y : Entry m x name p) where
@@ -63,43 +62,38 @@ module _ {m : List ℕ} {x : Index} {name : List ℕ} {p : ℕ} (y : Entry m x n
       let l2 = packed-long b name text a in
       ap (λ (l : List ℕ). take (e + length a) l) e6 ∙ take_at k j (e + length a) (omega arith)
 
-pub replaces : {m : List ℕ} {x : Index} {name : List ℕ} {p : ℕ} {h : Bounds} {text m1 m2 : List ℕ} {b : ℕ} → Kept m x → Locates m x name (Some p) → EntryAt m p h
-    → h.text + length text + (x.used - h.next) ≤ 8192 + 2 * x.count
-    → Pasted m (h.text + length text) (drop h.next m) (x.used - h.next) m1
-    → Pasted m1 h.text text (length text) m2
+pub replaces : {m : List ℕ} {x : Index} {name : List ℕ} {p t : ℕ} {text m1 m2 : List ℕ} {b : ℕ} → Kept m x → Locates m x name (Some p) → t ≡ get_or m (p + 1) 0
+    → p + 2 + length name + length text + (x.used - (p + 2 + length name + t)) ≤ 8192 + 2 * x.count
+    → Pasted m (p + 2 + length name + length text) (drop (p + 2 + length name + t) m) (x.used - (p + 2 + length name + t)) m1
+    → Pasted m1 (p + 2 + length name) text (length text) m2
     → b ≡ length text
-    → Puts m x name text (set m2 (p + 1) b) (Ok (record { count = x.count; used = h.text + length text + (x.used - h.next) }))
-replaces {m} {x} {name} {p} {h} {text} {m1} {m2} {b} k e g r g1 g2 eb =
+    → Puts m x name text (set m2 (p + 1) b) (Ok (record { count = x.count; used = p + 2 + length name + length text + (x.used - (p + 2 + length name + t)) }))
+replaces {m} {x} {name} {p} {t} {text} {m1} {m2} {b} k e g r g1 g2 eb =
     let es : Store = put name text (held x.count m) in
-    let y = entry k e refl in
-    let n = entry_name y in
-    let t = entry_text y in
+    let y = entry k e in
+    let n = entry_text y in
     let a : List ℕ = y.after in
-    let zt : h.text ≡ p + 2 + length name = omega arith in
-    let ze : h.text + length text ≡ p + 2 + length name + length text = omega arith in
-    let zl : x.used - h.next ≡ length a = omega arith in
-    let zn : h.next ≡ p + 2 + length name + length y.text = omega arith in
-    let zu : h.text + length text + (x.used - h.next) ≡ p + 2 + length name + length text + length a = omega arith in
-    let zq : drop h.next m ≡ a ++ drop x.used m = ap (λ (i : ℕ). drop i m) zn ∙ past_text y in
-    let p1 : Pasted m (p + 2 + length name + length text) (a ++ drop x.used m) (length a) m1 = record { is = g1.is ∙ (λ i. paste m (ze i) (zq i) (zl i)) } in
-    let p2 : Pasted m1 (p + 2 + length name) text (length text) m2 = record { is = g2.is ∙ ap (λ (i : ℕ). paste m1 i text (length text)) zt } in
+    let zl : x.used - (p + 2 + length name + t) ≡ length a = omega arith in
+    let zn : p + 2 + length name + t ≡ p + 2 + length name + length y.text = omega arith in
+    let zu : p + 2 + length name + length text + (x.used - (p + 2 + length name + t)) ≡ p + 2 + length name + length text + length a = omega arith in
+    let zq : drop (p + 2 + length name + t) m ≡ a ++ drop x.used m = ap (λ (i : ℕ). drop i m) zn ∙ past_text y in
+    let p1 : Pasted m (p + 2 + length name + length text) (a ++ drop x.used m) (length a) m1 = record { is = g1.is ∙ (λ i. paste m (p + 2 + length name + length text) (zq i) (zl i)) } in
     let l1 = pasted_long p1 (omega arith) (simp length-append (omega arith)) in
-    let l2 = pasted_long p2 (omega arith) (omega arith) in
+    let l2 = pasted_long g2 (omega arith) (omega arith) in
     let l3 = length-set m2 (p + 1) b in
     let c = y.count text in
     let l4 = ap (λ (l : List ℕ). length l) (y.puts text) in
     let l5 = packed-long y.before name text a in
-    puts_done (holds_by es (set m2 (p + 1) b) (record { count = x.count; used = h.text + length text + (x.used - h.next) })
-    (ap₂ (λ (i v : ℕ). take i (set m2 (p + 1) v)) zu eb ∙ rewritten y (omega arith) p1 p2 ∙ sym (y.puts text))
+    puts_done (holds_by es (set m2 (p + 1) b) (record { count = x.count; used = p + 2 + length name + length text + (x.used - (p + 2 + length name + t)) })
+    (ap₂ (λ (i v : ℕ). take i (set m2 (p + 1) v)) zu eb ∙ rewritten y (omega arith) p1 g2 ∙ sym (y.puts text))
     (omega arith) (omega arith) (omega arith) (omega arith) (omega arith))
 
-pub too_long : {m : List ℕ} {x : Index} {name : List ℕ} {p : ℕ} {h : Bounds} {text : List ℕ} {f : Full} → Kept m x → Locates m x name (Some p) → EntryAt m p h
-    → 8192 + 2 * x.count < h.text + length text + (x.used - h.next) → Puts m x name text m (Err f)
-too_long {m} {x} {name} {p} {h} {text} k e g r =
+pub too_long : {m : List ℕ} {x : Index} {name : List ℕ} {p t : ℕ} {text : List ℕ} {f : Full} → Kept m x → Locates m x name (Some p) → t ≡ get_or m (p + 1) 0
+    → 8192 + 2 * x.count < p + 2 + length name + length text + (x.used - (p + 2 + length name + t)) → Puts m x name text m (Err f)
+too_long {m} {x} {name} {p} {t} {text} k e g r =
     let es : Store = put name text (held x.count m) in
-    let y = entry k e refl in
-    let n = entry_name y in
-    let t = entry_text y in
+    let y = entry k e in
+    let n = entry_text y in
     let c = y.count text in
     let l1 = ap (λ (l : List ℕ). length l) (y.puts text) in
     let l2 = packed-long y.before name text y.after in

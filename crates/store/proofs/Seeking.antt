@@ -1,47 +1,46 @@
 -- The search for a name.
-use mathlib.Core.Path.{◌≡◌, refl, sym, ap, ◌∙◌}
+use mathlib.Core.Path.{◌≡◌, sym, ap, ap₂, ◌∙◌}
 use mathlib.Core.Bool.{Bool, true, false}
-use mathlib.Core.List.{List}
-use Prim.Native.Nat.{ℕ, zero, suc, ◌-◌, ◌≤◌, ◌<◌}
-use native.Mathlib.Omega.{arith}
-use lib.ListN.{drop}
-use Rattle.model.specs.Text.{same, part}
-use Rattle.model.specs.Store.{Store}
-use Rattle.model.proofs.Choices.{when_true, when_false}
-use Rattle.store.specs.Memory.{held, Kept}
-use Rattle.store.specs.Seek.{EntryAt, place_in, Locates}
-use Rattle.store.specs.declared.Index.{Index}
-use Rattle.store.specs.declared.Bounds.{Bounds}
+use mathlib.Core.Option.{some}
+use mathlib.Core.List.{List, []}
+use Prim.Native.Nat.{ℕ}
 use Rattle.std.specs.Prelude.{Some, None}
-use Rattle.store.proofs.Walk.{Walking, walk_begins, passed}
+use Rattle.model.specs.Text.{same}
+use Rattle.model.specs.Store.{Store, find}
+use Rattle.model.proofs.Choices.{when_true, when_false}
+use Rattle.store.specs.Memory.{held}
+use Rattle.store.specs.Seek.{entries_left, FirstEntry, BeginsEntries, place_in, FindsEntry}
+use Rattle.store.specs.declared.Index.{Index}
+use Rattle.store.specs.declared.Entry.{Entry}
+use Rattle.store.specs.declared.Entries.{Entries}
 
 -- the name is among the entries that are left where it is among all
-pub record Seeking (m : List ℕ) (count : ℕ) (name : List ℕ) (left a : ℕ) : Type 0 where
-  pub walk : Walking m count left a
-  pub comes : place_in name a (held left (drop a m)) ≡ place_in name 0 (held count m)
+pub record Seeking (m : List ℕ) (x : Index) (name : List ℕ) (s : Entries) : Type 0 where
+  pub place : place_in name s.at (entries_left s) ≡ place_in name 0 (held x.count m)
+  pub text : find name (entries_left s) ≡ find name (held x.count m)
 
-pub seek_begins : {m : List ℕ} {x : Index} {name : List ℕ} → Kept m x → Seeking m x.count name x.count 0
-seek_begins k = record { walk = walk_begins k; comes = refl }
+pub seek_begins : {m : List ℕ} {x : Index} {name : List ℕ} {s : Entries} → BeginsEntries m x s → Seeking m x name s
+seek_begins {name = name} b = record { place = ap₂ (λ (i : ℕ) (es : Store). place_in name i es) b.begins b.is; text = ap (λ (es : Store). find name es) b.is }
 
-pub seek_here : {m : List ℕ} {x : Index} {name : List ℕ} {left a : ℕ} {h : Bounds} {q : Bool} → Seeking m x.count name left a → 0 < left → EntryAt m a h
-    → q ≡ same (part m h.name h.text) name → q ≡ true → Locates m x name (Some a)
-unfolding place_in
-seek_here {name = name} {a = a} s l r e f =
-    let p = passed s.walk l r in
-    record { is = sym (sym s.comes ∙ ap (λ (es : Store). place_in name a es) p.entry ∙ when_true (Some a) _ (sym e ∙ f)) }
+module _ {m : List ℕ} {x : Index} {name : List ℕ} {s : Entries} (g : Seeking m x name s) where
+  pub seek_nowhere : entries_left s ≡ [] → FindsEntry m x name None
+  unfolding place_in find
+  seek_nowhere e = record {
+    place = record { is = ap (λ (es : Store). place_in name s.at es) (sym e) ∙ g.place };
+    text = record { is = ap (λ (es : Store). find name es) (sym e) ∙ g.text; short = tt };
+  }
 
-pub seek_on : {m : List ℕ} {count : ℕ} {name : List ℕ} {left a : ℕ} {h : Bounds} {q : Bool} → Seeking m count name left a → 0 < left → EntryAt m a h
-    → q ≡ same (part m h.name h.text) name → q ≡ false → Seeking m count name (left - 1) h.next
-unfolding place_in
-seek_on {m} {name = name} {left = left} {a = a} {h = h} s l r e f =
-    let p = passed s.walk l r in
-    record {
-      walk = p.walk;
-      comes = ap (λ (i : ℕ). place_in name i (held (left - 1) (drop h.next m))) p.next ∙ sym (when_false (Some a) _ (sym e ∙ f))
-          ∙ sym (ap (λ (es : Store). place_in name a es) p.entry) ∙ s.comes;
+  module _ {e : Entry} {t : Entries} (f : FirstEntry s e t) {q : Bool} (tested : q ≡ same e.name.now name) where
+    pub seek_here : q ≡ true → FindsEntry m x name (Some e)
+    unfolding place_in find
+    seek_here p = record {
+      place = record { is = ap Some f.at ∙ sym (when_true (Some s.at) _ (sym tested ∙ p)) ∙ ap (λ (es : Store). place_in name s.at es) (sym f.is) ∙ g.place };
+      text = record { is = sym (when_true (some e.text.now) _ (sym tested ∙ p)) ∙ ap (λ (es : Store). find name es) (sym f.is) ∙ g.text; short = f.short };
     }
 
-pub seek_nowhere : {m : List ℕ} {x : Index} {name : List ℕ} {left a : ℕ} → Seeking m x.count name left a → left ≤ 0 → Locates m x name None
-unfolding place_in held
-seek_nowhere {left = zero} s h = record { is = s.comes }
-seek_nowhere {left = suc k} s h = absurd (omega arith)
+    pub seek_on : q ≡ false → Seeking m x name t
+    unfolding place_in find
+    seek_on p = record {
+      place = ap (λ (i : ℕ). place_in name i (entries_left t)) f.next ∙ sym (when_false (Some s.at) _ (sym tested ∙ p)) ∙ ap (λ (es : Store). place_in name s.at es) (sym f.is) ∙ g.place;
+      text = sym (when_false (some e.text.now) _ (sym tested ∙ p)) ∙ ap (λ (es : Store). find name es) (sym f.is) ∙ g.text;
+    }

@@ -1,5 +1,5 @@
 -- A walk through memory, entry by entry.
-use mathlib.Core.Path.{◌≡◌, sym, ap, ap₂, ◌∙◌}
+use mathlib.Core.Path.{◌≡◌, refl, sym, ap, ap₂, ◌∙◌, subst}
 use mathlib.Core.List.{List, [], ◌∷◌}
 use Prim.Native.Nat.{ℕ, zero, suc, ◌+◌, ◌-◌, ◌≤◌, ◌<◌}
 use native.Mathlib.Omega.{arith}
@@ -8,17 +8,10 @@ use lib.Seq.{drop-cons, drop-drop}
 use Rattle.model.specs.Text.{part}
 use Rattle.model.proofs.Text.{part_length}
 use Rattle.store.specs.Memory.{held, extent, Kept}
-use Rattle.store.specs.Seek.{EntryAt}
+use Rattle.store.specs.Seek.{EntryAt, entries_left, entries_end, IsWithin, FirstEntry, BeginsEntries}
 use Rattle.store.specs.declared.Index.{Index}
-use Rattle.store.specs.declared.Bounds.{Bounds}
-
--- the entries that are left begin at a, and end where all do
-pub record Walking (m : List ℕ) (count left a : ℕ) : Type 0 where
-  pub within : extent count m ≤ length m
-  pub bound : a + extent left (drop a m) ≡ extent count m
-
-pub walk_begins : {m : List ℕ} {x : Index} → Kept m x → Walking m x.count x.count 0
-walk_begins k = record { within = omega arith; bound = omega arith }
+use Rattle.store.specs.declared.Entry.{Entry}
+use Rattle.store.specs.declared.Entries.{Entries}
 
 two_lengths : (k : ℕ) (s : List ℕ) → 2 ≤ extent (suc k) s
 unfolding extent
@@ -54,28 +47,57 @@ first m a k h =
           ∙ ap₂ (λ (x y : List ℕ). (take n (drop (a + 2) m), take t x) ∷ held k y) (drop-drop n (a + 2) m) d;
     }
 
-pub walk_ahead : {m : List ℕ} {count left a : ℕ} → Walking m count left a → 0 < left → a + 2 + get_or m a 0 + get_or m (a + 1) 0 ≤ length m
-walk_ahead {left = zero} w h = absurd (omega arith)
-walk_ahead {m} {left = suc k} {a} w h = let f = first m a k (omega arith) in omega arith
+pub ahead : (m : List ℕ) (a left : ℕ) → (left ≡ 0 → ⊥) → a + extent left (drop a m) ≤ length m → a + 2 + get_or m a 0 + get_or m (a + 1) 0 ≤ length m
+ahead m a zero z h = absurd (z refl)
+ahead m a (suc k) z h = let f = first m a k h in omega (arith, f.fits)
 
--- the entry that was read, and the walk after it
-pub record Passed (m : List ℕ) (count left a : ℕ) (h : Bounds) : Type 0 where
-  pub walk : Walking m count (left - 1) h.next
-  pub entry : held left (drop a m) ≡ (part m h.name h.text, part m h.text h.next) ∷ held (left - 1) (drop h.next m)
-  pub next : h.next ≡ a + 2 + length (part m h.name h.text) + length (part m h.text h.next)
-
-pub passed : {m : List ℕ} {count left a : ℕ} {h : Bounds} → Walking m count left a → 0 < left → EntryAt m a h → Passed m count left a h
-passed {left = zero} w l r = absurd (omega arith)
-passed {m} {count} {left = suc k} {a} {h} w l r =
-    let f = first m a k (omega arith) in
-    let z : k ≡ suc k - 1 = omega arith in
-    let n : get_or m a 0 ≡ h.text - h.name = omega arith in
-    let t : get_or m (a + 1) 0 ≡ h.next - h.text = omega arith in
-    let y = r.next in
-    let l1 = part_length m h.name h.text (omega arith) in
-    let l2 = part_length m h.text h.next (omega arith) in
+-- the entry that is read at the walk's place is the first that is left
+pub first_entry : {s : Entries} {e : Entry} {t : Entries} → (s.left ≡ 0 → ⊥) → IsWithin s → EntryAt s.memory.now s.at e
+    → t.at ≡ s.at + (2 + length e.name.now + length e.text.now) → t.left ≡ s.left - 1 → t.memory.now ≡ s.memory.now → FirstEntry s e t
+first_entry {s} {e} {t} z w r ta tl tm =
+    let m : List ℕ = s.memory.now in
+    let a : ℕ = s.at in
+    let j : ℕ = s.left - 1 in
+    let c : s.left ≡ suc j = omega arith in
+    let f = first m a j (subst (λ (i : ℕ). a + extent i (drop a m) ≤ length m) c w) in
+    let g0 : ℕ = get_or m a 0 in
+    let g1 : ℕ = get_or m (a + 1) 0 in
+    let zn : a + 2 + g0 - (a + 2) ≡ g0 = omega arith in
+    let zk : a + 2 + g0 + g1 - (a + 2 + g0) ≡ g1 = omega arith in
+    let zat : t.at ≡ a + 2 + g0 + g1 = omega (arith, ta, r.name_long, r.text_long) in
+    let name : e.name.now ≡ take g0 (drop (a + 2) m) = r.name ∙ ap (λ (i : ℕ). take i (drop (a + 2) m)) zn in
+    let text : e.text.now ≡ take g1 (drop (a + 2 + g0) m) = r.text ∙ ap (λ (i : ℕ). take i (drop (a + 2 + g0) m)) zk in
     record {
-      walk = record { within = w.within; bound = ap₂ (λ (i j : ℕ). i + extent j (drop i m)) y (sym z) ∙ f.fits ∙ w.bound };
-      entry = f.entry ∙ (λ i. (take (n i) (drop (sym r.name i) m), take (t i) (drop (sym r.text i) m)) ∷ held (z i) (drop (sym y i) m));
-      next = omega arith;
+      is = ap (λ (i : ℕ). held i (drop a m)) c ∙ f.entry ∙ (λ i. (sym name i, sym text i) ∷ held (sym tl i) (drop (sym zat i) (sym tm i)));
+      at = r.at;
+      next = omega (arith, ta);
+      end = (λ i. zat i + extent (tl i) (drop (zat i) (tm i))) ∙ f.fits ∙ ap (λ (i : ℕ). a + extent i (drop a m)) (sym c);
+      memory = tm;
+      short = r.short;
     }
+
+pub entry_at : {m : List ℕ} {a : ℕ} {e : Entry} {n k : ℕ} → a + 2 + get_or m a 0 + get_or m (a + 1) 0 ≤ length m → n ≡ get_or m a 0 → k ≡ get_or m (a + 1) 0 → k < 256
+    → e.at ≡ a → e.name.now ≡ part m (a + 2) (a + 2 + n) → e.text.now ≡ part m (a + 2 + n) (a + 2 + n + k) → EntryAt m a e
+entry_at {m} {a} {e} {n} {k} h en ek b ea e1 e2 =
+    let g0 : ℕ = get_or m a 0 in
+    let g1 : ℕ = get_or m (a + 1) 0 in
+    let name : e.name.now ≡ part m (a + 2) (a + 2 + g0) = e1 ∙ ap (λ (i : ℕ). part m (a + 2) (a + 2 + i)) en in
+    let text : e.text.now ≡ part m (a + 2 + g0) (a + 2 + g0 + g1) = e2 ∙ ap₂ (λ (i j : ℕ). part m (a + 2 + i) (a + 2 + i + j)) en ek in
+    let l1 : length e.name.now ≡ a + 2 + g0 - (a + 2) = ap (λ (l : List ℕ). length l) name ∙ part_length m (a + 2) (a + 2 + g0) (omega (arith, h)) in
+    let l2 : length e.text.now ≡ a + 2 + g0 + g1 - (a + 2 + g0) = ap (λ (l : List ℕ). length l) text ∙ part_length m (a + 2 + g0) (a + 2 + g0 + g1) h in
+    record { at = ea; name = name; text = text; name_long = omega (arith, l1); text_long = omega (arith, l2); short = omega (arith, l2, ek, b) }
+
+pub nothing_left : (s : Entries) → s.left ≡ 0 → entries_left s ≡ []
+unfolding held
+nothing_left s e = ap (λ (i : ℕ). held i (drop s.at s.memory.now)) e
+
+-- it may be called again, and fewer are left
+pub still_within : {s : Entries} {e : Entry} {t : Entries} → IsWithin s → FirstEntry s e t → IsWithin t
+still_within {s} {e} {t} w f = rw (f.end, f.memory) w
+
+pub all_begin : {m : List ℕ} {x : Index} {s : Entries} → Kept m x → s.memory.now ≡ m → s.at ≡ 0 → s.left ≡ x.count → BeginsEntries m x s
+all_begin {m} {x} {s} k em ea el =
+    let h : entries_left s ≡ held x.count m = (λ i. held (el i) (drop (ea i) (em i))) in
+    let e : entries_end s ≡ 0 + extent x.count m = (λ i. ea i + extent (el i) (drop (ea i) (em i))) in
+    let n = ap (λ (l : List ℕ). length l) em in
+    record { is = h; within = omega (arith, e, k.whole, k.long, k.few, k.small, n); begins = ea; end = omega (arith, e, k.whole) }

@@ -1,25 +1,23 @@
 -- What `listing` and its parts write.
-use Rattle.std.specs.Prelude.{◌≡◌, Bool, cond, List, [], ◌∷◌, ◌++◌, ℕ, ◌+◌, ◌-◌, ◌≤◌, ◌<◌, length, take, set}
+use Rattle.std.specs.Prelude.{◌≡◌, List, [], ◌∷◌, ◌++◌, ℕ, ◌+◌, ◌-◌, ◌≤◌, ◌<◌, length, take, set}
 use Rattle.model.specs.Limits.{store_least}
 use Rattle.model.specs.Store.{Store, listing}
 use Rattle.buffer.specs.Pasted.{Pasted}
 use Rattle.buffer.specs.Written.{Written}
 use Rattle.store.specs.Memory.{held}
 use Rattle.store.specs.declared.Index.{Index}
-use Rattle.store.specs.declared.Bounds.{Bounds}
 use Rattle.store.specs.declared.Part.{Part}
+use Rattle.store.specs.declared.Part.TheVariants.{Name, Text}
 
--- each text where q, else each name, with the byte b after it
-unfoldable pub each : Bool → ℕ → Store → List ℕ
-each q b [] = []
-each q b (e ∷ es) = cond q e.1 e.0 ++ (b ∷ each q b es)
+-- a part of an entry
+abbrev pub part_at : Part → List ℕ × List ℕ → List ℕ
+part_at Name e = e.0
+part_at Text e = e.1
 
--- what `part_of` answers
-pub record Parts (h : Bounds) (q : Bool) (p : Part) : Type 0 where
-  pub from : p.from ≡ cond q h.text h.name
-  pub to : p.to ≡ cond q h.next h.text
-  pub order : p.from ≤ p.to
-  pub within : p.to ≤ h.next
+-- that of each, with the byte b after it
+unfoldable pub each : Part → ℕ → Store → List ℕ
+each p b [] = []
+each p b (e ∷ es) = part_at p e ++ (b ∷ each p b es)
 
 -- what `write_marked` does: o' is o with s and the byte b from offset a up to r
 pub record Marked (o : List ℕ) (a : ℕ) (s : List ℕ) (b r : ℕ) (o' : List ℕ) : Type 0 where
@@ -27,8 +25,8 @@ pub record Marked (o : List ℕ) (a : ℕ) (s : List ℕ) (b r : ℕ) (o' : List
   pub end : r ≡ a + length (s ++ (b ∷ []))
 
 -- what `write_each` does: o' is o with the texts or names from offset w up to r
-pub record WritesEach (m : List ℕ) (x : Index) (q : Bool) (b w : ℕ) (o : List ℕ) (r : ℕ) (o' : List ℕ) : Type 0 where
-  pub is : Written o (take w o ++ each q b (held x.count m)) r o'
+pub record WritesEach (m : List ℕ) (x : Index) (p : Part) (b w : ℕ) (o : List ℕ) (r : ℕ) (o' : List ℕ) : Type 0 where
+  pub is : Written o (take w o ++ each p b (held x.count m)) r o'
 
 -- what `close_names` does: a byte 10 in place of the last byte before a, or alone
 pub record ClosesNames (a : ℕ) (o : List ℕ) (r : ℕ) (o' : List ℕ) : Type 0 where

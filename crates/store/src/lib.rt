@@ -7,9 +7,10 @@ mod names;
 
 ghost use Rattle.std.specs.Prelude.{◌≡◌, [], ◌+◌, ◌≤◌, ◌<◌, length, get_or, option_copied};
 ghost use Rattle.store.specs.Memory.{held, Kept, Holds};
-ghost use Rattle.store.specs.Seek.{EntryAt, Locates, SeeksName};
+ghost use Rattle.store.specs.Seek.{EntryAt, IsWithin, YieldsEntry, BeginsEntries, FindsEntry, Locates, SeeksName};
+ghost use Rattle.std.specs.Iterator.{at_most};
 ghost use Rattle.store.specs.Put.{Puts};
-ghost use Rattle.store.specs.List.{each, Parts, Marked, WritesEach, ClosesNames, Lists};
+ghost use Rattle.store.specs.List.{part_at, each, Marked, WritesEach, ClosesNames, Lists};
 ghost use Rattle.model.specs.Limits.{store_least};
 ghost use Rattle.faults.specs.declared.RunFault.TheVariants.{FullStore};
 
@@ -38,19 +39,62 @@ impl From<Full> for RunFault {
     }
 }
 
-// Where an entry's name and its text begin, and the next entry.
+// An entry: where it begins, its name and its text.
 #[derive(Clone, Copy)]
-struct Bounds {
-    name: usize,
-    text: usize,
-    next: usize,
+struct Entry<'a> {
+    at: usize,
+    name: &'a [u8],
+    text: &'a [u8],
 }
 
-// A part of memory.
+// The entry that begins at offset at.
+fn read_entry(memory: &[u8], at: usize) -> Entry<'_>
+    requires { at + 2 + get_or memory.now at 0 + get_or memory.now (at + 1) 0 ≤ length memory.now }
+    ensures { EntryAt memory.now at result }
+{
+    let name = at + 2;
+    let text = name + usize::from(memory[at]);
+    let next = text + usize::from(memory[at + 1]);
+    Entry {
+        at,
+        name: &memory[name..text],
+        text: &memory[text..next],
+    }
+}
+
+// The entries that are left, the next of which begins at offset at.
+#[derive(Drop)]
+struct Entries<'a> {
+    memory: &'a [u8],
+    at: usize,
+    left: usize,
+}
+
+impl<'a> Iterator for Entries<'a> {
+    type Item = Entry<'a>;
+
+    ghost can_next = { IsWithin };
+
+    ghost next_gives = { YieldsEntry };
+
+    ghost remaining = { λ s. at_most s.left };
+
+    fn next(&mut self) -> Option<Entry<'a>> {
+        if self.left == 0 {
+            return None;
+        }
+        let entry = read_entry(self.memory, self.at);
+        self.at += 2 + entry.name.len() + entry.text.len();
+        self.left -= 1;
+        Some(entry)
+    }
+}
+
+// What is listed of each entry.
 #[derive(Clone, Copy)]
-struct Part {
-    from: usize,
-    to: usize,
+enum Part {
+    Name,
+    Text,
 }
 
 // Nothing is stored yet.
@@ -61,33 +105,29 @@ pub fn empty(memory: &[u8]) -> Index
     Index { count: 0, used: 0 }
 }
 
-// The entry that begins at offset at.
-fn read_entry(memory: &[u8], at: usize) -> Bounds
-    requires { at + 2 + get_or memory.now at 0 + get_or memory.now (at + 1) 0 ≤ length memory.now }
-    ensures { EntryAt memory.now at result }
-{
-    let name = at + 2;
-    let text = name + usize::from(memory[at]);
-    let next = text + usize::from(memory[at + 1]);
-    Bounds { name, text, next }
+impl<'a> Entries<'a> {
+    // All entries, in order.
+    fn new(memory: &'a [u8], index: Index) -> Entries<'a>
+        requires { Kept memory.now index }
+        ensures { BeginsEntries memory.now index result }
+    {
+        Entries {
+            memory,
+            at: 0,
+            left: index.count,
+        }
+    }
 }
 
-// Where the entry of a name begins, if it is stored.
-fn locate(memory: &[u8], index: Index, name: &[u8]) -> Option<usize>
+// The entry of a name, if it is stored.
+fn find_entry<'a>(memory: &'a [u8], index: Index, name: &[u8]) -> Option<Entry<'a>>
     requires { Kept memory.now index }
-    ensures { Locates memory.now index name.now result }
+    ensures { FindsEntry memory.now index name.now result }
 {
-    let mut left = index.count;
-    let mut at = 0;
-    while 0 < left {
-        let h = read_entry(memory, at);
-        let from = h.name;
-        let to = h.text;
-        if buffer::same_bytes(&memory[from..to], name) {
-            return Some(at);
+    for entry in Entries::new(memory, index) {
+        if buffer::same_bytes(entry.name, name) {
+            return Some(entry);
         }
-        at = h.next;
-        left -= 1;
     }
     None
 }
@@ -97,14 +137,12 @@ pub fn seek<'a>(memory: &'a [u8], index: Index, name: &[u8]) -> Option<&'a [u8]>
     requires { Kept memory.now index }
     ensures { SeeksName memory.now index name.now (option_copied result) }
 {
-    let at = locate(memory, index, name)?;
-    let h = read_entry(memory, at);
-    let from = h.text;
-    let to = h.next;
-    Some(&memory[from..to])
+    let entry = find_entry(memory, index, name)?;
+    Some(entry.text)
 }
 
 // The text of the name whose entry begins at offset at is replaced.
+#[tactic(auto, using(crate::proofs::Placed::entry_used, crate::proofs::Placed::used_within))]
 fn replace(
     memory: &mut [u8],
     index: Index,
@@ -116,14 +154,11 @@ fn replace(
     requires text_len_bound { length text.now < 256 }
     ensures { Puts memory.old index name.now text.now memory.new result }
 {
-    let count = index.count;
-    let used = index.used;
-    let h = read_entry(memory, at);
-    let from = h.text;
-    let next = h.next;
+    let from = at + 2 + name.len();
+    let next = from + usize::from(memory[at + 1]);
     let end = from + text.len();
-    let tail = used - next;
-    if MEMORY_MOST + 2 * count < end + tail {
+    let tail = index.used - next;
+    if MEMORY_MOST + 2 * index.count < end + tail {
         return Err(Full);
     }
     buffer::shift(memory, end, next, tail);
@@ -168,29 +203,19 @@ pub fn put(memory: &mut [u8], index: Index, name: &[u8], text: &[u8]) -> Result<
     requires name_len_bound { (length name.now < 256) × (length text.now < 256) }
     ensures { Puts memory.old index name.now text.now memory.new result }
 {
-    match locate(memory, index, name) {
-        Some(at) => replace(memory, index, at, name, text),
-        None => append_entry(memory, index, name, text),
-    }
+    let Some(Entry { at, .. }) = find_entry(memory, index, name) else {
+        return append_entry(memory, index, name, text);
+    };
+    replace(memory, index, at, name, text)
 }
 
-// The text of an entry, or its name.
-fn part_of(h: Bounds, texts: bool) -> Part
-    requires { (h.name ≤ h.text) × (h.text ≤ h.next) }
-    ensures { Parts h texts result }
+// The name of an entry, or its text.
+fn part_of<'a>(entry: Entry<'a>, part: Part) -> &'a [u8]
+    ensures { result.now ≡ part_at part (entry.entry.name.now, entry.entry.text.now) }
 {
-    let name = h.name;
-    let text = h.text;
-    let next = h.next;
-    if texts {
-        return Part {
-            from: text,
-            to: next,
-        };
-    }
-    Part {
-        from: name,
-        to: text,
+    match part {
+        Part::Name => entry.name,
+        Part::Text => entry.text,
     }
 }
 
@@ -205,30 +230,22 @@ fn write_marked(src: &[u8], mark: u8, room: &mut [u8], at: usize) -> usize
     end + 1
 }
 
-// Each text, or each name, and a mark after it, to room from offset start; the answer is where they end.
+// A part of each entry, and a mark after it, to room from offset start; the answer is where they end.
 fn write_each(
     memory: &[u8],
     index: Index,
-    texts: bool,
+    part: Part,
     mark: u8,
     room: &mut [u8],
     start: usize,
 ) -> usize
     requires kept { Kept memory.now index }
-    requires memory_in_bounds { start + length (each texts mark (held index.count memory.now)) ≤ length room.old }
-    ensures { WritesEach memory.now index texts mark start room.old result room.new }
+    requires memory_in_bounds { start + length (each part mark (held index.count memory.now)) ≤ length room.old }
+    ensures { WritesEach memory.now index part mark start room.old result room.new }
 {
-    let mut left = index.count;
-    let mut at = 0;
     let mut w = start;
-    while 0 < left {
-        let h = read_entry(memory, at);
-        let p = part_of(h, texts);
-        let from = p.from;
-        let to = p.to;
-        w = write_marked(&memory[from..to], mark, room, w);
-        at = h.next;
-        left -= 1;
+    for entry in Entries::new(memory, index) {
+        w = write_marked(part_of(entry, part), mark, room, w);
     }
     w
 }
@@ -253,7 +270,7 @@ pub fn listing(memory: &[u8], index: Index, room: &mut [u8]) -> usize
     requires store_least_in_bounds { store_least ≤ length room.old }
     ensures { Lists memory.now index room.old result room.new }
 {
-    let names = write_each(memory, index, false, 0, room, 0);
+    let names = write_each(memory, index, Part::Name, 0, room, 0);
     let end = close_names(room, names);
-    write_each(memory, index, true, b'\n', room, end)
+    write_each(memory, index, Part::Text, b'\n', room, end)
 }

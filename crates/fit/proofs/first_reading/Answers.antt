@@ -1,6 +1,6 @@
 -- first_reading answers the chosen reading and the numbers of places and bytes: the law of the search, at the root, with no place dead.
 use Rattle.std.proofs.Common.{arith}
-use Rattle.fit.proofs.Taken.{places_fit, clear_fits, asks_root, none_dead_front, front_short}
+use Rattle.fit.proofs.Taken.{places_fit, clear_fits, asks_root, none_dead}
 use Rattle.fit.proofs.Choose.{searched_by-brackets, found_there, no_call, is_call}
 use Rattle.fit.proofs.first_reading.Goals as goal
 
@@ -15,7 +15,7 @@ search-requires c = asks_root c.requires c.clear.ensures c.clear.auto.row
 
 pub returns-in_default : goal.returns-in_default
 returns-in_default c =
-    no_call (searched_by-brackets c.args.m c.search.ensures) c.requires (none_dead_front c.requires c.clear.ensures) (front_short c.requires) c.in_default.is
+    no_call (searched_by-brackets c.args.m c.search.ensures) c.requires (none_dead c.requires c.clear.ensures) c.requires.short c.in_default.is
     c.choose.ensures (omega (arith, c.choose.type_inv)) (omega (arith, c.choose.type_inv))
 
 pub bounds-nodes-end : goal.bounds-nodes-end
@@ -23,5 +23,5 @@ bounds-nodes-end c = found_there (searched_by-brackets c.args.m c.search.ensures
 
 pub returns : goal.returns
 returns c =
-    is_call (searched_by-brackets c.args.m c.search.ensures) c.requires (none_dead_front c.requires c.clear.ensures) (front_short c.requires) c.in-Some.is
+    is_call (searched_by-brackets c.args.m c.search.ensures) c.requires (none_dead c.requires c.clear.ensures) c.requires.short c.in-Some.is
     c.from.ensures c.read_pieces-reading.ensures (omega (arith, c.read_pieces-reading.type_inv)) c.choose-2.ensures (omega (arith, c.choose-2.type_inv)) (omega (arith, c.choose-2.type_inv))

@@ -2,9 +2,10 @@
 use Rattle.run.proofs.Running.{refused_runs, ready}
 use Rattle.run.proofs.run_prepared.Goals as goal
 
-pub returns-then-loading-ne0 : goal.returns-then-loading-ne0
-returns-then-loading-ne0 c = refused_runs _ c.requires.0 c.if-loading-ne0.true c.refuse.ensures
-
 pub run_loaded-requires : goal.run_loaded-requires
 run_loaded-requires c =
-    (ready c.requires.0 c.if-loading-ne0.false c.fetch_bodies.ensures, c.empty-index.ensures, c.requires.1, c.requires.2, c.requires.3, c.requires.4)
+    let is = c.in-Ok.is in
+    (ready (rw is at c.requires.0) c.list_bodies-bodies.ensures, c.empty-index.ensures, c.requires.1, c.requires.2, c.requires.3, c.requires.4)
+
+pub returns-in-Err : goal.returns-in-Err
+returns-in-Err c = refused_runs _ _ _ c.requires.0 c.in-Err.is c.into.ensures c.refuse.ensures

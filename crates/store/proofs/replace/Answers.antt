@@ -1,21 +1,24 @@
 -- replace moves the entries after the text to its new end and writes it, or refuses it by the size.
+use mathlib.Core.Path.{refl}
 use native.Mathlib.Omega.{arith}
-use lib.ListN.{length-set}
-use Rattle.store.proofs.Entry.{entry_within, entry_used}
+use Rattle.store.proofs.Placed.{entry_used, used_within}
 use Rattle.store.proofs.Replaced.{too_long, replaces}
 use Rattle.store.proofs.replace.Goals as goal
 
-pub read_entry-h-requires : goal.read_entry-h-requires
-read_entry-h-requires c = search entry_within
+pub overflow_add-from : goal.overflow_add-from
+overflow_add-from c = record { fits = omega (arith, entry_used c.requires.kept.0 c.requires.kept.1, used_within c.requires.kept.0, c.requires.kept.0.long) }
 
-pub overflow_sub-tail : goal.overflow_sub-tail
-overflow_sub-tail c = search entry_used
+pub overflow_add-from-2 : goal.overflow_add-from-2
+overflow_add-from-2 c = record { fits = omega (arith, entry_used c.requires.kept.0 c.requires.kept.1, used_within c.requires.kept.0, c.requires.kept.0.long) }
 
-pub returns-then-count-end : goal.returns-then-count-end
-returns-then-count-end c = search too_long
+pub overflow_add-at : goal.overflow_add-at
+overflow_add-at c = record { fits = omega (arith, entry_used c.requires.kept.0 c.requires.kept.1, used_within c.requires.kept.0, c.requires.kept.0.long) }
 
-pub shape_of-memory : goal.shape_of-memory
-shape_of-memory c = simp length-set (omega arith)
+pub bounds-memory-at : goal.bounds-memory-at
+bounds-memory-at c = omega (arith, entry_used c.requires.kept.0 c.requires.kept.1, used_within c.requires.kept.0, c.requires.kept.0.long)
+
+pub returns-then-index-end : goal.returns-then-index-end
+returns-then-index-end c = too_long c.requires.kept.0 c.requires.kept.1 c.from.ensures c.if-index-end.true
 
 pub returns : goal.returns
-returns c = search replaces
+returns c = replaces c.requires.kept.0 c.requires.kept.1 c.from.ensures c.if-index-end.false c.shift.ensures c.copy.ensures refl

@@ -2,8 +2,7 @@
 use Rattle.store.proofs.Writing.{Writing}
 use Rattle.store.proofs.write_each.Given as goal
 
-abbrev pub invariant-loop-left : goal.invariant-loop-left
-invariant-loop-left l = Writing l.memory l.initial.left l.texts l.mark l.initial.room l.start l.left l.at l.w l.room
-
-abbrev pub decreases-loop-left : goal.decreases-loop-left
-decreases-loop-left l = l.left
+abbrev pub invariant-loop-entry : goal.invariant-loop-entry
+invariant-loop-entry l =
+    (goal.iterator-loop-entry).can_next l.entry-iterator ×
+    (goal.iterator-loop-entry).is_finite l.entry-iterator × Writing l.memory l.fn.index l.part l.mark l.initial.room l.start l.entry-iterator l.w l.room

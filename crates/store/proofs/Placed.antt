@@ -1,20 +1,19 @@
--- The entry of a name: among the entries, in memory, and as `seek` answers it.
-use mathlib.Core.Path.{◌≡◌, refl, sym, ap, ap₂, ◌∙◌, subst}
+-- The entry of a name: among the entries, and in memory.
+use mathlib.Core.Path.{◌≡◌, refl, sym, ap, ap₂, ◌∙◌}
 use mathlib.Core.Bool.{Bool, true, false}
 use mathlib.Core.Option.{none, some}
 use mathlib.Core.List.{List, [], ◌∷◌, ◌++◌, append_assoc}
-use Prim.Native.Nat.{ℕ, suc, ◌+◌, ◌-◌, ◌≤◌, ◌<◌}
+use Prim.Native.Nat.{ℕ, suc, ◌+◌, ◌≤◌}
 use native.Mathlib.Omega.{arith}
-use lib.ListN.{length, get_or, take, drop, length-append}
-use lib.Seq.{take-append_seam, drop-append_seam, drop-append-add, get_or-append-add, get_or_at}
-use Rattle.model.specs.Text.{same, part}
+use lib.ListN.{length, get_or, drop, length-append}
+use lib.Seq.{drop-append_seam, drop-append-add, get_or-append-add, get_or_at}
+use Rattle.model.specs.Text.{same}
 use Rattle.model.specs.Store.{Store, find, put}
 use Rattle.model.proofs.Choices.{when_true, when_false}
 use Rattle.buffer.proofs.Same.{same_eq}
 use Rattle.store.specs.Memory.{held, packed, Kept}
-use Rattle.store.specs.Seek.{EntryAt, Place, place_in, Locates, SeeksName}
+use Rattle.store.specs.Seek.{Place, place_in, Locates}
 use Rattle.store.specs.declared.Index.{Index}
-use Rattle.store.specs.declared.Bounds.{Bounds}
 use Rattle.std.specs.Prelude.{Some, None}
 use Rattle.store.proofs.Packed.{packed_append, filled}
 
@@ -112,12 +111,12 @@ packed-long before name text after =
     let c = length-append text after in
     omega arith
 
-pub entry : {m : List ℕ} {x : Index} {name : List ℕ} {p : ℕ} {r : Place} → Kept m x → Locates m x name r → r ≡ Some p → Entry m x name p
+pub entry : {m : List ℕ} {x : Index} {name : List ℕ} {p : ℕ} → Kept m x → Locates m x name (Some p) → Entry m x name p
 unfolding packed
-entry {m} {x} {name} {p} k e f =
+entry {m} {x} {name} {p} k e =
     let es : Store = held x.count m in
     let rest : List ℕ = drop x.used m in
-    let s = spot name es 0 p (sym e.is ∙ f) in
+    let s = spot name es 0 p (sym e.is) in
     let g = filled k in
     let b : List ℕ = packed s.front in
     let a : List ℕ = packed s.back in
@@ -164,28 +163,9 @@ module _ {m : List ℕ} {x : Index} {name : List ℕ} {p : ℕ} (e : Entry m x n
 
 -- ---- as the functions ask it
 
-pub entry_within : {m : List ℕ} {x : Index} {name : List ℕ} {p : ℕ} {r : Place} → Kept m x → Locates m x name r → r ≡ Some p
-    → p + 2 + get_or m p 0 + get_or m (p + 1) 0 ≤ length m
-entry_within k e f = let y = entry k e f in let n = entry_name y in let t = entry_text y in omega arith
+-- where the entry ends
+pub entry_used : {m : List ℕ} {x : Index} {name : List ℕ} {p : ℕ} → Kept m x → Locates m x name (Some p) → p + 2 + length name + get_or m (p + 1) 0 ≤ x.used
+entry_used k e = let y = entry k e in let t = entry_text y in omega (arith, t, y.used)
 
-pub entry_used : {m : List ℕ} {x : Index} {name : List ℕ} {p : ℕ} {h : Bounds} → Kept m x → Locates m x name (Some p) → EntryAt m p h → h.next ≤ x.used
-entry_used k e g = let y = entry k e refl in let n = entry_name y in let t = entry_text y in omega arith
-
-pub placed_as : {m : List ℕ} {x : Index} {name : List ℕ} {r s : Place} → Locates m x name r → r ≡ s → Locates m x name s
-placed_as e f = record { is = sym f ∙ e.is }
-
-pub sees_some : {m : List ℕ} {x : Index} {name : List ℕ} {p : ℕ} {h : Bounds} {r : Place} → Kept m x → Locates m x name r → r ≡ Some p → EntryAt m p h
-    → SeeksName m x name (Some (part m h.text h.next))
-sees_some {m} {x} {name} {p} {h} k e f g =
-    let y = entry k e f in
-    let n = entry_name y in
-    let t = entry_text y in
-    let za : h.text ≡ p + 2 + length name = omega arith in
-    let zl : h.next - h.text ≡ length y.text = omega arith in
-    let w : part m h.text h.next ≡ y.text =
-    ap₂ (λ (i j : ℕ). take i (drop j m)) zl za ∙ ap (λ (l : List ℕ). take (length y.text) l) (entry_from-text y)
-    ∙ take-append_seam y.text (y.after ++ drop x.used m) in
-    record { is = ap some w ∙ sym y.finds; short = subst (λ (l : List ℕ). length l < 256) (sym w) (omega arith) }
-
-pub sees_none : {m : List ℕ} {x : Index} {name : List ℕ} {r : Place} → Locates m x name r → r ≡ None → SeeksName m x name None
-sees_none {m} {x} {name} e f = record { is = sym (missing name (held x.count m) 0 (sym e.is ∙ f)).finds; short = tt }
+pub used_within : {m : List ℕ} {x : Index} → Kept m x → x.used ≤ length m
+used_within k = omega (arith, k.small, k.few, k.long)

@@ -1,8 +1,0 @@
--- main lends room for the rows. Its length goes by a law: the list is too long to be counted.
-use mathlib.Core.Path.{sym}
-use Prim.Native.Nat.{ℕ}
-use lib.ListN.{length-replicate}
-use Rattle.check_text.proofs.main.Goals as goal
-
-pub slice_bounds-check_files-end : goal.slice_bounds-check_files-end
-slice_bounds-check_files-end c = sym (length-replicate {A = ℕ} 1048576 0)
