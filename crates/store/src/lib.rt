@@ -20,7 +20,7 @@ pub use names::Store;
 
 // How many entries there are, and how many bytes they take.
 #[derive(Clone, Copy)]
-pub struct Index {
+struct Index {
     pub count: usize,
     pub used: usize,
 }
@@ -98,7 +98,7 @@ enum Part {
 }
 
 // Nothing is stored yet.
-pub fn empty(memory: &[u8]) -> Index
+fn empty(memory: &[u8]) -> Index
     requires { length memory.now ≡ store_least }
     ensures { Holds memory.now result [] }
 {
@@ -133,7 +133,7 @@ fn find_entry<'a>(memory: &'a [u8], index: Index, name: &[u8]) -> Option<Entry<'
 }
 
 // The text that is stored under a name.
-pub fn seek<'a>(memory: &'a [u8], index: Index, name: &[u8]) -> Option<&'a [u8]>
+fn seek<'a>(memory: &'a [u8], index: Index, name: &[u8]) -> Option<&'a [u8]>
     requires { Kept memory.now index }
     ensures { SeeksName memory.now index name.now (option_copied result) }
 {
@@ -198,7 +198,7 @@ fn append_entry(memory: &mut [u8], index: Index, name: &[u8], text: &[u8]) -> Re
 }
 
 // The text is stored under the name, in place of the one before. Where there is no room, nothing changes.
-pub fn put(memory: &mut [u8], index: Index, name: &[u8], text: &[u8]) -> Result<Index, Full>
+fn put(memory: &mut [u8], index: Index, name: &[u8], text: &[u8]) -> Result<Index, Full>
     requires kept { Kept memory.old index }
     requires name_len_bound { (length name.now < 256) × (length text.now < 256) }
     ensures { Puts memory.old index name.now text.now memory.new result }
@@ -265,7 +265,7 @@ fn close_names(room: &mut [u8], end: usize) -> usize
 
 // The listing, to the front of room: the names with a byte 0 between two, a byte 10, and each text with a byte 10 after it.
 // The answer is its length.
-pub fn listing(memory: &[u8], index: Index, room: &mut [u8]) -> usize
+fn listing(memory: &[u8], index: Index, room: &mut [u8]) -> usize
     requires kept { Kept memory.now index }
     requires store_least_in_bounds { store_least ≤ length room.old }
     ensures { Lists memory.now index room.old result room.new }

@@ -1,0 +1,6 @@
+-- put keeps the index that fits the bytes.
+use Rattle.store.proofs.Callers.{put_kept}
+use Rattle.store.proofs.names.Store.put.Goals as goal
+
+pub invariant_of-self-2 : goal.invariant_of-self-2
+invariant_of-self-2 c = put_kept c.put.ensures c.in_ok-self-inside.was
