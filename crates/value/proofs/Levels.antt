@@ -21,8 +21,6 @@ use Rattle.model.specs.declared.Marks.{Marks}
 use Rattle.model.specs.Text.{is_digit}
 use Rattle.model.specs.Store.{Store}
 use Rattle.model.specs.Value.{value_fault, Read, and_then, giving, is_mark, closing, expression, sum, product, factors, operand, whole, value_of}
-use Rattle.store.specs.Memory.{held}
-use Rattle.store.specs.declared.Index.{Index}
 use Rattle.std.specs.Prelude.{Some, None}
 use Rattle.number.specs.Number.{width, end, step_value, Gives, Valued, number_of}
 use Rattle.number.specs.declared.Step.{Step}
@@ -353,14 +351,14 @@ module _ (m : Marks) (st : Store) (s : List ℕ) where
 
 -- ---- the text whole
 
-pub valued : {m : Marks} {memory : List ℕ} {x : Index} {s : List ℕ} {v : Parsing} → Whole m (held x.count memory) s v 0 → {r : Valued} → Gives r (whole (read_of s v)) → Values m memory x s r
+pub valued : {m : Marks} {es : Store} {s : List ℕ} {v : Parsing} → Whole m es s v 0 → {r : Valued} → Gives r (whole (read_of s v)) → Values m es s r
 unfolding value_of
 valued {s = s} c g =
     let e = ap whole (c.is (5 * (length s + 1)) (omega arith)) in
     record { is = sym (g.is ∙ e); number = g.number ∙ ap value_fault e; fits = g.fits }
 
-pub no-value : {m : Marks} {memory : List ℕ} {x : Index} {s : List ℕ} {v : Parsing} → Whole m (held x.count memory) s v 0 → v ≡ None → Values m memory x s None
+pub no-value : {m : Marks} {es : Store} {s : List ℕ} {v : Parsing} → Whole m es s v 0 → v ≡ None → Values m es s None
 no-value {s = s} c q = valued c (whole_failed s q)
 
-pub value_read : {m : Marks} {memory : List ℕ} {x : Index} {s : List ℕ} {v : Parsing} {p : Parsed} → Whole m (held x.count memory) s v 0 → v ≡ Some p → {r : Valued} → Gives r (whole (read_of s (Some p))) → Values m memory x s r
+pub value_read : {m : Marks} {es : Store} {s : List ℕ} {v : Parsing} {p : Parsed} → Whole m es s v 0 → v ≡ Some p → {r : Valued} → Gives r (whole (read_of s (Some p))) → Values m es s r
 value_read c q g = valued c (rw q g)

@@ -10,11 +10,10 @@ use lib.ListN.{length, get_or, take, drop}
 use lib.Seq.{drop-cons, drop-length, drop-drop}
 use Rattle.model.specs.declared.Marks.{Marks}
 use Rattle.model.specs.Text.{has, part}
-use Rattle.model.specs.Store.{find}
+use Rattle.model.specs.Store.{Store, find}
 use Rattle.model.specs.Value.{is_mark, name_of, of_stored, stored_number}
-use Rattle.store.specs.Memory.{held}
-use Rattle.store.specs.Seek.{Found, SeeksName}
-use Rattle.store.specs.declared.Index.{Index}
+use Rattle.store.specs.Seek.{Found}
+use Rattle.store.specs.Names.{GetsText}
 use Rattle.std.specs.Prelude.{Some, None}
 use Rattle.number.specs.Number.{Gives, Valued}
 use Rattle.number.proofs.Signed.{gives_value}
@@ -111,11 +110,11 @@ module _ {m : Marks} {s : List ℕ} {at e : ℕ} (n : EndsName m s at e) where
 
 -- ---- the text stored under it
 
-module _ {memory : List ℕ} {x : Index} {name : List ℕ} {r : Found} (m : Marks) (s : SeeksName memory x name r) where
-  pub not-stored : r ≡ None → Gives None (of_stored m (find name (held x.count memory)))
+module _ {es : Store} {name : List ℕ} {r : Found} (m : Marks) (s : GetsText es name r) where
+  pub not-stored : r ≡ None → Gives None (of_stored m (find name es))
   unfolding of_stored
   not-stored e = gives_value (rw (← s.is, e)) tt
 
-  pub stored_value : {t : List ℕ} → r ≡ Some t → {v : Valued} → Gives v (stored_number m t) → Gives v (of_stored m (find name (held x.count memory)))
+  pub stored_value : {t : List ℕ} → r ≡ Some t → {v : Valued} → Gives v (stored_number m t) → Gives v (of_stored m (find name es))
   unfolding of_stored
   stored_value e g = rw (← s.is, e) g

@@ -4,8 +4,6 @@ use Rattle.std.proofs.Math.Option.{none, some}
 use Rattle.model.specs.declared.Marks.{Marks}
 use Rattle.model.specs.Store.{Store, find}
 use Rattle.model.specs.Value.{value_fault, Read, read_fault, giving, checked, number, name_of, of_stored, value_of}
-use Rattle.store.specs.Memory.{held}
-use Rattle.store.specs.declared.Index.{Index}
 use Rattle.number.specs.Number.{Valued, number_of, valued_fault, InRange}
 use Rattle.value.specs.Place.{Parsing}
 
@@ -36,10 +34,10 @@ pub record ReadsAbove (μ lo : ℕ) (s : List ℕ) (r : Parsing) (f : ℕ → Re
   pub number : (n : ℕ) → μ < n → parsed_fault r ≡ read_fault (f n)
   pub ends : EndsWithin lo (length s) r
 
--- r is the value of the text s, with the names that memory and index hold
-pub record Values (m : Marks) (memory : List ℕ) (x : Index) (s : List ℕ) (r : Valued) : Type 0 where
-  pub is : value_of m (held x.count memory) s ≡ number_of r
-  pub number : valued_fault r ≡ value_fault (value_of m (held x.count memory) s)
+-- r is the value of the text s, with the names es
+pub record Values (m : Marks) (es : Store) (s : List ℕ) (r : Valued) : Type 0 where
+  pub is : value_of m es s ≡ number_of r
+  pub number : valued_fault r ≡ value_fault (value_of m es s)
   pub fits : InRange r
 
 -- an operand that is digits

@@ -1,21 +1,20 @@
 // The value of a text as an expression. An expression, a product and an operand are each read through the next, in a cycle
 // of calls over the bytes left; sums and products are loops, so only brackets nest calls. The loops are two functions: as one with
 // the level as an argument, values took 41 % more instructions, and a cycle of calls gets no proof through a const parameter or a closure.
-// `value` asks that the index fits memory (`Kept`), and nothing of the text.
+// Nothing is asked of the text.
 #![tactic(auto)]
 
 ghost use Rattle.std.specs.Prelude.{◌≡◌, true, false, ◌+◌, ◌*◌, ◌-◌, ◌≤◌, ◌<◌, length, get_or, drop};
 ghost use Rattle.model.specs.Text.{is_digit};
 ghost use Rattle.model.specs.Store.{find};
 ghost use Rattle.model.specs.Value.{is_mark, of_stored, expression, product, operand, whole};
-ghost use Rattle.store.specs.Memory.{held, Kept};
 ghost use Rattle.number.specs.Number.{Gives};
 ghost use Rattle.value.specs.Place.{Joins, Leads, EndsName, start_at, join_at, lead_at, closed_at};
 ghost use Rattle.value.specs.Reads.{read_of, ReadsValue, ReadsAbove, Values, numeral_at, name_at};
 
 use model::{Integer, Marks};
 use number::Step;
-use store::Index;
+use store::Store;
 
 // How a sum or a product goes on: by a step with the value at an offset, or not, and the bytes after it are at an offset.
 #[derive(Clone, Copy)]
@@ -152,11 +151,10 @@ fn all_read(text: &[u8], v: Parsed) -> Option<Integer>
 }
 
 // The value of the text stored under a name.
-fn find_value(m: Marks, memory: &[u8], index: Index, name: &[u8]) -> Option<Integer>
-    requires { Kept memory.now index }
-    ensures { Gives result (of_stored m (find name.now (held index.count memory.now))) }
+fn find_value(m: Marks, store: &Store, name: &[u8]) -> Option<Integer>
+    ensures { Gives result (of_stored m (find name.now store.now)) }
 {
-    number::read_stored(m, store::seek(memory, index, name)?)
+    number::read_stored(m, store.get(name)?)
 }
 
 // The digits at `at`.
@@ -172,22 +170,21 @@ fn read_numeral(text: &[u8], at: usize) -> Option<Parsed>
 }
 
 // The name at `at`.
-fn read_name(m: Marks, memory: &[u8], index: Index, text: &[u8], at: usize) -> Option<Parsed>
-    requires kept { Kept memory.now index }
-    requires at_in_bounds { (at < length text.now) × (is_mark m (get_or text.now at 0) ≡ false) }
-    ensures { ReadsValue text.now (at + 1) result (name_at m (held index.count memory.now) (drop at text.now)) }
+fn read_name(m: Marks, store: &Store, text: &[u8], at: usize) -> Option<Parsed>
+    requires { (at < length text.now) × (is_mark m (get_or text.now at 0) ≡ false) }
+    ensures { ReadsValue text.now (at + 1) result (name_at m store.now (drop at text.now)) }
 {
     let end = name_end(m, text, at);
-    let value = find_value(m, memory, index, &text[at..end])?;
+    let value = find_value(m, store, &text[at..end])?;
     Some(Parsed { value, end })
 }
 
 // The expression at `at`: up to a right bracket that is not its own, a byte that does not go on, or the text's end.
 #[cycle(expression_operand_product)]
-fn expression(m: Marks, memory: &[u8], index: Index, text: &[u8], at: usize) -> Option<Parsed>
-    requires { Kept memory.now index × (at ≤ length text.now) }
+fn expression(m: Marks, store: &Store, text: &[u8], at: usize) -> Option<Parsed>
+    requires { at ≤ length text.now }
     ensures { ReadsAbove (3 * (length text.now - at) + 3) at text.now result
-        (λ n. expression n m (held index.count memory.now) (drop at text.now)) }
+        (λ n. expression n m store.now (drop at text.now)) }
 {
     let mut sum: Integer = 0;
     let mut j = start(m, text, at);
@@ -197,7 +194,7 @@ fn expression(m: Marks, memory: &[u8], index: Index, text: &[u8], at: usize) -> 
                 return Some(Parsed { value: sum, end });
             }
             Join::Go(k, p) => {
-                let v = product(m, memory, index, text, p)?;
+                let v = product(m, store, text, p)?;
                 sum = number::apply(k, sum, v.value)?;
                 j = next(text, v.end, m.plus, Step::Plus, m.minus, Step::Minus);
             }
@@ -207,10 +204,10 @@ fn expression(m: Marks, memory: &[u8], index: Index, text: &[u8], at: usize) -> 
 
 // The product at `at`.
 #[cycle(expression_operand_product)]
-fn product(m: Marks, memory: &[u8], index: Index, text: &[u8], at: usize) -> Option<Parsed>
-    requires { Kept memory.now index × (at ≤ length text.now) }
+fn product(m: Marks, store: &Store, text: &[u8], at: usize) -> Option<Parsed>
+    requires { at ≤ length text.now }
     ensures { ReadsAbove (3 * (length text.now - at) + 2) (at + 1) text.now result
-        (λ n. product n m (held index.count memory.now) (drop at text.now)) }
+        (λ n. product n m store.now (drop at text.now)) }
 {
     let mut value: Integer = 0;
     let mut j = Join::Go(Step::First, at);
@@ -220,7 +217,7 @@ fn product(m: Marks, memory: &[u8], index: Index, text: &[u8], at: usize) -> Opt
                 return Some(Parsed { value, end });
             }
             Join::Go(k, p) => {
-                let v = operand(m, memory, index, text, p)?;
+                let v = operand(m, store, text, p)?;
                 value = number::apply(k, value, v.value)?;
                 j = next(text, v.end, m.times, Step::Times, m.divide, Step::Divide);
             }
@@ -230,22 +227,21 @@ fn product(m: Marks, memory: &[u8], index: Index, text: &[u8], at: usize) -> Opt
 
 // The operand at `at`: digits, a name, or an expression in brackets.
 #[cycle(expression_operand_product)]
-fn operand(m: Marks, memory: &[u8], index: Index, text: &[u8], at: usize) -> Option<Parsed>
-    requires { Kept memory.now index × (at ≤ length text.now) }
+fn operand(m: Marks, store: &Store, text: &[u8], at: usize) -> Option<Parsed>
+    requires { at ≤ length text.now }
     ensures { ReadsAbove (3 * (length text.now - at) + 1) (at + 1) text.now result
-        (λ n. operand n m (held index.count memory.now) (drop at text.now)) }
+        (λ n. operand n m store.now (drop at text.now)) }
 {
     match opening(m, text, at)? {
         Lead::Digits => read_numeral(text, at),
-        Lead::Name => read_name(m, memory, index, text, at),
-        Lead::Bracket(inside) => close(m, text, expression(m, memory, index, text, inside)?),
+        Lead::Name => read_name(m, store, text, at),
+        Lead::Bracket(inside) => close(m, text, expression(m, store, text, inside)?),
     }
 }
 
-// The value of `text`, with the names that memory holds.
-pub fn value(m: Marks, memory: &[u8], index: Index, text: &[u8]) -> Option<Integer>
-    requires { Kept memory.now index }
-    ensures { Values m memory.now index text.now result }
+// The value of `text`, with the names that are stored.
+pub fn value(m: Marks, store: &Store, text: &[u8]) -> Option<Integer>
+    ensures { Values m store.now text.now result }
 {
-    all_read(text, expression(m, memory, index, text, 0)?)
+    all_read(text, expression(m, store, text, 0)?)
 }

@@ -3,7 +3,6 @@
 -- Both loops keep what `levels` says of a join: whatever comes of the join j with the value so far comes of the whole from `at` on. Their
 -- measure is the length of the text less the place where j goes on.
 use Rattle.std.proofs.Common.{◌+◌, ◌-◌, ◌*◌, length}
-use Rattle.store.specs.Memory.{held}
 use Rattle.value.specs.Place.{place_of}
 use Rattle.value.proofs.Levels as levels
 use Rattle.value.proofs.+expression_operand_product.Given as goal
@@ -18,13 +17,13 @@ abbrev pub decreases-product : goal.decreases-product
 decreases-product l = 3 * (length l.text.now - l.at) + 2
 
 abbrev pub invariant-expression-loop-j : goal.invariant-expression-loop-j
-invariant-expression-loop-j l = levels.Summing l.m (held l.index.count l.memory) l.text l.at l.sum l.j
+invariant-expression-loop-j l = levels.Summing l.m l.store l.text l.at l.sum l.j
 
 abbrev pub decreases-expression-loop-j : goal.decreases-expression-loop-j
 decreases-expression-loop-j l = length l.text - place_of l.j
 
 abbrev pub invariant-product-loop-j : goal.invariant-product-loop-j
-invariant-product-loop-j l = levels.Multiplying l.m (held l.index.count l.memory) l.text l.at l.value l.j
+invariant-product-loop-j l = levels.Multiplying l.m l.store l.text l.at l.value l.j
 
 abbrev pub decreases-product-loop-j : goal.decreases-product-loop-j
 decreases-product-loop-j l = length l.text - place_of l.j
