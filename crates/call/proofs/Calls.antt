@@ -1,7 +1,7 @@
 -- A call is opened and laid out, and its parameters, delimiters and place are changed.
 use mathlib.Core.Path.{◌≡◌, refl, sym, ap, ap₂, subst, ◌∙◌}
 use mathlib.Core.List.{List, [], ◌∷◌, ◌++◌, map}
-use Prim.Native.Nat.{ℕ, zero, suc, ◌+◌, ◌-◌, ◌*◌, ◌≤◌, ◌<◌, min}
+use Prim.Native.Nat.{ℕ, ◌+◌, ◌-◌, ◌*◌, ◌≤◌, ◌<◌, min}
 use native.Mathlib.Omega.{arith}
 use borrow.Author.Tests.{lt-ltb, le-ltb}
 use borrow.Rule.Slice.PartMut.{put_mid, same_len_mid}
@@ -9,6 +9,7 @@ use lib.ListN.{length, get_or, set, take, drop, replicate, length-set, length-dr
 use lib.Seq.{paste, take-length, take-take, take_at, drop_at, take-set-le, take-set-lt, drop-set-add, drop-set-lt, get_or-take, get_or-drop, get_or-set_other, length-take-le}
 use Rattle.std.specs.Prelude.{Option, Some, None, Result, Ok, Err}
 use Rattle.std.specs.Result.{OkIff, result_ok}
+use Rattle.std.proofs.lemmas.List.{get_or-map, map-set}
 use Rattle.model.specs.Text.{Bytes, part}
 use Rattle.model.specs.Load.{body_at}
 use Rattle.model.specs.Machine.{param, with_param, resume_at}
@@ -33,9 +34,6 @@ opens {number} {next} p = record {
 }
 
 -- ---- lay_out
-
-pub call_fits : (bytes params : Bytes) → length bytes ≡ 1800 → length params ≡ 3400 → 0 + length bytes ≤ length params
-call_fits bytes params b l = omega arith
 
 -- the lengths in front, then fs in the place of the delimiters
 module _ (c : Call) (nums ls fs : List ℕ) (l : length nums ≡ 50) (k : length c.lens ≡ 9) (e : ls ≡ c.lens)
@@ -149,11 +147,6 @@ pub written_none : {o : Option ℕ} → o ≡ None → delimiter_of 256 ≡ deli
 unfolding delimiter_bytes
 written_none f = rw (f, delimiter_none 256 (omega arith), delimiter_bytes) refl
 
-map_get : (ns : List ℕ) (i : ℕ) → i < length ns → get_or (map delimiter_of ns) i [] ≡ delimiter_of (get_or ns i 0)
-map_get [] i h = absurd (omega arith)
-map_get (n ∷ ns) zero h = refl
-map_get (n ∷ ns) (suc i) h = map_get ns i (omega arith)
-
 -- what the number in a place says
 read_back : {E : Type 0} (n : ℕ) (r : Result ℕ E) → OkIff r (n < 256) n → delimiter_of n ≡ delimiter_bytes (result_ok r)
 unfolding delimiter_bytes
@@ -168,13 +161,8 @@ delimiter_read {nums = nums} {d = d} r l h k f e =
     let g : get_or (take 9 (drop 9 nums)) (d - 1) 0 ≡ get_or nums (8 + d) 0 =
     get_or-take 9 (drop 9 nums) (d - 1) 0 (omega arith) ∙ get_or-drop 9 nums (d - 1) 0 ∙ ap (λ (n : ℕ). get_or nums n 0) z in
     record {
-      is = λ m text c bytes. map_get (take 9 (drop 9 nums)) (d - 1) (omega arith) ∙ ap delimiter_of g ∙ read_back (get_or nums (8 + d) 0) r f ∙ ap delimiter_bytes (sym e);
+      is = λ m text c bytes. get_or-map delimiter_of (take 9 (drop 9 nums)) (d - 1) 0 [] (omega arith) ∙ ap delimiter_of g ∙ read_back (get_or nums (8 + d) 0) r f ∙ ap delimiter_bytes (sym e);
     }
-
-map-set_at : (ns : List ℕ) (i b : ℕ) → map delimiter_of (set ns i b) ≡ set (map delimiter_of ns) i (delimiter_of b)
-map-set_at [] i b = refl
-map-set_at (n ∷ ns) zero b = refl
-map-set_at (n ∷ ns) (suc i) b = ap (λ (x : List Bytes). delimiter_of n ∷ x) (map-set_at ns i b)
 
 pub delimits : {nums : List ℕ} {d : ℕ} (b : ℕ) {o : Option ℕ} → length nums ≡ 50 → 1 ≤ d → d ≤ 9 → delimiter_of b ≡ delimiter_bytes o → Delimits nums d o (set nums (8 + d) b)
 unfolding with_delimiter
@@ -184,7 +172,7 @@ delimits {nums} {d} b {o} l h k w =
     let f : take 9 (drop 9 (set nums (8 + d) b)) ≡ set (take 9 (drop 9 nums)) (d - 1) b =
     ap (λ (n : ℕ). take 9 (drop 9 (set nums n b))) z ∙ ap (λ (x : List ℕ). take 9 x) (drop-set-add 9 nums (d - 1) b) ∙ take-set-lt 9 (drop 9 nums) (d - 1) b (omega arith) in
     let g : map delimiter_of (take 9 (drop 9 (set nums (8 + d) b))) ≡ set (map delimiter_of (take 9 (drop 9 nums))) (d - 1) (delimiter_bytes o) =
-    ap (map delimiter_of) f ∙ map-set_at (take 9 (drop 9 nums)) (d - 1) b ∙ ap (λ (s : Bytes). set (map delimiter_of (take 9 (drop 9 nums))) (d - 1) s) w in
+    ap (map delimiter_of) f ∙ map-set delimiter_of (take 9 (drop 9 nums)) (d - 1) b ∙ ap (λ (s : Bytes). set (map delimiter_of (take 9 (drop 9 nums))) (d - 1) s) w in
     let other : (q : ℕ) → 18 ≤ q → get_or (set nums (8 + d) b) q 0 ≡ get_or nums q 0 = λ q u. get_or-set_other nums (8 + d) q b 0 (λ w. omega arith) in
     record {
       frame = λ m text c bytes.

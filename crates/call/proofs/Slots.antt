@@ -10,7 +10,7 @@ use Rattle.model.specs.Text.{Bytes, part}
 use Rattle.model.proofs.Text.{part-long}
 use Rattle.buffer.proofs.Pasted.{pasted_long, take-paste-before, drop-paste-before, drop-paste_past}
 use Rattle.call.specs.Call.{slots}
-use Rattle.call.specs.Params.{PieceInside, Copies, PiecesInside, pieces_at, CopiesAll}
+use Rattle.call.specs.Params.{Copies, PiecesInside, pieces_at, CopiesAll}
 
 pub slots_get : (ns : List ℕ) (s : Bytes) (i : ℕ) → i < length ns → get_or (slots ns s) i [] ≡ take (min (get_or ns i 0) 200) (drop (200 * i) s)
 unfolding slots
@@ -75,9 +75,6 @@ pub record Copying (line : Bytes) (starts lens : List ℕ) (i : ℕ) (bytes : By
 module _ {line : Bytes} {starts lens : List ℕ} where
   pub copying-none : {bytes : Bytes} → length bytes ≡ 1800 → Copying line starts lens 0 bytes
   copying-none h = record { upto = omega arith; long = h; is = λ j k. absurd (omega arith) }
-
-  pub piece_inside : {i : ℕ} → PiecesInside line starts lens → i < 9 → PieceInside line (get_or starts i 0) (get_or lens i 0)
-  piece_inside {i} w h = w.each i h
 
   pub copying-more : {i : ℕ} {bytes bytes' : Bytes} → Copying line starts lens i bytes → PiecesInside line starts lens → length starts ≡ 9 → length lens ≡ 9 → i < 9
       → Copies line (get_or starts i 0) (get_or lens i 0) bytes (200 * i) bytes' → Copying line starts lens (i + 1) bytes'
