@@ -91,6 +91,7 @@ pub fn build_line(
 {
     let mut len = 0;
     let mut state = s;
+    // where a part ends is found by reading it, so that the places are no range
     let mut i = at;
     let mut first = true;
     loop {

@@ -110,6 +110,7 @@ pub fn read_character(s: &[u8], at: usize) -> Result<Option<Character>, Malforme
 pub fn count_characters(s: &[u8]) -> Result<Counted, Malformed>
     ensures { CountsCharacters s.now result }
 {
+    // where a character ends is found by reading it, so that the places are no range
     let mut at = 0;
     let mut count = 0;
     let mut code = 0;

@@ -3,6 +3,9 @@ use mathlib.Core.Path.{◌≡◌, refl, sym, ap, ap₂, subst, ◌∙◌}
 use Prim.Native.Nat.{ℕ, ◌+◌}
 use native.Mathlib.Omega.{arith}
 use lib.ListN.{length}
+use Rattle.std.specs.Prelude.{Some, Ok, Err}
+use Rattle.faults.specs.declared.RunFault.{RunFault}
+use Rattle.faults.specs.declared.RunFault.TheVariants.{FullStore}
 use Rattle.model.specs.declared.Marks.{Marks}
 use Rattle.model.specs.Text.{Bytes, part}
 use Rattle.model.specs.Store.{Store, put, within}
@@ -10,10 +13,9 @@ use Rattle.model.specs.Machine.{continues, param, with_store, save_text, stepped
 use Rattle.model.proofs.Choices.{when_true, when_false}
 use Rattle.model.proofs.Sizes.{put_grows}
 use Rattle.store.specs.declared.Index.{Index}
-use Rattle.store.specs.declared.Stored.{Stored}
-use Rattle.store.specs.declared.Stored.TheVariants.{Now, Full}
+use Rattle.store.specs.declared.Full.{Full}
 use Rattle.store.specs.Memory.{held, Holds}
-use Rattle.store.specs.Put.{Puts}
+use Rattle.store.specs.Put.{Stored, Puts}
 use Rattle.store.proofs.Packed.{filled}
 use Rattle.state.specs.declared.State.{State}
 use Rattle.state.specs.State.{shared_of, with_index, Sound}
@@ -42,7 +44,7 @@ renamed c a b st l k = ap₂ (λ (n t : Bytes). put n t st) (first_param c l) (s
 
 module _ {c : Laid} {s : State} {memory : Bytes} {a b : ℕ} {memory' : Bytes} {x : Stored} (l : Lies c.nums 1 a) (k : Lies c.nums 2 b)
     (p : Puts memory s.index (part c.bytes 0 a) (part c.bytes 200 (200 + b)) memory' x) where
-  pub saves : {y : Index} {t : State} {r : Answer} → x ≡ Now y → t ≡ with_index s y → r ≡ goes_further c.head t → Saves c s memory r memory'
+  pub saves : {y : Index} {t : State} {r : Answer} → x ≡ Ok y → t ≡ with_index s y → r ≡ goes_further c.head t → Saves c s memory r memory'
   unfolding save_text with_store param settle next_at next_of stepped state_with
   saves {y} {t} {r} e f g = record {
     comes = λ m text o line q h. by m text o line q h (subst (λ (es : Store). Holds memory' y es) (renamed c a b (held s.index.count memory) l k) (p.done y e));
@@ -67,10 +69,10 @@ module _ {c : Laid} {s : State} {memory : Bytes} {a b : ℕ} {memory' : Bytes} {
             extends = record { first = extends_none h.written; second = extends_none h.second };
           }))
 
-  pub saves_full : {r : Answer} → x ≡ Full → r ≡ ends_with 19 s → Saves c s memory r memory'
+  pub saves_full : {y : Full} {f : RunFault} {r : Answer} → x ≡ Err y → f ≡ FullStore → r ≡ ends_with (Some f) s → Saves c s memory r memory'
   unfolding save_text param
-  saves_full {r} e g = record {
+  saves_full {y} {r = r} e z g = record {
     comes = λ m text o line q h.
-        subst (λ (z : Bytes). Comes m text (save_text (param (frame_of m text c) 1) (param (frame_of m text c) 2) (frame_of m text c) (shared_of s o memory)) s o line r c.nums c.bytes o z) (sym (p.full e).0)
-        (came_end h q g (when_false _ _ (ap within (sym (renamed c a b (held s.index.count memory) l k)) ∙ (p.full e).1)));
+        subst (λ (z : Bytes). Comes m text (save_text (param (frame_of m text c) 1) (param (frame_of m text c) 2) (frame_of m text c) (shared_of s o memory)) s o line r c.nums c.bytes o z) (sym (p.full y e).0)
+        (came_end h q (g ∙ ap (λ (x : RunFault). ends_with (Some x) s) z) (when_false _ _ (ap within (sym (renamed c a b (held s.index.count memory) l k)) ∙ (p.full y e).1)));
   }

@@ -15,7 +15,6 @@ use atom::scan_atom;
 use model::{END_KEY, Marks, PLACEHOLDER_KEY};
 use nodes::{Node, child, placeholder_child};
 use places::{clear, is_dead, set_dead};
-use std::num::wrapping_add_usize;
 
 // A call: the number of its template, and where each piece starts and its length.
 #[derive(Clone, Copy)]
@@ -76,14 +75,14 @@ impl Notes {
     fn count_place(&mut self)
         ensures { Counts 1 0 self.old self.new }
     {
-        self.places = wrapping_add_usize(self.places, 1);
+        self.places = self.places.wrapping_add(1);
     }
 
     // So many bytes were read.
     fn count_bytes(&mut self, n: usize)
         ensures { Counts 0 n self.old self.new }
     {
-        self.bytes = wrapping_add_usize(self.bytes, n);
+        self.bytes = self.bytes.wrapping_add(n);
     }
 
     // The call of a template, with the pieces that are noted.

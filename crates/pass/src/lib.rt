@@ -39,6 +39,7 @@ fn take_atoms(m: Marks, line: &[u8], at: usize, list: &[u8]) -> Result<Taken, Ru
     requires list_nonzero { 0 < length list.now }
     ensures { Takes m line.now at list.now result }
 {
+    // where an atom ends is found by reading it, so that the places are no range
     let mut end = at;
     while end < line.len() {
         let b = line[end];

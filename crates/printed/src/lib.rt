@@ -119,10 +119,8 @@ fn add_pieces(out: &mut [u8], at: usize, starts: [u64; 9], lens: [u64; 9]) -> us
     ensures { Prints out.old at (piece_row starts lens) result out.new }
 {
     let mut w = at;
-    let mut i = 0;
-    while i < 9 {
+    for i in 0..9 {
         w = add_pair(out, w, starts[i], lens[i]);
-        i += 1;
     }
     w
 }
@@ -141,11 +139,9 @@ fn add_fitted(out: &mut [u8], at: usize, f: Fitted) -> usize
     requires { RoomFor out.old at (fit_row f) }
     ensures { Prints out.old at (fit_row f) result out.new }
 {
-    let starts = f.start;
-    let lens = f.length;
     let line = add_decimal(out, at, f.number);
     let pieces = add_spaced(out, line, f.line);
-    let counts = add_pieces(out, pieces, starts, lens);
+    let counts = add_pieces(out, pieces, f.start, f.length);
     add_counts(out, counts, f.places, f.bytes)
 }
 
@@ -158,9 +154,7 @@ pub fn print_fits(text: &[u8], file: &[u8], out: &mut [u8]) -> usize
     let mut at = 0;
     while at < file.len() {
         let line = read_line(file, at);
-        let end = line.end;
-        let f = with_row::fit(text, &file[at..end]);
-        w = add_fitted(out, w, f);
+        w = add_fitted(out, w, with_row::fit(text, &file[at..line.end]));
         at = line.next;
     }
     w

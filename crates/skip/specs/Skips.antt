@@ -12,7 +12,7 @@ use Rattle.state.specs.declared.State.{State}
 use Rattle.state.specs.State.{shared_of, Sound}
 use Rattle.call.specs.declared.Head.{Head}
 use Rattle.call.specs.Call.{Laid, laid, frame_of, Placed}
-use Rattle.number.specs.declared.Valued.{Valued}
+use Rattle.number.specs.Number.{Valued}
 use Rattle.value.specs.Reads.{Values}
 use Rattle.write.specs.Layout.{bare, param_of}
 use Rattle.answer.specs.declared.Answer.{Answer}

@@ -2,7 +2,6 @@
 #![tactic(auto)]
 
 ghost use Rattle.std.specs.Prelude.{◌≡◌, ◌≤◌, length};
-ghost use Rattle.model.specs.Machine.{wanted};
 ghost use Rattle.model.specs.Text.{part, same};
 ghost use Rattle.store.specs.Memory.{Kept};
 ghost use Rattle.code.specs.Tokens.{Parameter};
@@ -13,41 +12,26 @@ ghost use Rattle.model.specs.Limits.{line_most};
 use answer::{Answer, end_with, go_on};
 use buffer::same_bytes;
 use call::{Head, param_len};
+use faults::RunFault;
 use landing::land_skip;
 use model::{Comparison, Integer, LINE_MOST, Marks};
-use number::{Valued, compare};
+use number::compare;
 use state::State;
-use store::Index;
 use value::value;
 
-// Skips v code lines; a negative skip ends the run with 18.
-fn skip_lines(m: Marks, text: &[u8], call: Head, v: Integer, s: State) -> Answer
-    requires { call.next ≤ length text.now }
-    ensures { SkipsLines m text.now call v s result }
-{
-    if v < 0 {
-        return end_with(18, s);
-    }
-    land_skip(m, text, call, v as usize, s)
-}
-
-// The value of parameter d.
-fn param_value(
-    m: Marks,
-    nums: &[usize],
-    params: &[u8],
-    d: usize,
-    memory: &[u8],
-    index: Index,
-) -> Valued
-    requires parameter { Parameter d }
-    requires sized { Sized nums.now params.now }
-    requires kept { Kept memory.now index }
-    ensures { ParamValue m nums.now params.now d memory.now index result }
-{
-    let from = LINE_MOST * (d - 1);
-    let to = from + param_len(nums, d);
-    value(m, memory, index, &params[from..to])
+// What a skip goes by: the call in which lines are skipped, with its numbers and bytes, and what its values are read from.
+#[derive(Clone, Copy)]
+pub struct Skip<'a> {
+    pub m: Marks,
+    pub text: &'a [u8],
+    pub call: Head,
+    pub nums: &'a [usize],
+    pub params: &'a [u8],
+    pub memory: &'a [u8],
+    pub state: State,
+    ghost sized: { Sized nums.now params.now },
+    ghost next_in_bounds: { call.next ≤ length text.now },
+    ghost kept: { Kept memory.now state.index },
 }
 
 // Whether two parts of the parameters' bytes, the second from offset 200 on, are the same.
@@ -58,120 +42,72 @@ fn parts_agree(params: &[u8], first: usize, second: usize) -> bool
     same_bytes(&params[0..first], &params[LINE_MOST..second])
 }
 
-// Whether parameters 1 and 2 are the same text.
-fn params_agree(nums: &[usize], params: &[u8]) -> bool
-    requires { Sized nums.now params.now }
-    ensures { Agrees nums.now params.now result }
-{
-    let first = param_len(nums, 1);
-    let second = LINE_MOST + param_len(nums, 2);
-    parts_agree(params, first, second)
-}
-
-// F4 by parameter d.
-pub fn skip_by(
-    m: Marks,
-    text: &[u8],
-    call: Head,
-    nums: &[usize],
-    params: &[u8],
-    d: usize,
-    memory: &[u8],
-    s: State,
-) -> Answer
-    requires parameter { Parameter d }
-    requires sized { Sized nums.now params.now × (call.next ≤ length text.now) }
-    requires kept { Kept memory.now s.index }
-    ensures { SkipsBy m text.now (laid call nums.now params.now)
-        d memory.now s result }
-{
-    match param_value(m, nums, params, d, memory, s.index) {
-        Valued::Number(v) => skip_lines(m, text, call, v, s),
-        Valued::Fault => end_with(15, s),
+impl<'a> Skip<'a> {
+    // Skips v code lines; a negative skip ends the run with 18.
+    fn skip_lines(&self, v: Integer) -> Answer
+        ensures { SkipsLines self.now.m self.now.text.now self.now.call v self.now.state result }
+    {
+        let Ok(n) = usize::try_from(v) else {
+            return end_with(RunFault::BadSkip, self.state);
+        };
+        land_skip(self.m, self.text, self.call, n, self.state)
     }
-}
 
-// Where a test holds, a skip by parameter 3.
-fn skip_if(
-    m: Marks,
-    text: &[u8],
-    holds: bool,
-    call: Head,
-    nums: &[usize],
-    params: &[u8],
-    memory: &[u8],
-    s: State,
-) -> Answer
-    requires sized { Sized nums.now params.now × (call.next ≤ length text.now) }
-    requires kept { Kept memory.now s.index }
-    ensures { SkipsIf m text.now holds (laid call nums.now params.now)
-        memory.now s result }
-{
-    if holds {
-        return skip_by(m, text, call, nums, params, 3, memory, s);
+    // The value of parameter d.
+    fn param_value(&self, d: usize) -> Option<Integer>
+        requires { Parameter d }
+        ensures { ParamValue self.now.m self.now.nums.now self.now.params.now d self.now.memory.now self.now.state.index result }
+    {
+        let from = LINE_MOST * (d - 1);
+        let to = from + param_len(self.nums, d);
+        value(self.m, self.memory, self.state.index, &self.params[from..to])
     }
-    go_on(call, s)
-}
 
-// F50 wants equal texts, F51 unequal ones.
-fn is_wanted(equal: bool, agree: bool) -> bool
-    ensures { result ≡ wanted equal agree }
-{
-    if equal {
-        return agree;
+    // Whether parameters 1 and 2 are the same text.
+    fn params_agree(&self) -> bool
+        ensures { Agrees self.now.nums.now self.now.params.now result }
+    {
+        let first = param_len(self.nums, 1);
+        let second = LINE_MOST + param_len(self.nums, 2);
+        parts_agree(self.params, first, second)
     }
-    !agree
-}
 
-// F5.
-pub fn skip_text(
-    m: Marks,
-    text: &[u8],
-    equal: bool,
-    call: Head,
-    nums: &[usize],
-    params: &[u8],
-    memory: &[u8],
-    s: State,
-) -> Answer
-    requires sized { Sized nums.now params.now × (call.next ≤ length text.now) }
-    requires kept { Kept memory.now s.index }
-    ensures { SkipsText m text.now equal (laid call nums.now params.now)
-        memory.now s result }
-{
-    skip_if(
-        m,
-        text,
-        is_wanted(equal, params_agree(nums, params)),
-        call,
-        nums,
-        params,
-        memory,
-        s,
-    )
-}
+    // F4 by parameter d.
+    pub fn skip_by(&self, d: usize) -> Answer
+        requires { Parameter d }
+        ensures { SkipsBy self.now.m self.now.text.now (laid self.now.call self.now.nums.now self.now.params.now) d self.now.memory.now self.now.state result }
+    {
+        match self.param_value(d) {
+            Some(v) => self.skip_lines(v),
+            None => end_with(RunFault::NoValue, self.state),
+        }
+    }
 
-// F6.
-pub fn skip_value(
-    m: Marks,
-    text: &[u8],
-    how: Comparison,
-    call: Head,
-    nums: &[usize],
-    params: &[u8],
-    memory: &[u8],
-    s: State,
-) -> Answer
-    requires sized { Sized nums.now params.now × (call.next ≤ length text.now) }
-    requires kept { Kept memory.now s.index }
-    ensures { SkipsValue m text.now how (laid call nums.now params.now)
-        memory.now s result }
-{
-    let Valued::Number(a) = param_value(m, nums, params, 1, memory, s.index) else {
-        return end_with(15, s);
-    };
-    let Valued::Number(b) = param_value(m, nums, params, 2, memory, s.index) else {
-        return end_with(15, s);
-    };
-    skip_if(m, text, compare(how, a, b), call, nums, params, memory, s)
+    // Where a test holds, a skip by parameter 3.
+    fn skip_if(&self, holds: bool) -> Answer
+        ensures { SkipsIf self.now.m self.now.text.now holds (laid self.now.call self.now.nums.now self.now.params.now) self.now.memory.now self.now.state result }
+    {
+        if holds {
+            return self.skip_by(3);
+        }
+        go_on(self.call, self.state)
+    }
+
+    // F5: F50 wants equal texts, F51 unequal ones.
+    pub fn skip_text(&self, equal: bool) -> Answer
+        ensures { SkipsText self.now.m self.now.text.now equal (laid self.now.call self.now.nums.now self.now.params.now) self.now.memory.now self.now.state result }
+    {
+        let agree = self.params_agree();
+        self.skip_if(agree == equal)
+    }
+
+    // F6.
+    pub fn skip_value(&self, how: Comparison) -> Answer
+        ensures { SkipsValue self.now.m self.now.text.now how (laid self.now.call self.now.nums.now self.now.params.now) self.now.memory.now self.now.state result }
+    {
+        match (self.param_value(1), self.param_value(2)) {
+            (Some(a), Some(b)) => self.skip_if(compare(how, a, b)),
+            _ => end_with(RunFault::NoValue, self.state),
+        }
+    }
 }

@@ -72,6 +72,7 @@ fn fill_children(
     let end = parent.end_of_children();
     let mut c = made;
     let mut at = parent.first_child();
+    // each turn takes a run of templates, and the look for it says how long it is: no range has these steps
     while at < end {
         let r = take_run(mark, text, table, n, at, end, d);
         at = r.end;
@@ -122,6 +123,7 @@ fn grow_tree(mark: u8, text: &[u8], table: &Table, n: usize, nodes: &mut [Node])
 {
     let mut c = 1;
     let mut i = 0;
+    // the tree grows while it is gone over, so how many turns there are is not known at first: no range
     while i < c {
         c = add_children(mark, text, table, n, nodes, i, c);
         i += 1;

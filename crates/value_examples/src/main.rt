@@ -3,7 +3,6 @@
 // them, and the ends of the range for each step and each kind of operand.
 #![tactic(auto)]
 
-ghost use Rattle.std.specs.Prelude.{◌≤◌, length};
 ghost use Rattle.store.specs.Memory.{Kept};
 
 use model::{Integer, Marks, STORE_LEAST};
@@ -12,106 +11,90 @@ use std::io::{Read, Write};
 use store::Index;
 
 // The marks of document 01's session.
-fn session() -> Marks {
-    Marks {
-        source: b'$',
-        placeholder: b'!',
-        code: b'$',
-        escape: b'!',
-        blank: b' ',
-        left: b'(',
-        plus: b'+',
-        minus: b'-',
-        times: b'*',
-        divide: b'/',
-        right: b')',
-    }
-}
+const SESSION: Marks = Marks {
+    source: b'$',
+    placeholder: b'!',
+    code: b'$',
+    escape: b'!',
+    blank: b' ',
+    left: b'(',
+    plus: b'+',
+    minus: b'-',
+    times: b'*',
+    divide: b'/',
+    right: b')',
+};
 
 // A value in decimal.
 fn say_number(output: &mut impl Write, z: Integer) {
     let mut out = [0u8; 21];
-    let n = number::write_value(session(), z, &mut out);
+    let n = number::write_value(SESSION, z, &mut out);
     let _ = output.write_all(&out[0..n]);
 }
 
-// The text and its value.
-fn say(output: &mut impl Write, memory: &[u8], index: Index, text: &[u8])
-    requires { Kept memory.now index }
-{
-    let _ = output.write_all(text);
-    let _ = output.write_all(b": ");
-    match value::value(session(), memory, index, text) {
-        Some(z) => {
-            say_number(output, z);
-        }
-        None => {
-            let _ = output.write_all(b"fault 15");
-        }
-    }
-    let _ = output.write_all(b"\n");
+// The names that the lines store.
+#[derive(Drop)]
+struct Names {
+    memory: [u8; STORE_LEAST],
+    index: Index,
+    ghost kept: { Kept memory index },
 }
 
-// The index after the text was stored under the name, or as it was where either is too long or there is no room.
-fn keep(memory: &mut [u8], index: Index, name: &[u8], text: &[u8]) -> Index
-    requires { Kept memory.old index }
-    ensures { Kept memory.new result }
-{
-    if 255 < name.len() {
-        return index;
+impl Names {
+    // None is stored yet.
+    fn new() -> Names {
+        let memory = [0u8; STORE_LEAST];
+        let index = store::empty(&memory);
+        Names { memory, index }
     }
-    if 255 < text.len() {
-        return index;
-    }
-    match store::put(memory, index, name, text) {
-        Ok(stored) => stored,
-        Err(_) => index,
-    }
-}
 
-// One line.
-fn turn(output: &mut impl Write, memory: &mut [u8], index: Index, line: &[u8]) -> Index
-    requires { Kept memory.old index }
-    ensures { Kept memory.new result }
-{
-    let e = find_byte(line, 0, line.len(), b'=');
-    if e < line.len() {
-        let from = e + 1;
-        return keep(memory, index, &line[0..e], &line[from..]);
+    // The text is stored under the name, unless either is too long or there is no room.
+    fn keep(&mut self, name: &[u8], text: &[u8]) {
+        if name.len() <= 255 && text.len() <= 255 {
+            if let Ok(index) = store::put(&mut self.memory, self.index, name, text) {
+                self.index = index;
+            }
+        }
     }
-    say(output, memory, index, line);
-    index
+
+    // The text and its value.
+    fn say(&self, output: &mut impl Write, text: &[u8]) {
+        let _ = output.write_all(text);
+        let _ = output.write_all(b": ");
+        match value::value(SESSION, &self.memory, self.index, text) {
+            Some(z) => {
+                say_number(output, z);
+            }
+            None => {
+                let _ = output.write_all(b"fault 15");
+            }
+        }
+        let _ = output.write_all(b"\n");
+    }
+
+    // One line.
+    fn turn(&mut self, output: &mut impl Write, line: &[u8]) {
+        let e = find_byte(line, 0, line.len(), b'=');
+        if e < line.len() {
+            let from = e + 1;
+            self.keep(&line[0..e], &line[from..]);
+        } else {
+            self.say(output, line);
+        }
+    }
 }
 
 // Each line of the text, in order.
 fn run(output: &mut impl Write, text: &[u8]) {
-    let mut memory = [0u8; STORE_LEAST];
-    let mut index = store::empty(&memory);
-    let mut at = 0;
-    while at < text.len() {
-        let e = find_byte(text, at, text.len(), 10);
-        index = turn(output, &mut memory, index, &text[at..e]);
-        at = e + 1;
+    let mut names = Names::new();
+    for line in text.split_inclusive(|b| *b == b'\n') {
+        names.turn(output, line.strip_suffix(b"\n").unwrap_or(line));
     }
 }
 
-// Reads until buf is full, the input ends or a read fails, and answers how many bytes it put at the start of buf.
-fn read_full(input: &mut impl Read, buf: &mut [u8]) -> usize
-    ensures { result ≤ length buf.new }
-{
-    let mut done = 0;
-    while done < buf.len() {
-        let n = input.read(&mut buf[done..]).unwrap_or(0);
-        if n == 0 {
-            break;
-        }
-        done += n;
-    }
-    done
-}
-
+// The first 4,096 bytes of the input. Where a read fails, the input ends.
 fn main(rt: HostRuntime) {
-    let mut text = [0u8; 4096];
-    let n = read_full(&mut rt.stdin(), &mut text);
-    run(&mut rt.stdout(), &text[0..n]);
+    let mut text = Vec::new(rt.alloc());
+    let _ = rt.stdin().take(4096).read_to_end(&mut text);
+    run(&mut rt.stdout(), &text);
 }

@@ -1,24 +1,14 @@
 -- build_line: what is left of the code line comes to the same as the whole, up to its end or the first fault. The invariant is `Partly`, which says so;
 -- the measure is what is left of the code line.
 use borrow.Author.Rules.{rules}
-use Rattle.code.proofs.Lines.{has-less}
-use Rattle.build.proofs.Lines.{has_ranges, partly_starts, partly_ends, partly_more, partly_fails}
+use Rattle.build.proofs.Lines.{partly_ends, partly_more, partly_fails}
 use Rattle.build.proofs.build_line.Goals as goal
-
-pub loop-ending-init : goal.loop-ending-init
-loop-ending-init c = search (partly_starts, rules)
 
 pub returns-in-Ends : goal.returns-in-Ends
 returns-in-Ends c = partly_ends c.loop-ending.invariant c.read_token.ensures c.in-Ends.is
 
-pub add_part-requires : goal.add_part-requires
-add_part-requires c = record { has_built = search rules; kept = search rules; ranges = (search has_ranges, search rules, search rules) }
-
 pub returns-in_err-added-in-Has : goal.returns-in_err-added-in-Has
 returns-in_err-added-in-Has c = partly_fails c.loop-ending.invariant c.read_token.ensures c.in-Has.is c.add_part.ensures c.in_err-added-in-Has.was c.from_residual.ensures.1
-
-pub loop-ending-smaller : goal.loop-ending-smaller
-loop-ending-smaller c = search has-less
 
 pub loop-ending-preserved : goal.loop-ending-preserved
 loop-ending-preserved c = partly_more c.loop-ending.invariant c.read_token.ensures c.in-Has.is c.add_part.ensures c.in_ok-added-in-Has.was (search rules)

@@ -3,8 +3,8 @@ use borrow.Author.Rules.{rules}
 use Rattle.finish.proofs.Storing.{saves, saves_full}
 use Rattle.finish.proofs.save.Goals as goal
 
-pub returns-in-Now : goal.returns-in-Now
-returns-in-Now c = search (saves, rules)
+pub returns-in-Ok : goal.returns-in-Ok
+returns-in-Ok c = search (saves, rules)
 
-pub returns-in-Full : goal.returns-in-Full
-returns-in-Full c = search (saves_full, rules)
+pub returns-in-Err : goal.returns-in-Err
+returns-in-Err c = search (saves_full, rules)

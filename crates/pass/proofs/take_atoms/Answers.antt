@@ -14,9 +14,6 @@ returns-then-has_byte c = search (taking_delimiter, rules)
 pub returns-in_default : goal.returns-in_default
 returns-in_default c = search (taking_fails, atom-by-brackets, rules)
 
-pub loop-end-smaller : goal.loop-end-smaller
-loop-end-smaller c = search (taking_falls, rules)
-
 pub loop-end-preserved : goal.loop-end-preserved
 loop-end-preserved c = search (taking_goes_on, atom-by-brackets, rules)
 
