@@ -9,3 +9,4 @@ pub mod Appended
 pub mod Writing
 pub mod Listed
 pub mod Callers
+pub mod Answering

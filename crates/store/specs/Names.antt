@@ -1,6 +1,6 @@
 -- What the store's methods answer, over the names that it has with their texts.
 use Rattle.std.specs.Prelude.{◌≡◌, false, List, ℕ, ◌≤◌, ◌<◌, length, Option, Result, Ok, Err, IfSome}
-use Rattle.model.specs.Limits.{store_least}
+use Rattle.model.specs.Limits.{names_most, store_least}
 use Rattle.model.specs.Store as Model
 use Rattle.model.specs.Store.{find, put, within, memory_fault, listing}
 use Rattle.buffer.specs.Written.{Written}
@@ -10,10 +10,11 @@ use Rattle.store.specs.declared.Full.{Full}
 abbrev pub Names : Type 0
 Names = Model.Store
 
--- r is the text under a name, if it is stored
+-- r is the text under a name, if it is stored; no text is long, and the names are never too many to be counted
 pub record GetsText (es : Names) (name : List ℕ) (r : Option (List ℕ)) : Type 0 where
   pub is : found_text r ≡ find name es
   pub short : IfSome r (λ t. length t < 256)
+  pub few : length es ≤ names_most
 
 -- document 01's number for an answer: full is 19
 abbrev pub put_fault : Result Unit Full → ℕ
