@@ -28,7 +28,7 @@ extends_more {o} {w} {o₁} {w₁} {o₂} {w₂} a b =
       fits = omega (arith, b.fits);
     }
 
-pub both_none : {text : Bytes} {s : State} {o : Outputs} {memory : Bytes} → Sound text s o memory → ExtendsBoth o s o s
+pub both_none : {text : Bytes} {s : State} {o : Outputs} → Sound text s o → ExtendsBoth o s o s
 both_none h = record { first = extends_none h.written; second = extends_none h.second }
 
 pub both_more : {o o₁ o₂ : Outputs} {s s₁ s₂ : State} → ExtendsBoth o s o₁ s₁ → ExtendsBoth o₁ s₁ o₂ s₂ → ExtendsBoth o s o₂ s₂
@@ -41,10 +41,10 @@ rooms_kept x = λ i. rooms (x.first.long i) (x.second.long i)
 pub stays_same : (s : State) → Stays s s
 stays_same s = record { from = omega arith; calls = refl; events = refl; fuel = refl }
 
-pub follows_itself : {text : Bytes} {s : State} {o : Outputs} {w : Bytes} → Sound text s o w → Follows text s o s o w
+pub follows_itself : {text : Bytes} {s : State} {o : Outputs} → Sound text s o → Follows text s o s o
 follows_itself h = record { sound = h; from = omega arith; fuel = omega arith; extends = both_none h }
 
-pub follows_trans : {text : Bytes} {s s₁ s₂ : State} {o o₁ o₂ : Outputs} {w₁ w₂ : Bytes} → Follows text s o s₁ o₁ w₁ → Follows text s₁ o₁ s₂ o₂ w₂ → Follows text s o s₂ o₂ w₂
+pub follows_trans : {text : Bytes} {s s₁ s₂ : State} {o o₁ o₂ : Outputs} → Follows text s o s₁ o₁ → Follows text s₁ o₁ s₂ o₂ → Follows text s o s₂ o₂
 follows_trans g h = record {
   sound = h.sound;
   from = omega (arith, g.from, h.from);

@@ -1,7 +1,7 @@
 -- What is kept from one answer to the next, and what a code line's answer is.
 use Rattle.std.specs.Prelude.{◌≡◌, List, ℕ, ◌≤◌, length, take, drop}
 use Rattle.std.proofs.Math.Option.{none}
-use Rattle.model.specs.Limits.{line_most, fuel_most}
+use Rattle.model.specs.Limits.{fuel_most}
 use Rattle.model.specs.declared.Marks.{Marks}
 use Rattle.model.specs.Text.{Bytes}
 use Rattle.model.specs.Report.{Tally}
@@ -10,9 +10,8 @@ use Rattle.model.specs.Sizes.{Nested}
 use Rattle.state.specs.declared.State.{State}
 use Rattle.state.specs.State.{Sound, state_of}
 use Rattle.call.specs.declared.Call.{Call}
-use Rattle.call.specs.Call.{opened_of, Laid, laid, frame_of, Placed}
-use Rattle.answer.specs.declared.Answer.{Answer}
-use Rattle.answer.specs.Answers.{offered_length, settle, next_of}
+use Rattle.call.specs.Call.{frame_of, Placed}
+use Rattle.answer.specs.Answers.{Answer, settle, next_of}
 
 -- what was written to an output stays, and so does what lies beyond what is written now
 pub record Extends (o : Bytes) (w : ℕ) (o' : Bytes) (w' : ℕ) : Type 0 where
@@ -31,10 +30,10 @@ pub record ExtendsBoth (o : Outputs) (s : State) (o' : Outputs) (s' : State) : T
 pub record Begun (m : Marks) (text : Bytes) (c : Call) : Type 0 where
   pub number : c.number ≤ fuel_most
   pub next : c.next ≤ length text
-  pub nested : Nested m (opened_of m text c)
+  pub nested : Nested m (frame_of m text c)
 
 -- what is asked of an open call
-pub record Open (m : Marks) (text : Bytes) (c : Laid) : Type 0 where
+pub record Open (m : Marks) (text : Bytes) (c : Call) : Type 0 where
   pub placed : Placed text c
   pub nested : Nested m (frame_of m text c)
 
@@ -49,23 +48,21 @@ pub record Stays (s t : State) : Type 0 where
 
 -- r is what the step p comes to from the state s. A step has what calls share with it, so that of the state before only input, line, calls and events
 -- count.
---   s o                     state and outputs before it
---   line                    the line that was built
---   nums bytes o' memory'   the call's numbers and bytes, outputs and memory after it
-pub record Comes (m : Marks) (text : Bytes) (p : Step) (s : State) (o : Outputs) (line : Bytes)
-    (r : Answer) (nums : List ℕ) (bytes : Bytes) (o' : Outputs) (memory' : Bytes) : Type 0 where
-  pub same : (fs : List Frame) (y : Tally) → settle (stepped m fs p (state_of text none fs y s o' memory')) ≡ next_of m text fs y r nums bytes line o' memory'
-  pub sound : Sound text r.state o' memory'
-  pub placed : Placed text (laid r.call nums bytes)
-  pub short : offered_length r.turn ≤ line_most
-  pub stays : Stays s r.state
-  pub extends : ExtendsBoth o s o' r.state
+--   s o        state and outputs before it
+--   line       the line that was built
+--   s' c' o'   state, call and outputs after it
+pub record Comes (m : Marks) (text : Bytes) (p : Step) (s : State) (o : Outputs) (line : Bytes) (r : Answer) (s' : State) (c' : Call) (o' : Outputs) : Type 0 where
+  pub same : (fs : List Frame) (y : Tally) → settle (stepped m fs p (state_of text none fs y s o')) ≡ next_of m text fs y r c' s' line o'
+  pub sound : Sound text s' o'
+  pub placed : Placed text c'
+  pub stays : Stays s s'
+  pub extends : ExtendsBoth o s o' s'
 
 -- ---- from one event to another
 
--- the state, outputs and memory that follow s and o
-pub record Follows (text : Bytes) (s : State) (o : Outputs) (s' : State) (o' : Outputs) (memory' : Bytes) : Type 0 where
-  pub sound : Sound text s' o' memory'
+-- the state and outputs that follow s and o
+pub record Follows (text : Bytes) (s : State) (o : Outputs) (s' : State) (o' : Outputs) : Type 0 where
+  pub sound : Sound text s' o'
   pub from : s.at ≤ s'.at
   pub fuel : s'.fuel ≤ s.fuel
   pub extends : ExtendsBoth o s o' s'
