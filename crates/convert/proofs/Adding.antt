@@ -8,87 +8,62 @@ use native.Mathlib.Omega.{arith}
 use lib.IntN.{ℤ}
 use lib.ListN.{length}
 use mir.Val.{to_z, of_z}
-use Rattle.std.specs.Prelude.{Option, Some, None, Result, Ok, Err, IfOk, IsErrAnd, ok_or}
+use Rattle.std.specs.Prelude.{Option, Some, None, Result, Ok, Err, IsErrAnd, ok_or}
 use Rattle.faults.specs.declared.RunFault.{RunFault}
 use Rattle.faults.specs.declared.RunFault.TheVariants.{NoValue, NoCodePoint, BadCharacter}
 use Rattle.faults.specs.Numbers.{run_number}
 use Rattle.model.specs.declared.Marks.{Marks}
-use Rattle.model.specs.Text.{Bytes, part}
-use Rattle.model.specs.Store.{decimal}
+use Rattle.model.specs.Text.{Bytes}
+use Rattle.model.specs.Store.{Store, decimal}
 use Rattle.model.specs.Value.{written}
 use Rattle.model.specs.Machine.{Shared, Building, failed, add, add_value, add_length, add_code_point, Outputs}
 use Rattle.character.specs.declared.Counted.{Counted}
 use Rattle.character.specs.declared.Malformed.{Malformed}
 use Rattle.character.specs.Counting.{CountsCharacters}
 use Rattle.character.proofs.Counting.{counted_none, counted-some, counted-one}
-use Rattle.store.specs.Memory.{Kept}
-use Rattle.store.specs.declared.Index.{Index}
 use Rattle.number.specs.Number.{width, number_of, InRange, Valued}
 use Rattle.number.proofs.Signed.{told_in}
 use Rattle.value.specs.Reads.{Values}
 use Rattle.state.specs.declared.State.{State}
 use Rattle.state.specs.State.{shared_of}
+use Rattle.call.specs.declared.Text.{Text}
+use Rattle.call.specs.Call.{text_of}
 use Rattle.call.specs.Line.{line_step, Appends}
-use Rattle.convert.specs.declared.Added.{Added}
-use Rattle.convert.specs.declared.Failed.{Failed}
-use Rattle.convert.specs.Added.{answered, state_after, added_step, Keeps, Adds, Lengthens}
+use Rattle.convert.specs.Added.{Keeps, Adds, Lengthens}
 use Rattle.convert.specs.Converted.{AddsValue, AddsLength, AddsCodePoint}
 use Rattle.convert.proofs.Appending.{appends_as}
 
--- ---- an answer with its state
+pub keeps_same : {s : State} → s.symbols ≤ length s.store → Keeps s s
+keeps_same h = record { symbols = h; at = refl; line = refl; calls = refl; written = refl; second = refl; events = refl; fuel = refl }
 
-pub line_answered : (line : Bytes) (a : Result ℕ RunFault) (s : State) (w : Shared) → line_step line a w ≡ added_step line (answered a s) w
-unfolding line_step added_step
-line_answered line (Ok n) s w = refl
-line_answered line (Err e) s w = refl
+-- a step that makes of s what `other` makes of t
+pub adds_after : {step other : Shared → Building} {s t : State} {y : Text} {r : Result Unit RunFault}
+    → ((o : Outputs) → step (shared_of s o) ≡ other (shared_of t o)) → Keeps s t → Lengthens other r y → Adds step s r y t
+adds_after {t = t} e k p = record { is = λ o. e o ∙ p.is (shared_of t o); keeps = k }
 
-answered-short : (a : Result ℕ RunFault) (s : State) → IfOk a (λ n. n ≤ 200) → IfOk (answered a s) (λ x. x.len ≤ 200)
-answered-short (Ok n) s h = h
-answered-short (Err e) s h = tt
+-- one that stores nothing
+pub adds_made : {step other : Shared → Building} {s : State} {y : Text} {r : Result Unit RunFault} → s.symbols ≤ length s.store
+    → ((o : Outputs) → step (shared_of s o) ≡ other (shared_of s o)) → Lengthens other r y → Adds step s r y s
+adds_made h e p = adds_after e (keeps_same h) p
 
-answered-state : (a : Result ℕ RunFault) (s : State) → state_after (answered a s) ≡ s
-answered-state (Ok n) s = refl
-answered-state (Err e) s = refl
+pub appends_lengthens : {x y : Text} {t : Bytes} {r : Result Unit RunFault} → Appends x t r y → Lengthens (λ w. add (text_of x) t w) r y
+appends_lengthens p = record { is = p.is }
 
-pub keeps_same : {s : State} {memory : Bytes} → Kept memory s.index → s.symbols ≤ s.index.count → Keeps s memory s
-keeps_same k h = record { kept = k; symbols = h; at = refl; line = refl; calls = refl; written = refl; second = refl; events = refl; fuel = refl }
-
--- a step that makes of s and memory what `other` makes of t and memory'
-pub adds_after : {step other : Shared → Building} {s t : State} {memory line memory' : Bytes} {a : Result ℕ RunFault} {r : Result Added Failed}
-    → ((o : Outputs) → step (shared_of s o memory) ≡ other (shared_of t o memory')) → Keeps s memory' t → Lengthens other line a → r ≡ answered a t → Adds step s memory line memory' r
-adds_after {step} {other} {s} {t} {memory} {line} {memory'} {a} e k p q =
-    let z = answered-state a t in
-    subst (λ (x : Result Added Failed). Adds step s memory line memory' x) (sym q)
-    (record {
-      is = λ o. e o ∙ p.is (shared_of t o memory') ∙ line_answered line a t (shared_of t o memory') ∙ ap (λ (x : State). added_step line (answered a t) (shared_of x o memory')) (sym z);
-      keeps = subst (λ (x : State). Keeps s memory' x) (sym z) k;
-      short = answered-short a t p.short;
-    })
-
-module _ {step other : Shared → Building} {s : State} {memory line : Bytes} {a : Result ℕ RunFault} {r : Result Added Failed} (k : Kept memory s.index) (h : s.symbols ≤ s.index.count) where
-  pub adds_made : ((o : Outputs) → step (shared_of s o memory) ≡ other (shared_of s o memory)) → Lengthens other line a → r ≡ answered a s → Adds step s memory line memory r
-  adds_made e p q = adds_after e (keeps_same k h) p q
-
-pub appends_lengthens : {line : Bytes} {n : ℕ} {t line' : Bytes} {a : Result ℕ RunFault} → Appends line n t line' a → Lengthens (λ w. add (part line 0 n) t w) line' a
-appends_lengthens p = record { is = p.is; short = p.short }
-
-pub adds_answered : {step : Shared → Building} {s : State} {memory line : Bytes} {n : ℕ} {t line' : Bytes} {a : Result ℕ RunFault} {r : Result Added Failed}
-    → Kept memory s.index → s.symbols ≤ s.index.count → ((o : Outputs) → step (shared_of s o memory) ≡ add (part line 0 n) t (shared_of s o memory))
-    → Appends line n t line' a → r ≡ answered a s → Adds step s memory line' memory r
-adds_answered k h e p q = adds_made k h e (appends_lengthens p) q
+pub adds_appended : {step : Shared → Building} {s : State} {x y : Text} {t : Bytes} {r : Result Unit RunFault} → s.symbols ≤ length s.store
+    → ((o : Outputs) → step (shared_of s o) ≡ add (text_of x) t (shared_of s o)) → Appends x t r y → Adds step s r y s
+adds_appended h e p = adds_made h e (appends_lengthens p)
 
 -- ---- steps that store nothing
 
 -- one that comes to a part that is added, and one that comes to a fault
-lengthens_by : {step : Shared → Building} {line : Bytes} {n : ℕ} {t line' : Bytes} {a : Result ℕ RunFault} → ((w : Shared) → step w ≡ add (part line 0 n) t w) → Appends line n t line' a
-    → Lengthens step line' a
-lengthens_by e p = record { is = λ w. e w ∙ p.is w; short = p.short }
+lengthens_by : {step : Shared → Building} {x y : Text} {t : Bytes} {r : Result Unit RunFault} → ((w : Shared) → step w ≡ add (text_of x) t w) → Appends x t r y → Lengthens step r y
+lengthens_by e p = record { is = λ w. e w ∙ p.is w }
 
-lengthens_not : {step : Shared → Building} {line : Bytes} (e : RunFault) {a : Result ℕ RunFault} → ((w : Shared) → step w ≡ failed (run_number e) w) → IsErrAnd a (λ f. f ≡ e)
-    → Lengthens step line a
+lengthens_not : {step : Shared → Building} {x : Text} (e : RunFault) {r : Result Unit RunFault} → ((w : Shared) → step w ≡ failed (run_number e) w) → IsErrAnd r (λ f. f ≡ e)
+    → Lengthens step r x
 unfolding line_step
-lengthens_not e {a = Ok n} p q = absurd q
-lengthens_not e {a = Err f} p q = record { is = λ w. p w ∙ ap (λ (n : ℕ). failed n w) (sym (ap run_number q)); short = tt }
+lengthens_not e {r = Ok n} p q = absurd q
+lengthens_not e {r = Err f} p q = record { is = λ w. p w ∙ ap (λ (n : ℕ). failed n w) (sym (ap run_number q)) }
 
 -- ---- ed4
 
@@ -101,23 +76,23 @@ pub valued_some : {o : Option ℤ} {q : Result ℤ RunFault} {v : ℤ} (d : RunF
 valued_some {o = Some v} d p f = cc
 valued_some {o = None} d p f = let z : ◌≡◌ {A = ℕ} 0 1 = cc in absurd (omega arith)
 
-module _ {m : Marks} {t : Bytes} {line : Bytes} {n : ℕ} {x : Index} {memory : Bytes} {v : Valued} (g : Values m memory x t v) where
-  pub value-fault : {q : Result ℤ RunFault} {e : RunFault} {a : Result ℕ RunFault} → q ≡ ok_or v NoValue → q ≡ Err e → IsErrAnd a (λ f. f ≡ e) → AddsValue m t memory x line n line a
+module _ {m : Marks} {t : Bytes} {x : Text} {es : Store} {v : Valued} (g : Values m es t v) where
+  pub value-fault : {q : Result ℤ RunFault} {e : RunFault} {r : Result Unit RunFault} → q ≡ ok_or v NoValue → q ≡ Err e → IsErrAnd r (λ f. f ≡ e) → AddsValue m t es x r x
   unfolding add_value
-  value-fault {a = a} p e f =
+  value-fault {r = r} p e f =
       let k = valued_none p e in
       record {
-        adds = lengthens_not NoValue (λ w. ap (λ (o : Math.Option ℤ). add_value m (part line 0 n) o w) (g.is ∙ ap number_of k.0))
-            (subst (λ (x : RunFault). IsErrAnd a (λ f. f ≡ x)) k.1 f);
+        adds = lengthens_not NoValue (λ w. ap (λ (o : Math.Option ℤ). add_value m (text_of x) o w) (g.is ∙ ap number_of k.0))
+            (subst (λ (e : RunFault). IsErrAnd r (λ f. f ≡ e)) k.1 f);
       }
 
   -- a signed number is read back from its bits
-  pub value_number : {q : Result ℤ RunFault} {z : ℤ} {line' : Bytes} {a : Result ℕ RunFault} → q ≡ ok_or v NoValue → q ≡ Ok z → Appends line n (written m (to_z width (of_z width z))) line' a → AddsValue m t memory x line n line' a
+  pub value_number : {q : Result ℤ RunFault} {z : ℤ} {y : Text} {r : Result Unit RunFault} → q ≡ ok_or v NoValue → q ≡ Ok z → Appends x (written m (to_z width (of_z width z))) r y → AddsValue m t es x r y
   unfolding add_value
   value_number {z = z} f e p =
       let k = valued_some NoValue f e in
       record {
-        adds = lengthens_by (λ w. ap (λ (o : Math.Option ℤ). add_value m (part line 0 n) o w) (g.is ∙ ap number_of k))
+        adds = lengthens_by (λ w. ap (λ (o : Math.Option ℤ). add_value m (text_of x) o w) (g.is ∙ ap number_of k))
             (appends_as (ap (written m) (told_in z (subst InRange k g.fits))) p);
       }
 
@@ -130,29 +105,29 @@ point_other l [] w h = refl
 point_other l (v ∷ []) w h = absurd (h refl)
 point_other l (v ∷ u ∷ vs) w h = refl
 
-module _ {t line : Bytes} {n : ℕ} {q : Result Counted Malformed} (g : CountsCharacters t q) where
-  pub length_malformed : {z : Malformed} {a : Result ℕ RunFault} → q ≡ Err z → IsErrAnd a (λ f. f ≡ BadCharacter) → AddsLength t line n line a
+module _ {t : Bytes} {x : Text} {q : Result Counted Malformed} (g : CountsCharacters t q) where
+  pub length_malformed : {z : Malformed} {r : Result Unit RunFault} → q ≡ Err z → IsErrAnd r (λ f. f ≡ BadCharacter) → AddsLength t x r x
   unfolding add_length
-  length_malformed e f = record { adds = lengthens_not BadCharacter (λ w. ap (λ (o : Math.Option (List ℕ)). add_length (part line 0 n) o w) (counted_none g e)) f }
+  length_malformed e f = record { adds = lengthens_not BadCharacter (λ w. ap (λ (o : Math.Option (List ℕ)). add_length (text_of x) o w) (counted_none g e)) f }
 
-  pub length-added : {c : Counted} {line' : Bytes} {a : Result ℕ RunFault} → q ≡ Ok c → Appends line n (decimal c.count) line' a → AddsLength t line n line' a
+  pub length-added : {c : Counted} {y : Text} {r : Result Unit RunFault} → q ≡ Ok c → Appends x (decimal c.count) r y → AddsLength t x r y
   unfolding add_length
   length-added e p =
       let f = counted-some g e in
-      record { adds = lengthens_by (λ w. ap (λ (o : Math.Option (List ℕ)). add_length (part line 0 n) o w) f.are) (appends_as (ap decimal f.count) p) }
+      record { adds = lengthens_by (λ w. ap (λ (o : Math.Option (List ℕ)). add_length (text_of x) o w) f.are) (appends_as (ap decimal f.count) p) }
 
-  pub point_malformed : {z : Malformed} {a : Result ℕ RunFault} → q ≡ Err z → IsErrAnd a (λ f. f ≡ BadCharacter) → AddsCodePoint t line n line a
+  pub point_malformed : {z : Malformed} {r : Result Unit RunFault} → q ≡ Err z → IsErrAnd r (λ f. f ≡ BadCharacter) → AddsCodePoint t x r x
   unfolding add_code_point
-  point_malformed e f = record { adds = lengthens_not BadCharacter (λ w. ap (λ (o : Math.Option (List ℕ)). add_code_point (part line 0 n) o w) (counted_none g e)) f }
+  point_malformed e f = record { adds = lengthens_not BadCharacter (λ w. ap (λ (o : Math.Option (List ℕ)). add_code_point (text_of x) o w) (counted_none g e)) f }
 
-  pub point_others : {c : Counted} → q ≡ Ok c → (c.count ≡ 1 → ⊥) → AddsCodePoint t line n line (Err NoCodePoint)
+  pub point_others : {c : Counted} → q ≡ Ok c → (c.count ≡ 1 → ⊥) → AddsCodePoint t x (Err NoCodePoint) x
   point_others e z =
       let f = counted-some g e in
       record {
         adds = lengthens_not NoCodePoint
-            (λ w. ap (λ (o : Math.Option (List ℕ)). add_code_point (part line 0 n) o w) f.are ∙ point_other (part line 0 n) f.codes w (λ i. z (f.count ∙ i))) refl;
+            (λ w. ap (λ (o : Math.Option (List ℕ)). add_code_point (text_of x) o w) f.are ∙ point_other (text_of x) f.codes w (λ i. z (f.count ∙ i))) refl;
       }
 
-  pub point_added : {c : Counted} {line' : Bytes} {a : Result ℕ RunFault} → q ≡ Ok c → c.count ≡ 1 → Appends line n (decimal c.code) line' a → AddsCodePoint t line n line' a
+  pub point_added : {c : Counted} {y : Text} {r : Result Unit RunFault} → q ≡ Ok c → c.count ≡ 1 → Appends x (decimal c.code) r y → AddsCodePoint t x r y
   unfolding add_code_point
-  point_added e z p = record { adds = lengthens_by (λ w. ap (λ (o : Math.Option (List ℕ)). add_code_point (part line 0 n) o w) (counted-one g e z)) p }
+  point_added e z p = record { adds = lengthens_by (λ w. ap (λ (o : Math.Option (List ℕ)). add_code_point (text_of x) o w) (counted-one g e z)) p }

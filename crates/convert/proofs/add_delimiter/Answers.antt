@@ -6,4 +6,4 @@ pub returns-in-Some : goal.returns-in-Some
 returns-in-Some c = appends_delimiter c.in-Some.is c.add_byte.ensures
 
 pub returns-in-None : goal.returns-in-None
-returns-in-None c = appends_none c.requires.0 c.in-None.is
+returns-in-None c = appends_none c.in-None.is c.append.ensures

@@ -1,9 +1,13 @@
--- add_new_symbol: the name is stored with the next number, or memory is full.
+-- add_new_symbol: the name is stored with the next number, or the store is full.
+use native.Mathlib.Omega.{arith}
 use Rattle.convert.proofs.Symbols.{symbol_full, symbol_new}
 use Rattle.convert.proofs.add_new_symbol.Goals as goal
 
-pub returns-in-Err : goal.returns-in-Err
-returns-in-Err c = symbol_full c.requires.kept.0 c.requires.kept.1 c.requires.missing.0 c.put_number.ensures c.in-Err.is c.into.ensures c.answer-in-Err.ensures
+pub overflow_add-next : goal.overflow_add-next
+overflow_add-next c = omega (arith, c.requires.symbols, c.requires.missing.0.few)
 
-pub returns-in-Ok : goal.returns-in-Ok
-returns-in-Ok c = search (symbol_new, c.requires.kept, c.requires.missing)
+pub returns-in_err-put_number : goal.returns-in_err-put_number
+returns-in_err-put_number c = symbol_full c.requires.symbols c.requires.missing.0 c.put_number.ensures c.in_err-put_number.was c.from_residual.ensures.1
+
+pub returns : goal.returns
+returns c = symbol_new c.requires.symbols c.requires.missing.0 c.put_number.ensures c.in_ok-put_number.was c.add_number.ensures

@@ -5,7 +5,7 @@ use Rattle.convert.proofs.Symbols.{missing, symbol_there}
 use Rattle.convert.proofs.add_symbol.Goals as goal
 
 pub returns-in-Some : goal.returns-in-Some
-returns-in-Some c = symbol_there c.requires.kept.0 c.requires.kept.1 c.in-Some.ensures refl c.append.ensures c.answer.ensures
+returns-in-Some c = symbol_there c.requires.symbols c.in-Some.ensures refl c.append.ensures
 
 pub add_new_symbol-requires : goal.add_new_symbol-requires
 add_new_symbol-requires c = search (missing, rules)
