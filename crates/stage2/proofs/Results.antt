@@ -138,13 +138,10 @@ module _ {text : Bytes} {t : Prepared} {row : List Node} (line : Bytes) (p : IsP
   fit_loaded v = sym (when_false _ _ (le-ltb 200 (length line) v)) ∙ ap (fitted_in line) (sym p.loads.is)
 
   -- the tree is there to be searched, with room for its dead places
-  pub asks_whole : {dead : Bytes} → 51456 ≤ length dead → length line ≤ 200 → Fits row l.nodes dead line (length line)
-  asks_whole d v = can_fit p.has_tree.fits (omega arith) v d
+  pub asks_whole : {dead : Bytes} → 51456 ≤ length dead → length line ≤ 200 → Fits row l.nodes dead line
+  asks_whole d v = can_fit p.has_tree.fits v d
 
-  module _ {c : Choice} (chose : Chooses l.marks row l.nodes (take (length line) line) c) where
-    h : Chooses l.marks row l.nodes line c
-    h = subst (λ (s : Bytes). Chooses l.marks row l.nodes s c) (take-length line) chose
-
+  module _ {c : Choice} (h : Chooses l.marks row l.nodes line c) where
     -- the places that were taken up
     taken : c.places ≡ places_taken l.marks (templates macros) line
     taken = h.places (templates macros) p.has_tree.fits
