@@ -15,7 +15,8 @@ ghost use Rattle.faults.specs.declared.RunFault.TheVariants.{FullStore};
 use faults::RunFault;
 use model::{MEMORY_MOST, NAMES_MOST};
 
-// How many entries there are, and how many bytes they take.
+// How many entries there are, and how many bytes they take. It stands beside the memory and not in one struct with it, since the C
+// interface lends the memory, and the state of a run holds the index.
 #[derive(Clone, Copy)]
 pub struct Index {
     pub count: usize,
@@ -216,7 +217,7 @@ fn part_of<'a>(entry: Entry<'a>, part: Part) -> &'a [u8]
     }
 }
 
-// All of src and a mark after it, to room from offset at; the answer is where they end.
+// All of src and a mark after it, to room from offset at; the answer is where they end, at which the next one begins.
 fn write_marked(src: &[u8], mark: u8, room: &mut [u8], at: usize) -> usize
     requires { at + length src.now < length room.old }
     ensures { Marked room.old at src.now mark result room.new }

@@ -1,6 +1,5 @@
 // The value of a text as an expression. An expression, a product and an operand are each read through the next, in a cycle
-// of calls over the bytes left; sums and products are loops, so only brackets nest calls. The loops are two functions: as one with
-// the level as an argument, values took 41 % more instructions, and a cycle of calls gets no proof through a const parameter or a closure.
+// of calls over the bytes left; sums and products are loops, so only brackets nest calls.
 // `value` asks that the index fits memory (`Kept`), and nothing of the text.
 #![tactic(auto)]
 
@@ -17,7 +16,8 @@ use model::{Integer, Marks};
 use number::Step;
 use store::Index;
 
-// How a sum or a product goes on: by a step with the value at an offset, or not, and the bytes after it are at an offset.
+// How a sum or a product goes on: by a step with the value at an offset, or not, and the bytes after it are at an offset. Both cases
+// have an offset, which an Option would not.
 #[derive(Clone, Copy)]
 pub enum Join {
     Go(Step, usize),
@@ -214,7 +214,8 @@ impl Source<'_> {
         }
     }
 
-    // The product at `at`.
+    // The product at `at`. Its loop and that of `expression` stay two functions: as one with the level as an argument, values took 41 %
+    // more instructions, and a cycle of calls is not proved where it goes through a const parameter or a closure.
     #[cycle(expression_operand_product)]
     fn product(&self, at: usize) -> Option<Parsed>
         requires { at ≤ length self.now.text.now }
