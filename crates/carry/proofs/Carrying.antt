@@ -1,22 +1,27 @@
 -- A line is built, then its code line's end is done.
-use mathlib.Core.Path.{◌≡◌, ap, subst, ◌∙◌}
+use mathlib.Core.Path.{◌≡◌, sym, ap, subst, ◌∙◌}
 use mathlib.Core.List.{List}
 use Prim.Native.Nat.{ℕ, ◌≤◌, ◌<◌}
 use native.Mathlib.Omega.{arith}
-use lib.ListN.{length}
+use lib.ListN.{length, take}
+use lib.Seq.{length-take-le}
+use Rattle.std.specs.Prelude.{Some, Result, Ok, Err}
 use Rattle.model.specs.declared.Marks.{Marks}
 use Rattle.model.specs.declared.Effect.TheVariants.{Opens}
 use Rattle.model.specs.Text.{Bytes, part}
 use Rattle.model.specs.Code.{effect}
-use Rattle.model.specs.Machine.{Step, Outputs}
+use Rattle.model.specs.Machine.{Step, finish, Outputs}
+use Rattle.model.proofs.Text.{part_front}
+use Rattle.code.specs.Tokens.{ending_of}
 use Rattle.state.specs.declared.State.{State}
-use Rattle.state.specs.State.{Sound}
+use Rattle.state.specs.State.{shared_of, Sound}
 use Rattle.call.specs.declared.Head.{Head}
-use Rattle.call.specs.Call.{laid, Placed}
+use Rattle.call.specs.Call.{laid, frame_of, Placed}
 use Rattle.convert.specs.Added.{Keeps}
+use Rattle.convert.specs.declared.Failed.{Failed}
 use Rattle.build.specs.declared.Built.{Built}
-use Rattle.build.specs.Built.{Builds}
-use Rattle.build.proofs.Callers.{builds_sound, builds_finish, builds_halts}
+use Rattle.build.specs.Built.{built_state, Builds}
+use Rattle.build.proofs.Callers.{builds_finish, built-short, built_ranged, built-effect, builds_halts, failed_sound}
 use Rattle.answer.specs.declared.Answer.{Answer}
 use Rattle.answer.specs.Answers.{settle, ends_with, rooms_of}
 use Rattle.answer.specs.Kept.{Extends, Comes}
@@ -44,17 +49,28 @@ comes_from {m} {text} {p} {s} {t} {o} {r = r} {o' = o'} {memory' = memory'} k h 
   };
 }
 
-module _ {m : Marks} {text : Bytes} {at to : ℕ} {c : Head} {nums : List ℕ} {bytes : Bytes} {s : State} {memory line memory' : Bytes} {b : Built} (g : Builds m text at to (laid c nums bytes) memory s line memory' b) where
-  -- what the code line's end asks
-  pub ready : b.number ≡ 0 → to ≤ length text → length line ≡ 200 → (effect m (part text at to) ≡ Opens → c.depth < 4) → ReadyToFinish text to c b.ending line b.len
-  ready z h l d = record { from = at; ranged = g.ranged; within = h; depth = λ e. d (g.effect z ∙ e); short = g.short; long = l }
+module _ {m : Marks} {text : Bytes} {at to : ℕ} {c : Head} {nums : List ℕ} {bytes : Bytes} {s : State} {memory line memory' : Bytes} {x : Result Built Failed} (g : Builds m text at to (laid c nums bytes) memory s line memory' x) where
+  module _ {b : Built} (e : x ≡ Ok b) (l : length line ≡ 200) where
+    -- the line that is built
+    line_built : part line 0 b.len ≡ take b.len line
+    line_built = part_front line b.len
 
-  module _ {o : Outputs} {r : Answer} where
-    -- a number met while building ends the run
-    pub carries_halt : Sound text s o memory → Placed text (laid c nums bytes) → ¬ (b.number ≡ 0) → r ≡ ends_with b.number b.state
-        → Carries m text at to (laid c nums bytes) s o memory line r nums bytes o memory'
-    carries_halt h q z e = record { comes = comes_from g.keeps (came_end (builds_sound g h) q e (builds_halts g z (rooms_of o) o)) }
+    built_long : length (part line 0 b.len) ≡ b.len
+    built_long = ap (λ (y : Bytes). length y) line_built ∙ length-take-le b.len line (omega (arith, built-short g e))
 
-    pub carries_finish : {nums' : List ℕ} {bytes' : Bytes} {o' : Outputs} {memory₂ : Bytes} → b.number ≡ 0 → Finishes m text to (laid c nums bytes) b.ending line b.len b.state o memory' r nums' bytes' o' memory₂
+    -- what the code line's end asks
+    pub ready : to ≤ length text → (effect m (part text at to) ≡ Opens → c.depth < 4) → ReadyToFinish text to c b.ending (part line 0 b.len)
+    ready h d = record { from = at; ranged = built_ranged g e; within = h; depth = λ f. d (built-effect g e ∙ f); short = omega (arith, built_long, built-short g e) }
+
+    pub carries_finish : {o : Outputs} {r : Answer} {nums' : List ℕ} {bytes' : Bytes} {o' : Outputs} {memory₂ : Bytes} → Finishes m text to (laid c nums bytes) b.ending (part line 0 b.len) b.state o memory' r nums' bytes' o' memory₂
         → Carries m text at to (laid c nums bytes) s o memory line r nums' bytes' o' memory₂
-    carries_finish z f = record { comes = comes_from g.keeps (comes_as (builds_finish g z (rooms_of o) o) f.comes) }
+    carries_finish {o} f = record {
+      comes = comes_from (subst (λ (y : Result Built Failed). Keeps s memory' (built_state y)) e g.keeps)
+          (comes_as (builds_finish g e (rooms_of o) o ∙ ap (λ (y : Bytes). finish (rooms_of o) m (ending_of text to b.ending) y (frame_of m text (laid c nums bytes)) (shared_of b.state o memory')) (sym line_built))
+          (f.comes line (ap (λ (n : ℕ). take n line) built_long ∙ sym line_built)));
+    }
+
+  -- a fault met while building ends the run
+  pub carries_halt : {f : Failed} {o : Outputs} {r : Answer} → x ≡ Err f → Sound text s o memory → Placed text (laid c nums bytes) → r ≡ ends_with (Some f.fault) f.state
+      → Carries m text at to (laid c nums bytes) s o memory line r nums bytes o memory'
+  carries_halt {f} {o} z h q e = record { comes = comes_from (subst (λ (y : Result Built Failed). Keeps s memory' (built_state y)) z g.keeps) (came_end (failed_sound g z h) q e (builds_halts g z (rooms_of o) o)) }

@@ -4,7 +4,8 @@ use mathlib.Core.Bool.{Bool}
 use mathlib.Core.List.{List}
 use Prim.Native.Nat.{ℕ, ◌≤◌, ◌<◌}
 use native.Mathlib.Omega.{arith}
-use lib.ListN.{take}
+use lib.ListN.{length, take}
+use Rattle.std.specs.Prelude.{None}
 use Rattle.model.specs.declared.Marks.{Marks}
 use Rattle.model.specs.declared.Channel.{Channel}
 use Rattle.model.specs.declared.Comparison.{Comparison}
@@ -26,14 +27,17 @@ use Rattle.answer.proofs.Coming.{none-placed, came_on, came_end}
 use Rattle.answer.proofs.Expansion.{skip-none}
 use Rattle.finish.specs.Leaves.{Assigns, BeginsPasses, WritesTo, WritesLayoutLine, Saves, Repeats, PassesAgain}
 use Rattle.copying.specs.Copies.{ReadyToCopy, CopiesInput}
+use Rattle.skip.specs.declared.Skip.{Skip as Made}
+use Rattle.skip.specs.Made.{IsSkip}
 use Rattle.skip.specs.Skips.{SkipsBy, SkipsText, SkipsValue}
+use Rattle.skip.proofs.Made.{at_skip}
 use Rattle.carry.specs.Carries.{ReadyToFinish, Finishes}
 
 -- ---- what the leaves ask
 
-module _ {text : Bytes} {to : ℕ} {c : Head} {k : Ending} {line : Bytes} {n : ℕ} (y : ReadyToFinish text to c k line n) where
-  at_ending : {j : Ending} → k ≡ j → ReadyToFinish text to c j line n
-  at_ending e = subst (λ (j : Ending). ReadyToFinish text to c j line n) e y
+module _ {text : Bytes} {to : ℕ} {c : Head} {k : Ending} {line : Bytes} (y : ReadyToFinish text to c k line) where
+  at_ending : {j : Ending} → k ≡ j → ReadyToFinish text to c j line
+  at_ending e = subst (λ (j : Ending). ReadyToFinish text to c j line) e y
 
   pub assign_parameter : {d : ℕ} → k ≡ Assign d → Parameter d
   assign_parameter e = (at_ending e).ranged
@@ -57,63 +61,64 @@ copy-ready h = record { within = h.within; lines = h.lines; written = h.written;
 
 -- ---- what they come to
 
-module _ {m : Marks} {text : Bytes} {to : ℕ} {c : Head} {nums : List ℕ} {bytes : Bytes} {k : Ending} {line : Bytes} {n : ℕ} {s : State} {o : Outputs} {memory : Bytes} {r : Answer} (h : Sound text s o memory) (q : Placed text (laid c nums bytes)) where
-  ends_as : {j : Ending} {nums' : List ℕ} {bytes' : Bytes} {o' : Outputs} {memory' : Bytes} → k ≡ j → Finishes m text to (laid c nums bytes) j line n s o memory r nums' bytes' o' memory'
-      → Finishes m text to (laid c nums bytes) k line n s o memory r nums' bytes' o' memory'
-  ends_as {nums' = nums'} {bytes' = bytes'} {o' = o'} {memory' = memory'} e f = subst (λ (j : Ending). Finishes m text to (laid c nums bytes) j line n s o memory r nums' bytes' o' memory') (sym e) f
+module _ {m : Marks} {text : Bytes} {to : ℕ} {c : Head} {nums : List ℕ} {bytes : Bytes} {k : Ending} {line : Bytes} {s : State} {o : Outputs} {memory : Bytes} {r : Answer} (h : Sound text s o memory) (q : Placed text (laid c nums bytes)) where
+  ends_as : {j : Ending} {nums' : List ℕ} {bytes' : Bytes} {o' : Outputs} {memory' : Bytes} → k ≡ j → Finishes m text to (laid c nums bytes) j line s o memory r nums' bytes' o' memory'
+      → Finishes m text to (laid c nums bytes) k line s o memory r nums' bytes' o' memory'
+  ends_as {nums' = nums'} {bytes' = bytes'} {o' = o'} {memory' = memory'} e f = subst (λ (j : Ending). Finishes m text to (laid c nums bytes) j line s o memory r nums' bytes' o' memory') (sym e) f
 
-  pub ends_assign : {d : ℕ} {nums' : List ℕ} {bytes' : Bytes} → k ≡ Assign d → Assigns (laid c nums bytes) d line n s r nums' bytes' → Finishes m text to (laid c nums bytes) k line n s o memory r nums' bytes' o memory
+  pub ends_assign : {d : ℕ} {nums' : List ℕ} {bytes' : Bytes} → k ≡ Assign d → Assigns (laid c nums bytes) d line s r nums' bytes' → Finishes m text to (laid c nums bytes) k line s o memory r nums' bytes' o memory
   unfolding finish
-  ends_assign e f = ends_as e (record { comes = f.comes m text o memory line q h })
+  ends_assign e f = ends_as e (record { comes = λ b z. f.comes m text o memory b q h })
 
-  pub ends_iterate : {d p : ℕ} {nums' : List ℕ} {bytes' : Bytes} → k ≡ Iterate d p → BeginsPasses m text (laid c nums bytes) d p to line n s r nums' bytes' → Finishes m text to (laid c nums bytes) k line n s o memory r nums' bytes' o memory
+  pub ends_iterate : {d p : ℕ} {nums' : List ℕ} {bytes' : Bytes} → k ≡ Iterate d p → BeginsPasses m text (laid c nums bytes) d p to line s r nums' bytes' → Finishes m text to (laid c nums bytes) k line s o memory r nums' bytes' o memory
   unfolding finish
-  ends_iterate e f = ends_as e (record { comes = f.comes o memory line h })
+  ends_iterate e f = ends_as e (record { comes = λ b z. f.comes o memory b h })
 
-  pub ends_stop : k ≡ Stop → r ≡ ends_with 0 s → Finishes m text to (laid c nums bytes) k line n s o memory r nums bytes o memory
+  pub ends_stop : k ≡ Stop → r ≡ ends_with None s → Finishes m text to (laid c nums bytes) k line s o memory r nums bytes o memory
   unfolding finish
-  ends_stop e f = ends_as e (record { comes = came_end h q f refl })
+  ends_stop e f = ends_as e (record { comes = λ b z. came_end h q f refl })
 
-  pub ends_write : {ch : Channel} {o' : Outputs} → k ≡ Write ch → WritesTo ch c line n s o r o' → Finishes m text to (laid c nums bytes) k line n s o memory r nums bytes o' memory
+  pub ends_write : {ch : Channel} {o' : Outputs} → k ≡ Write ch → WritesTo ch c line s o r o' → Finishes m text to (laid c nums bytes) k line s o memory r nums bytes o' memory
   unfolding finish
-  ends_write e f = ends_as e (record { comes = f.comes m text memory line nums bytes q h })
+  ends_write e f = ends_as e (record { comes = λ b z. f.comes m text memory b nums bytes q h })
 
-  pub ends_layout : {ch : Channel} {o' : Outputs} → k ≡ Layout ch → WritesLayoutLine m text ch (laid c nums bytes) s o r o' → Finishes m text to (laid c nums bytes) k line n s o memory r nums bytes o' memory
+  pub ends_layout : {ch : Channel} {o' : Outputs} → k ≡ Layout ch → WritesLayoutLine m text ch (laid c nums bytes) s o r o' → Finishes m text to (laid c nums bytes) k line s o memory r nums bytes o' memory
   unfolding finish
-  ends_layout e f = ends_as e (record { comes = f.comes memory line h })
+  ends_layout e f = ends_as e (record { comes = λ b z. f.comes memory b h })
 
-  pub ends_copy : {ch : Channel} {o' : Outputs} → k ≡ Copy ch → CopiesInput m text ch (laid c nums bytes) s o r o' → Finishes m text to (laid c nums bytes) k line n s o memory r nums bytes o' memory
+  pub ends_copy : {ch : Channel} {o' : Outputs} → k ≡ Copy ch → CopiesInput m text ch (laid c nums bytes) s o r o' → Finishes m text to (laid c nums bytes) k line s o memory r nums bytes o' memory
   unfolding finish
-  ends_copy e f = ends_as e (record { comes = f.comes memory line h })
+  ends_copy e f = ends_as e (record { comes = λ b z. f.comes memory b h })
 
-  pub ends_save : {memory' : Bytes} → k ≡ Save → Saves (laid c nums bytes) s memory r memory' → Finishes m text to (laid c nums bytes) k line n s o memory r nums bytes o memory'
+  pub ends_save : {memory' : Bytes} → k ≡ Save → Saves (laid c nums bytes) s memory r memory' → Finishes m text to (laid c nums bytes) k line s o memory r nums bytes o memory'
   unfolding finish
-  ends_save e f = ends_as e (record { comes = f.comes m text o line q h })
+  ends_save e f = ends_as e (record { comes = λ b z. f.comes m text o b q h })
 
-  pub ends_skip : k ≡ Skip → SkipsBy m text (laid c nums bytes) 1 memory s r → Finishes m text to (laid c nums bytes) k line n s o memory r nums bytes o memory
+  module _ {a : Made} (z : IsSkip a m text c nums bytes memory s) where
+    pub ends_skip : k ≡ Skip → SkipsBy a.m a.text.now (laid a.call a.nums.now a.params.now) 1 a.memory.now a.state r → Finishes m text to (laid c nums bytes) k line s o memory r nums bytes o memory
+    unfolding finish
+    ends_skip e f = ends_as e (record { comes = λ b _. (at_skip (λ m text c nums bytes memory s. SkipsBy m text (laid c nums bytes) 1 memory s r) z f).comes o b q h })
+
+    pub ends_text : {w : Bool} → k ≡ SkipText w → SkipsText a.m a.text.now w (laid a.call a.nums.now a.params.now) a.memory.now a.state r → Finishes m text to (laid c nums bytes) k line s o memory r nums bytes o memory
+    unfolding finish
+    ends_text {w} e f = ends_as e (record { comes = λ b _. (at_skip (λ m text c nums bytes memory s. SkipsText m text w (laid c nums bytes) memory s r) z f).comes o b q h })
+
+    pub ends_value : {j : Comparison} → k ≡ SkipValue j → SkipsValue a.m a.text.now j (laid a.call a.nums.now a.params.now) a.memory.now a.state r → Finishes m text to (laid c nums bytes) k line s o memory r nums bytes o memory
+    unfolding finish
+    ends_value {j} e f = ends_as e (record { comes = λ b _. (at_skip (λ m text c nums bytes memory s. SkipsValue m text j (laid c nums bytes) memory s r) z f).comes o b q h })
+
+  pub ends_repeat : {nums' : List ℕ} → k ≡ Repeat → Repeats m text c nums line memory s r nums' → Finishes m text to (laid c nums bytes) k line s o memory r nums' bytes o memory
   unfolding finish
-  ends_skip e f = ends_as e (record { comes = f.comes o line q h })
+  ends_repeat e f = ends_as e (record { comes = λ b z. f.comes bytes o b q h })
 
-  pub ends_text : {b : Bool} → k ≡ SkipText b → SkipsText m text b (laid c nums bytes) memory s r → Finishes m text to (laid c nums bytes) k line n s o memory r nums bytes o memory
+  pub ends_again : {nums' : List ℕ} {bytes' : Bytes} → k ≡ Again → PassesAgain m text (laid c nums bytes) s r nums' bytes' → Finishes m text to (laid c nums bytes) k line s o memory r nums' bytes' o memory
   unfolding finish
-  ends_text e f = ends_as e (record { comes = f.comes o line q h })
+  ends_again e f = ends_as e (record { comes = λ b z. f.comes o memory b h })
 
-  pub ends_value : {j : Comparison} → k ≡ SkipValue j → SkipsValue m text j (laid c nums bytes) memory s r → Finishes m text to (laid c nums bytes) k line n s o memory r nums bytes o memory
-  unfolding finish
-  ends_value e f = ends_as e (record { comes = f.comes o line q h })
-
-  pub ends_repeat : {nums' : List ℕ} → k ≡ Repeat → Repeats m text c nums line n memory s r nums' → Finishes m text to (laid c nums bytes) k line n s o memory r nums' bytes o memory
-  unfolding finish
-  ends_repeat e f = ends_as e (record { comes = f.comes bytes o line q h })
-
-  pub ends_again : {nums' : List ℕ} {bytes' : Bytes} → k ≡ Again → PassesAgain m text (laid c nums bytes) s r nums' bytes' → Finishes m text to (laid c nums bytes) k line n s o memory r nums' bytes' o memory
-  unfolding finish
-  ends_again e f = ends_as e (record { comes = f.comes o memory line h })
-
-  pub ends_leave : k ≡ Leave → r ≡ goes_back 0 s → Finishes m text to (laid c nums bytes) k line n s o memory r nums bytes o memory
+  pub ends_leave : k ≡ Leave → r ≡ goes_back 0 s → Finishes m text to (laid c nums bytes) k line s o memory r nums bytes o memory
   unfolding finish settle next_at next_of stepped state_with
   ends_leave e f = ends_as e (record {
-    comes = subst (λ (x : Answer). Comes m text (leaves (shared_of s o memory)) s o line x nums bytes o memory) (sym f) (record {
+    comes = λ b z. subst (λ (x : Answer). Comes m text (leaves (shared_of s o memory)) s o b x nums bytes o memory) (sym f) (record {
       same = λ fs y. sym (skip-none m text fs y s o memory);
       sound = h;
       placed = none-placed q;
@@ -123,13 +128,14 @@ module _ {m : Marks} {text : Bytes} {to : ℕ} {c : Head} {nums : List ℕ} {byt
     });
   })
 
-  pub ends_malformed : k ≡ Malformed → r ≡ goes_further c s → Finishes m text to (laid c nums bytes) k line n s o memory r nums bytes o memory
+  pub ends_malformed : k ≡ Malformed → r ≡ goes_further c s → Finishes m text to (laid c nums bytes) k line s o memory r nums bytes o memory
   unfolding finish
-  ends_malformed e f = ends_as e (record { comes = came_on h q f refl })
+  ends_malformed e f = ends_as e (record { comes = λ b z. came_on h q f refl })
 
-  pub ends_offer : ReadyToFinish text to c k line n → k ≡ Offer → r ≡ offers_built n c s → Finishes m text to (laid c nums bytes) k line n s o memory r nums bytes o memory
+  pub ends_offer : ReadyToFinish text to c k line → k ≡ Offer → r ≡ offers_built (length line) c s → Finishes m text to (laid c nums bytes) k line s o memory r nums bytes o memory
   unfolding finish settle next_at next_of stepped state_with
   ends_offer y e f = ends_as e (record {
-    comes = subst (λ (x : Answer). Comes m text (offers (take n line) (frame_of m text (laid c nums bytes)) (shared_of s o memory)) s o line x nums bytes o memory) (sym f)
-        (record { same = λ fs _. refl; sound = h; placed = q; short = y.short; stays = stays_same s; extends = both_none h });
+    comes = λ b z. subst (λ (l : Bytes). Comes m text (offers l (frame_of m text (laid c nums bytes)) (shared_of s o memory)) s o b r nums bytes o memory) z
+        (subst (λ (x : Answer). Comes m text (offers (take (length line) b) (frame_of m text (laid c nums bytes)) (shared_of s o memory)) s o b x nums bytes o memory) (sym f)
+        (record { same = λ fs _. refl; sound = h; placed = q; short = y.short; stays = stays_same s; extends = both_none h }));
   })

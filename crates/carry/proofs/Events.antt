@@ -2,6 +2,8 @@
 use mathlib.Core.Path.{◌≡◌, refl, sym, ap, ◌∙◌}
 use mathlib.Core.Bool.{true}
 use mathlib.Core.Option.{Option, none}
+use Rattle.std.specs.Prelude.{Some}
+use Rattle.faults.specs.declared.RunFault.TheVariants.{NoFuel}
 use mathlib.Core.List.{List, [], ◌∷◌}
 use Prim.Native.Nat.{ℕ, suc, ◌-◌, ◌<◌}
 use native.Mathlib.Numerals.{add-one}
@@ -34,7 +36,7 @@ module _ (text : Bytes) (y : Tally) (s : State) (o : Outputs) (w : Bytes) where
 
     module _ (c : Bytes) (cs : List Bytes) (e : f.next ≡ c ∷ cs) where
       -- no fuel is left where a code line is to begin
-      pub code_spent : s.fuel ≡ 0 → comes_to s.fuel room t (running (state_of text none (f ∷ fs) y s o w)) ≡ result_after t y (ends_with 20 s) o w
+      pub code_spent : s.fuel ≡ 0 → comes_to s.fuel room t (running (state_of text none (f ∷ fs) y s o w)) ≡ result_after t y (ends_with (Some NoFuel) s) o w
       unfolding outcome Machine.result_of
       code_spent spent =
           ap (λ (n : ℕ). comes_to n room t (running (state_of text none (f ∷ fs) y s o w))) spent

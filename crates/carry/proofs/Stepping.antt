@@ -17,8 +17,11 @@ use Rattle.model.specs.Machine.{Frame, Step, Next, resume_at, carry_out, Outputs
 use Rattle.model.proofs.Nesting.{Passing, passing, nested_few}
 use Rattle.model.proofs.Frames.{NextOk, carry_out-nested, stepped-nested}
 use Rattle.model.proofs.Choices.{false-not-true}
-use Rattle.scan.specs.declared.CodeLine.{CodeLine}
+use Rattle.std.specs.Prelude.{Option, Some, None}
+use Rattle.faults.specs.declared.RunFault.TheVariants.{NoFuel}
+use Rattle.scan.specs.declared.Line.{Line}
 use Rattle.scan.specs.Lines.{CodeAt}
+use Rattle.scan.proofs.Places.{code_line, code_over}
 use Rattle.state.specs.declared.State.{State}
 use Rattle.state.specs.State.{shared_of, state_of, counted_event, Sound}
 use Rattle.call.specs.declared.Head.{Head}
@@ -47,42 +50,42 @@ moved_depth {c} {next} {r} g =
     let m : Marks = record { source = 0; placeholder = 0; code = 0; escape = 0; blank = 0; left = 0; plus = 0; minus = 0; times = 0; divide = 0; right = 0 } in
     sym (frame_depth m [] (laid r [] [])) ∙ ap (λ (f : Frame). length f.loops) (g.frame m [] [] []) ∙ frame_depth m [] (laid c [] [])
 
-module _ {m : Marks} {text : Bytes} {c : Head} {nums : List ℕ} {bytes : Bytes} {line : CodeLine} (is_open : Open m text (laid c nums bytes)) (code : CodeAt m text c.next line) where
+module _ {m : Marks} {text : Bytes} {c : Head} {nums : List ℕ} {bytes : Bytes} {x : Option Line} (is_open : Open m text (laid c nums bytes)) (code : CodeAt m text c.next x) where
   -- no fifth iteration is opened
-  pub few_open : {c₁ : Head} → line.there ≡ true → Moves c line.next c₁ → effect m (part text c.next line.end) ≡ Opens → c₁.depth < 4
-  few_open there moves e =
+  pub few_open : {line : Line} {c₁ : Head} → x ≡ Some line → Moves c line.next c₁ → effect m (part text c.next line.end) ≡ Opens → c₁.depth < 4
+  few_open {line} there moves e =
       let n = length (frame_of m text (laid c nums bytes)).loops in
-      let p : Passing m n (effect m (part text c.next line.end)) (body_at m text line.next) = passing m n _ _ (rw (code.more there) at is_open.nested.lines) in
+      let p : Passing m n (effect m (part text c.next line.end)) (body_at m text line.next) = passing m n _ _ (rw (code_line code there).is at is_open.nested.lines) in
       let f : suc n ≤ 4 = nested_few m (suc n) (body_at m text line.next) (subst (λ (k : Effect). Passing m n k (body_at m text line.next)) e p) in
       omega (arith, frame_depth m text (laid c nums bytes), moved_depth moves)
 
   module _ {s : State} {o : Outputs} {memory built : Bytes} {r : Answer} (sound : Sound text s o memory) where
     -- no code line is left
-    pub steps_back : line.there ≡ false → r ≡ goes_back 0 s → Steps m text (laid c nums bytes) s o memory built r nums bytes o memory
+    pub steps_back : x ≡ None → r ≡ goes_back 0 s → Steps m text (laid c nums bytes) s o memory built r nums bytes o memory
     unfolding next_at next_of
     steps_back e er = subst (λ (x : Answer). Steps m text (laid c nums bytes) s o memory built x nums bytes o memory) (sym er) record {
       follows = follows_itself sound;
       less = λ f. false-not-true (sym f);
       stays = λ f. false-not-true (sym f);
       short = omega arith;
-      same = λ t marks fs y. closes text y s o memory (rooms_of o) t (frame_of m text (laid c nums bytes)) fs (code.ended e)
+      same = λ t marks fs y. closes text y s o memory (rooms_of o) t (frame_of m text (laid c nums bytes)) fs (code_over code e)
           ∙ ap (comes_to s.fuel (rooms_of o) t) (sym (skip-none m text fs y s o memory));
     }
 
     -- no fuel is left
-    pub steps_spent : line.there ≡ true → s.fuel ≡ 0 → r ≡ ends_with 20 s → Steps m text (laid c nums bytes) s o memory built r nums bytes o memory
+    pub steps_spent : {line : Line} → x ≡ Some line → s.fuel ≡ 0 → r ≡ ends_with (Some NoFuel) s → Steps m text (laid c nums bytes) s o memory built r nums bytes o memory
     unfolding next_at next_of
-    steps_spent e spent er = subst (λ (x : Answer). Steps m text (laid c nums bytes) s o memory built x nums bytes o memory) (sym er) record {
+    steps_spent {line} e spent er = subst (λ (x : Answer). Steps m text (laid c nums bytes) s o memory built x nums bytes o memory) (sym er) record {
       follows = follows_itself sound;
       less = λ f. false-not-true (sym f);
       stays = λ f. false-not-true (sym f);
       short = omega arith;
-      same = λ t marks fs y. code_spent text y s o memory (rooms_of o) t (frame_of m text (laid c nums bytes)) fs (part text c.next line.end) (body_at m text line.next) (code.more e) spent
-          ∙ sym (halts_with s.fuel (rooms_of o) t text 20 [] y s o memory);
+      same = λ t marks fs y. code_spent text y s o memory (rooms_of o) t (frame_of m text (laid c nums bytes)) fs (part text c.next line.end) (body_at m text line.next) (code_line code e).is spent
+          ∙ sym (halts_with s.fuel (rooms_of o) t text (Some NoFuel) [] y s o memory);
     }
 
-  module _ (s : State) {c₁ : Head} {x : State} {o : Outputs} {memory built : Bytes} {r : Answer} {nums' : List ℕ} {bytes' : Bytes} {o' : Outputs} {memory' : Bytes} (there : line.there ≡ true) (some_fuel : 0 < s.fuel) (moves : Moves c line.next c₁)
-      (ex : x ≡ counted_event s) (carries : Carries m text c.next line.end (laid c₁ nums bytes) x o memory built r nums' bytes' o' memory') where
+  module _ (s : State) {line : Line} {c₁ : Head} {x' : State} {o : Outputs} {memory built : Bytes} {r : Answer} {nums' : List ℕ} {bytes' : Bytes} {o' : Outputs} {memory' : Bytes} (there : x ≡ Some line) (some_fuel : 0 < s.fuel) (moves : Moves c line.next c₁)
+      (ex : x' ≡ counted_event s) (carries : Carries m text c.next line.end (laid c₁ nums bytes) x' o memory built r nums' bytes' o' memory') where
     abbrev f : Frame
     f = frame_of m text (laid c nums bytes)
 
@@ -102,7 +105,7 @@ module _ {m : Marks} {text : Bytes} {c : Head} {nums : List ℕ} {bytes : Bytes}
     next_ok y =
         subst (NextOk m) (came.same [] y)
         (settle-nested m _ (stepped-nested m [] p (state_of text none [] y (counted_event s) o' memory')
-        (carry_out-nested m (rooms_of o) content (body_at m text line.next) f (shared_of s o memory) is_open.nested.around (rw (code.more there) at is_open.nested.lines)) tt))
+        (carry_out-nested m (rooms_of o) content (body_at m text line.next) f (shared_of s o memory) is_open.nested.around (rw (code_line code there).is at is_open.nested.lines)) tt))
 
     -- the code line is carried out
     pub steps_on : Steps m text (laid c nums bytes) s o memory built r nums' bytes' o' memory'
@@ -114,7 +117,7 @@ module _ {m : Marks} {text : Bytes} {c : Head} {nums : List ℕ} {bytes : Bytes}
           stays = λ e. record { placed = came.placed; nested = next-nested m text r [] (no_lines []) nums' bytes' built o' memory' (next_ok (no_lines [])) e };
           short = came.short;
           same = λ t marks fs y.
-              begins text y s o memory (rooms_of o) t f fs content (body_at m text line.next) (code.more there) m marks some_fuel
+              begins text y s o memory (rooms_of o) t f fs content (body_at m text line.next) (code_line code there).is m marks some_fuel
               ∙ ap (λ (z : Next). comes_to (s.fuel - 1) (rooms_of o) t z)
               (stepped_at m text (counted_event s) (counted_event s) refl refl refl refl fs (f ∷ fs) y p o memory o' memory')
               ∙ settle-same (s.fuel - 1) (rooms_of o) t _

@@ -16,25 +16,24 @@ use Rattle.state.specs.State.{shared_of, state_of}
 use Rattle.call.specs.declared.Head.{Head}
 use Rattle.call.specs.Call.{Laid, laid, frame_of}
 use Rattle.answer.specs.declared.Answer.{Answer}
-use Rattle.answer.specs.Answers.{turn, is_left, offered_length, next_of, comes_to, rooms_of}
+use Rattle.answer.specs.Answers.{is_left, offered_length, next_of, comes_to, rooms_of}
 use Rattle.answer.specs.Kept.{Open, Comes, Follows}
 
 -- what was read of a code line's end, and the line built: an iteration is opened only where it may be
-pub record ReadyToFinish (text : Bytes) (to : ℕ) (c : Head) (k : Ending) (line : Bytes) (n : ℕ) : Type 0 where
+pub record ReadyToFinish (text : Bytes) (to : ℕ) (c : Head) (k : Ending) (line : Bytes) : Type 0 where
   pub from : ℕ
   pub ranged : Ranged from to k
   pub within : to ≤ length text
   pub depth : effect_of (ending_of text to k) ≡ Opens → c.depth < nesting_most
-  pub short : n ≤ line_most
-  pub long : length line ≡ line_most
+  pub short : length line ≤ line_most
 
 -- In the records below, c is the call before, s o memory are the state, outputs and memory before, and r nums bytes o' memory' the
 -- answer, the call's numbers and bytes, outputs and memory after.
 
--- r is what is done at the end k of the code line that ends before place `to`, with the first n bytes of `line` built
-pub record Finishes (m : Marks) (text : Bytes) (to : ℕ) (c : Laid) (k : Ending) (line : Bytes) (n : ℕ)
+-- r is what is done at the end k of the code line that ends before place `to`, with `line` built to the front of a row of bytes
+pub record Finishes (m : Marks) (text : Bytes) (to : ℕ) (c : Laid) (k : Ending) (line : Bytes)
     (s : State) (o : Outputs) (memory : Bytes) (r : Answer) (nums : List ℕ) (bytes : Bytes) (o' : Outputs) (memory' : Bytes) : Type 0 where
-  pub comes : Comes m text (finish (rooms_of o) m (ending_of text to k) (take n line) (frame_of m text c) (shared_of s o memory)) s o line r nums bytes o' memory'
+  pub comes : (b : Bytes) → take (length line) b ≡ line → Comes m text (finish (rooms_of o) m (ending_of text to k) line (frame_of m text c) (shared_of s o memory)) s o b r nums bytes o' memory'
 
 -- r is what the code line text[at..to] comes to in the call c, with `line` built
 pub record Carries (m : Marks) (text : Bytes) (at to : ℕ) (c : Laid)
@@ -45,9 +44,9 @@ pub record Carries (m : Marks) (text : Bytes) (at to : ℕ) (c : Laid)
 pub record Steps (m : Marks) (text : Bytes) (c : Laid)
     (s : State) (o : Outputs) (memory built : Bytes) (r : Answer) (nums : List ℕ) (bytes : Bytes) (o' : Outputs) (memory' : Bytes) : Type 0 where
   pub follows : Follows text s o r.state o' memory'
-  pub less : is_left (turn r) ≡ false → r.state.fuel < s.fuel
-  pub stays : is_left (turn r) ≡ false → Open m text (laid r.call nums bytes)
-  pub short : offered_length (turn r) ≤ line_most
+  pub less : is_left r.turn ≡ false → r.state.fuel < s.fuel
+  pub stays : is_left r.turn ≡ false → Open m text (laid r.call nums bytes)
+  pub short : offered_length r.turn ≤ line_most
   pub same : (t : Loaded) → t.marks ≡ m → (fs : List Frame) (y : Tally)
       → comes_to s.fuel (rooms_of o) t (running (state_of text none (frame_of m text c ∷ fs) y s o memory))
       ≡ comes_to r.state.fuel (rooms_of o) t (next_of m text fs y r nums bytes built o' memory')

@@ -12,20 +12,20 @@ ghost use Rattle.answer.specs.Kept.{Open};
 ghost use Rattle.carry.specs.Carries.{ReadyToFinish, Finishes, Carries, Steps};
 ghost use Rattle.model.specs.Limits.{line_most, nesting_most};
 
-use answer::{Answer, end_with, go_back, go_on, offer_built};
+use answer::{Answer, end_run, end_with, go_back, go_on, offer_built};
 use build::build_line;
 use call::{Head, move_to};
 use code::Ending;
 use copying::copy_input;
 use finish::{assign, begin_passes, pass_again, repeat, save, write_layout_line, write_to};
+use faults::RunFault;
 use model::Marks;
 use scan::read_code;
-use skip::{skip_by, skip_text, skip_value};
+use skip::Skip;
 use state::State;
 
-// What is done at the end of the code line that ends before place `to`. The call's next code line is the one after it. skip_by is
-// handed copies, and its answer has a name of its own: the compiler keeps it apart, and what it is handed by address would be written
-// to memory and read again at every code line.
+// What is done at the end of the code line that ends before place `to`, with the line that it built. The call's next code line is the
+// one after it.
 fn finish_code(
     m: Marks,
     text: &[u8],
@@ -35,38 +35,30 @@ fn finish_code(
     params: &mut [u8],
     ending: Ending,
     line: &[u8],
-    n: usize,
     output: &mut [u8],
     second: &mut [u8],
     memory: &mut [u8],
     s: State,
 ) -> Answer
     requires sound { Sound text.now s (outputs output.old second.old) memory.old }
-    requires placed { Placed text.now (laid call nums.old params.old) × ReadyToFinish text.now to call ending line.now n }
+    requires placed { Placed text.now (laid call nums.old params.old) × ReadyToFinish text.now to call ending line.now }
     ensures { Finishes m text.now to (laid call nums.old params.old) ending
-        line.now n s (outputs output.old second.old) memory.old result
+        line.now s (outputs output.old second.old) memory.old result
         nums.new params.new (outputs output.new second.new) memory.new }
 {
     match ending {
-        Ending::Offer => offer_built(n, call, s),
-        Ending::Assign(d) => assign(call, nums, params, d, line, n, s),
-        Ending::Iterate(d, list) => begin_passes(
-            m, text, call, nums, params, d, list, to, line, n, s,
-        ),
-        Ending::Stop => end_with(0, s),
-        Ending::Write(ch) => write_to(ch, call, line, n, output, second, s),
+        Ending::Offer => offer_built(line.len(), call, s),
+        Ending::Assign(d) => assign(call, nums, params, d, line, s),
+        Ending::Iterate(d, list) => begin_passes(m, text, call, nums, params, d, list, to, line, s),
+        Ending::Stop => end_run(s),
+        Ending::Write(ch) => write_to(ch, call, line, output, second, s),
         Ending::Layout(ch) => write_layout_line(m, text, ch, call, nums, params, output, second, s),
         Ending::Copy(ch) => copy_input(m, text, ch, call, nums, params, output, second, s),
         Ending::Save => save(call, nums, params, memory, s),
-        Ending::Skip => {
-            let c = call;
-            let t = s;
-            let r = skip_by(m, text, c, nums, params, 1, memory, t);
-            r
-        }
-        Ending::SkipText(equal) => skip_text(m, text, equal, call, nums, params, memory, s),
-        Ending::SkipValue(how) => skip_value(m, text, how, call, nums, params, memory, s),
-        Ending::Repeat => repeat(m, text, call, nums, line, n, memory, s),
+        Ending::Skip => Skip::new(m, text, call, nums, params, memory, s).skip_by(1),
+        Ending::SkipText(equal) => Skip::new(m, text, call, nums, params, memory, s).skip_text(equal),
+        Ending::SkipValue(how) => Skip::new(m, text, call, nums, params, memory, s).skip_value(how),
+        Ending::Repeat => repeat(m, text, call, nums, line, memory, s),
         Ending::Again => pass_again(m, text, call, nums, params, s),
         Ending::Leave => go_back(0, s),
         Ending::Malformed => go_on(call, s),
@@ -96,16 +88,23 @@ fn carry(
         (outputs output.old second.old) memory.old line.new result
         nums.new params.new (outputs output.new second.new) memory.new }
 {
-    let b = build_line(m, text, at, to, call, nums, params, line, memory, s);
-    let state = b.state;
-    if b.number != 0 {
-        return end_with(b.number, state);
+    match build_line(m, text, at, to, call, nums, params, line, memory, s) {
+        Ok(b) => finish_code(
+            m,
+            text,
+            to,
+            call,
+            nums,
+            params,
+            b.ending,
+            &line[0..b.len],
+            output,
+            second,
+            memory,
+            b.state,
+        ),
+        Err(failed) => end_with(failed.fault, failed.state),
     }
-    let ending = b.ending;
-    let n = b.len;
-    finish_code(
-        m, text, to, call, nums, params, ending, line, n, output, second, memory, state,
-    )
 }
 
 // The next code line of the call of a, the answer of the one before: an event is counted, the call moves past the line, and it is carried out. With no code line left
@@ -129,17 +128,15 @@ pub fn step(
 {
     let call = a.call;
     let s = a.state;
-    let at = call.next;
-    let line = read_code(text, m, at);
-    if !line.there {
+    let Some(line) = read_code(text, m, call.next) else {
         return go_back(0, s);
-    }
+    };
     if s.fuel == 0 {
-        return end_with(20, s);
+        return end_with(RunFault::NoFuel, s);
     }
     let moved = move_to(call, line.next);
     let counted = s.count_event();
     carry(
-        m, text, at, line.end, moved, nums, params, built, output, second, memory, counted,
+        m, text, call.next, line.end, moved, nums, params, built, output, second, memory, counted,
     )
 }

@@ -82,7 +82,7 @@ pub struct Run {
     pub end: usize,
 }
 
-// The digits from `at` on.
+// The digits from `at` on. A slice from there would be no plainer: where they end is an offset of the text, from which callers go on.
 fn read_digits(s: &[u8], at: usize) -> Run
     requires { at ≤ length s.now }
     ensures { DigitRun s.now at result }

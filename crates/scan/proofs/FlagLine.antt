@@ -1,85 +1,67 @@
 -- Why the flag line's tests answer as they do: a loop over the marks, and the tests together.
-use mathlib.Core.Path.{◌≡◌, refl, ap, sym, ◌∙◌}
+use mathlib.Core.Path.{◌≡◌, refl, ap, sym, subst, ◌∙◌}
 use mathlib.Core.Bool.{Bool, true, false, not, ◌&&◌}
 use mathlib.Core.Option as Math
 use mathlib.Core.List.{[], ◌∷◌}
-use Prim.Native.Nat.{ℕ, suc, ◌+◌, ◌≤◌, ◌<◌}
-use native.Mathlib.Numerals.{add-one}
+use Prim.Native.Nat.{ℕ, ◌-◌, ◌≤◌, ◌<◌}
 use native.Mathlib.Omega.{arith}
 use borrow.Author.Tests.{le-leb, lt-leb, ne_eqb}
 use lib.Dec.{eqb}
-use lib.ListN.{length, get_or, drop, drop_of_length-le}
+use lib.ListN.{length, length-drop, get_or, drop, take}
 use lib.Seq.{drop-cons}
 use Rattle.model.specs.declared.Marks.{Marks}
 use Rattle.model.specs.Text.{Bytes, part, has, plain, all_plain, distinct, apart, legal_marks, others, legal_flags, marks_fault, marks_of}
 use Rattle.model.specs.Legal.{operators}
-use Rattle.model.proofs.Text.{part-rest}
+use Rattle.model.proofs.Text.{part_front}
+use Rattle.std.specs.Bool.{then_some}
+use Rattle.std.specs.List.{list_all}
+use Rattle.std.proofs.lemmas.List.{take_rest}
 use Rattle.std.specs.Prelude.{Option, None, Some}
-use Rattle.scan.specs.Lines.{Has, PlainByte, AllPlain, AllDiffer, LegalMarks, flags_of, flags_fault, MarksAt}
+use Rattle.scan.specs.Lines.{Has, AllPlain, AllDiffer, LegalMarks, flags_of, flags_fault, MarksAt}
+
+-- ---- a test of each byte
+
+pub plain_all : (s : Bytes) → list_all plain s ≡ all_plain s
+unfolding all_plain
+plain_all [] = refl
+plain_all (x ∷ s) = ap (λ (b : Bool). plain x && b) (plain_all s)
 
 -- ---- a test of each byte and those after it
 
--- a list passes where its first byte does, tested with those after it, and the rest
-record Bytewise (test : Bytes → Bool) (first : ℕ → Bytes → Bool) : Type 0 where
-  nothing : test [] ≡ true
-  byte : (x : ℕ) (l : Bytes) → test (x ∷ l) ≡ (first x l && test l)
+-- what follows the first byte
+abbrev pub after : Bytes → Bytes
+after s = take (length s - 1) (drop 1 s)
 
--- the bytes before i pass
-pub record Passing (test : Bytes → Bool) (s : Bytes) (i : ℕ) : Type 0 where
-  pub high : i ≤ length s
-  pub same : test (drop i s) ≡ test s
-
-pub passing_begins : {test : Bytes → Bool} {s : Bytes} → Passing test s 0
-passing_begins = record { high = omega arith; same = refl }
-
-module _ {test : Bytes → Bool} {first : ℕ → Bytes → Bool} (by : Bytewise test first) (s : Bytes) (i : ℕ) (h : Passing test s i) where
-  at_byte : (r : Bool) → i < length s → first (get_or s i 0) (drop (suc i) s) ≡ r → test (drop i s) ≡ (r && test (drop (suc i) s))
-  at_byte r k e = ap test (drop-cons s i 0 k) ∙ by.byte (get_or s i 0) (drop (suc i) s) ∙ ap (λ (b : Bool). b && test (drop (suc i) s)) e
-
-  passes_byte : i < length s → first (get_or s i 0) (drop (suc i) s) ≡ true → Passing test s (i + 1)
-  passes_byte k e = record { high = omega arith; same = rw add-one (sym (at_byte true k e) ∙ h.same) }
-
-  fails_byte : i < length s → first (get_or s i 0) (drop (suc i) s) ≡ false → false ≡ test s
-  fails_byte k e = sym (at_byte false k e) ∙ h.same
-
-  passes_all : length s ≤ i → true ≡ test s
-  passes_all k = sym by.nothing ∙ ap test (sym (drop_of_length-le s k)) ∙ h.same
-
--- ---- all_plain
-
-plain-bytes : Bytewise all_plain (λ x l. plain x)
-unfolding all_plain
-plain-bytes = record { nothing = refl; byte = λ x l. refl }
-
-pub plain_on : {s : Bytes} {i : ℕ} {r : Bool} → Passing all_plain s i → i < length s → PlainByte (get_or s i 0) r → r ≡ true → Passing all_plain s (i + 1)
-plain_on {s} {i} h k g e = passes_byte plain-bytes s i h k (sym g.is ∙ e)
-
-pub plain_fails : {s : Bytes} {i : ℕ} {r : Bool} → Passing all_plain s i → i < length s → PlainByte (get_or s i 0) r → r ≡ false → AllPlain s false
-plain_fails {s} {i} h k g e = record { is = fails_byte plain-bytes s i h k (sym g.is ∙ e) }
-
-pub plain_all : {s : Bytes} {i : ℕ} → Passing all_plain s i → length s ≤ i → AllPlain s true
-plain_all {s} {i} h k = record { is = passes_all plain-bytes s i h k }
-
--- ---- all_differ
-
-distinct-bytes : Bytewise distinct (λ x l. not (has x l))
+differ_first : (s : Bytes) → 1 ≤ length s → distinct s ≡ (not (has (get_or s 0 0) (after s)) && distinct (after s))
 unfolding distinct
-distinct-bytes = record { nothing = refl; byte = λ x l. refl }
+differ_first s h = ap distinct (drop-cons s 0 0 (omega arith)) ∙ ap (λ (l : Bytes). not (has (get_or s 0 0) l) && distinct l) (sym (take_rest s 1))
 
--- whether a byte is new to those after it
-new_byte : (s : Bytes) (i : ℕ) (r : Bool) → Has (part s (i + 1) (length s)) (get_or s i 0) r → not (has (get_or s i 0) (drop (suc i) s)) ≡ not r
-new_byte s i r h =
-    let e : part s (i + 1) (length s) ≡ drop (suc i) s = part-rest s (i + 1) ∙ ap (λ (k : ℕ). drop k s) (add-one i) in
-    ap not (ap (has (get_or s i 0)) (sym e) ∙ sym h.is)
+-- the bytes of s before the rest are new to those after them
+pub record Differing (s rest : Bytes) : Type 0 where
+  pub is : distinct rest ≡ distinct s
 
-pub differ_on : {s : Bytes} {i : ℕ} {r : Bool} → Passing distinct s i → i < length s → Has (part s (i + 1) (length s)) (get_or s i 0) r → r ≡ false → Passing distinct s (i + 1)
-differ_on {s} {i} {r} h k g e = passes_byte distinct-bytes s i h k (new_byte s i r g ∙ ap not e)
+pub differing_begins : {s : Bytes} → Differing s s
+differing_begins = record { is = refl }
 
-pub differ_fails : {s : Bytes} {i : ℕ} {r : Bool} → Passing distinct s i → i < length s → Has (part s (i + 1) (length s)) (get_or s i 0) r → r ≡ true → AllDiffer s false
-differ_fails {s} {i} {r} h k g e = record { is = fails_byte distinct-bytes s i h k (new_byte s i r g ∙ ap not e) }
+differ_by : {s rest : Bytes} (r : Bool) → Differing s rest → 1 ≤ length rest → Has (after rest) (get_or rest 0 0) r → distinct s ≡ (not r && distinct (after rest))
+differ_by {s} {rest} r d h g = sym d.is ∙ differ_first rest h ∙ ap (λ (b : Bool). not b && distinct (after rest)) (sym g.is)
 
-pub differ_all : {s : Bytes} {i : ℕ} → Passing distinct s i → length s ≤ i → AllDiffer s true
-differ_all {s} {i} h k = record { is = passes_all distinct-bytes s i h k }
+pub differ_on : {s rest : Bytes} {r : Bool} → Differing s rest → 1 ≤ length rest → Has (after rest) (get_or rest 0 0) r → r ≡ false → Differing s (after rest)
+differ_on {s} {rest} {r} d h g f = record { is = sym (differ_by r d h g ∙ ap (λ (b : Bool). not b && distinct (after rest)) f) }
+
+pub differ_fails : {s rest : Bytes} {r : Bool} → Differing s rest → 1 ≤ length rest → Has (after rest) (get_or rest 0 0) r → r ≡ true → AllDiffer s false
+differ_fails {s} {rest} {r} d h g f = record { is = sym (differ_by r d h g ∙ ap (λ (b : Bool). not b && distinct (after rest)) f) }
+
+pub differ_all : {s rest : Bytes} → Differing s rest → length rest < 1 → AllDiffer s true
+unfolding distinct
+differ_all {s} {rest} d h = record { is = by rest h ∙ d.is }
+  where
+    by : (l : Bytes) → length l < 1 → true ≡ distinct l
+    by [] h = refl
+    by (x ∷ l) h = absurd (omega arith)
+
+pub after-less : (s : Bytes) → 1 ≤ length s → length (after s) < length s
+after-less s h = omega (arith, ap length (take_rest s 1), length-drop 1 s)
 
 -- ---- the flag line
 
@@ -110,35 +92,31 @@ flags-fault : (r : Option Marks) → flags_fault r ≡ marks_fault (flags_of r)
 flags-fault (Some m) = refl
 flags-fault None = refl
 
-marks_at : {text : Bytes} {end : ℕ} {r : Option Marks} → flags_of r ≡ marks_of (part text 0 end) → MarksAt text end r
-marks_at {r = r} e = record { is = e; number = flags-fault r ∙ ap marks_fault e }
-
 -- the answer for what legal_flags says of the line
-answer : (text : Bytes) (end : ℕ) (b : Bool) → legal_flags (part text 0 end) ≡ b → MarksAt text end (elim b as (λ _. Option Marks) [ true ↦ Some (marks_in (part text 0 end)) | false ↦ None ])
+answer : (text : Bytes) (end : ℕ) (b : Bool) → legal_flags (take end text) ≡ b → MarksAt text end (then_some b (marks_in (take end text)))
 unfolding marks_of
-answer text end true e = marks_at (rw (e, marks_of))
-answer text end false e = marks_at (rw (e, marks_of))
+answer text end b e = record { is = by b e; number = flags-fault (then_some b (marks_in (take end text))) ∙ ap marks_fault (by b e) }
+  where
+    by : (b : Bool) → legal_flags (take end text) ≡ b → flags_of (then_some b (marks_in (take end text))) ≡ marks_of (part text 0 end)
+    by true e = sym (ap marks_of (part_front text end) ∙ rw (e, marks_of) refl)
+    by false e = sym (ap marks_of (part_front text end) ∙ rw (e, marks_of) refl)
 
-pub fault_short : {text : Bytes} {end : ℕ} → length (part text 0 end) < 12 → MarksAt text end None
+pub fault_short : {text : Bytes} {end : ℕ} → length (take end text) < 12 → MarksAt text end None
 unfolding legal_flags
-fault_short {text} {end} k = answer text end false (rw (lt-leb 12 (length (part text 0 end)) k))
+fault_short {text} {end} k = answer text end false (rw (lt-leb 12 (length (take end text)) k))
 
-pub fault_fifth : {text : Bytes} {end : ℕ} → 12 ≤ length (part text 0 end) → ¬ (get_or (part text 0 end) 4 0 ≡ 48) → MarksAt text end None
+pub fault_fifth : {text : Bytes} {end : ℕ} → 12 ≤ length (take end text) → ¬ (get_or (take end text) 4 0 ≡ 48) → MarksAt text end None
 unfolding legal_flags legal_marks
-fault_fifth {text} {end} k f = answer text end false (rw (le-leb 12 (length (part text 0 end)) k, ne_eqb (get_or (part text 0 end) 4 0) 48 f))
+fault_fifth {text} {end} k f = answer text end false (rw (le-leb 12 (length (take end text)) k, ne_eqb (get_or (take end text) 4 0) 48 f))
 
 -- a line of 12 bytes or more with the byte `0` in its place is legal as its marks are
 legal_as : (s : Bytes) (r : Bool) → 12 ≤ length s → get_or s 4 0 ≡ 48 → LegalMarks (marks_in s) r → legal_flags s ≡ r
 unfolding legal_flags others
 legal_as s r k e h = rw (le-leb 12 (length s) k, e) (sym h.is)
 
-pub fault_tested : {text : Bytes} {end : ℕ} {r : Bool} → 12 ≤ length (part text 0 end) → get_or (part text 0 end) 4 0 ≡ 48 → LegalMarks (marks_in (part text 0 end)) r → r ≡ false
-    → MarksAt text end None
-fault_tested {text} {end} {r} k e h f = answer text end false (legal_as (part text 0 end) r k e h ∙ f)
-
-pub legal_tested : {text : Bytes} {end : ℕ} {r : Bool} → 12 ≤ length (part text 0 end) → get_or (part text 0 end) 4 0 ≡ 48 → LegalMarks (marks_in (part text 0 end)) r → r ≡ true
-    → MarksAt text end (Some (marks_in (part text 0 end)))
-legal_tested {text} {end} {r} k e h f = answer text end true (legal_as (part text 0 end) r k e h ∙ f)
+pub marks_tested : {text : Bytes} {end : ℕ} {b : Bool} {r : Option Marks} → 12 ≤ length (take end text) → get_or (take end text) 4 0 ≡ 48 → LegalMarks (marks_in (take end text)) b
+    → r ≡ then_some b (marks_in (take end text)) → MarksAt text end r
+marks_tested {text} {end} {b} k e h q = subst (λ (x : Option Marks). MarksAt text end x) (sym q) (answer text end b (legal_as (take end text) b k e h))
 
 -- ---- for callers of read_marks
 

@@ -1,16 +1,19 @@
 -- Laws of what precedes a byte, and of the lines and the body that start at a place.
-use mathlib.Core.Path.{◌≡◌, refl, ap, sym, ◌∙◌}
-use mathlib.Core.Bool.{Bool, true, false}
+use mathlib.Core.Path.{◌≡◌, refl, ap, ◌∙◌}
+use mathlib.Core.Bool.{Bool, true, false, cond, ◌||◌}
 use mathlib.Core.List.{List, [], ◌∷◌}
 use Prim.Native.Nat.{ℕ, suc, ◌+◌, ◌≤◌, ◌<◌}
+use native.Mathlib.Numerals.{one-add}
 use native.Mathlib.Omega.{arith}
-use borrow.Author.Tests.{eqb-true, eqb-false, lt-ltb, eq-eqb, ne_eqb}
-use lib.Dec.{eqb, ltb, leb-suc-suc}
+use borrow.Author.Tests.{eqb-true, eqb-false, eq-eqb, ne_eqb}
+use lib.Dec.{eqb}
 use lib.ListN.{length, take, drop, length-drop, drop_of_length-le}
 use lib.Seq.{drop-drop}
 use Rattle.model.specs.declared.Marks.{Marks}
 use Rattle.model.specs.Text.{Bytes, has, starts_with, up_to, onto_first, lines}
 use Rattle.model.specs.Load.{body_of, body_at}
+use Rattle.std.specs.List.{list_any, position_or_len}
+use Rattle.std.proofs.lemmas.List.Recursion.{is_position_or_len}
 use Rattle.model.proofs.Choices.{split}
 use Rattle.scan.specs.Lines.{line_at}
 
@@ -40,15 +43,23 @@ unfolding up_to
 up_to_short b [] = omega arith
 up_to_short b (x ∷ s) = up_to_cases (λ (l : Bytes). length l ≤ suc (length s)) b x s (λ e. omega arith) (λ e. omega (arith, up_to_short b s))
 
--- a byte occurs where what precedes it is not the whole list
-pub has_up_to : (b : ℕ) (s : Bytes) → has b s ≡ ltb (length (up_to b s)) (length s)
-unfolding has up_to
-has_up_to b [] = refl
-has_up_to b (x ∷ s) = by (eqb x b) refl (has_up_to b s)
+-- as long as std's search passes over, by the test of each byte
+pub up_to_long : (b : ℕ) (s : Bytes) → length (up_to b s) ≡ position_or_len (λ x. eqb x b) s
+unfolding up_to
+up_to_long b s = is_position_or_len (λ l. length (up_to b l)) (λ x. eqb x b) refl step s
   where
-    by : (c : Bool) → eqb x b ≡ c → has b s ≡ ltb (length (up_to b s)) (length s) → has b (x ∷ s) ≡ ltb (length (up_to b (x ∷ s))) (suc (length s))
-    by true e ih = rw (e, has, up_to) (sym (lt-ltb 0 (suc (length s)) (omega arith)))
-    by false e ih = rw (e, has, up_to) (ih ∙ sym (leb-suc-suc (suc (length (up_to b s))) (length s)))
+    step : (x : ℕ) (l : Bytes) → length (up_to b (x ∷ l)) ≡ cond (eqb x b) 0 (1 + length (up_to b l))
+    step x l = up_to_cases (λ (p : Bytes). length p ≡ cond (eqb x b) 0 (1 + length (up_to b l))) b x l (λ e. rw (eq-eqb x b e)) (λ f. rw (ne_eqb x b f, one-add))
+
+-- a byte occurs where std's test of each byte finds it
+pub any-has : (b : ℕ) (s : Bytes) → list_any (λ x. eqb x b) s ≡ has b s
+unfolding has
+any-has b [] = refl
+any-has b (x ∷ s) = by (eqb x b) (any-has b s)
+  where
+    by : (c : Bool) {y z : Bool} → y ≡ z → c || y ≡ (elim c as (λ _. Bool) [ true ↦ true | false ↦ z ])
+    by true e = refl
+    by false e = e
 
 -- ---- lines
 

@@ -1,24 +1,25 @@
 -- Why each function ensures what it does: the loops of find_byte, find_end and pass_line, and the answers of the others from what they call.
 use mathlib.Core.Path.{◌≡◌, refl, ap, sym, ◌∙◌, subst}
-use mathlib.Core.Bool.{Bool, true, false, ◌&&◌, not}
+use mathlib.Core.Bool.{Bool, true, false, ◌&&◌, not, cond}
 use mathlib.Core.List.{[], ◌∷◌}
-use mathlib.Core.Logic.{inl, inr, ⊎_elim}
-use Prim.Native.Nat.{ℕ, suc, ◌+◌, ◌-◌, ◌≤◌, ◌<◌}
+use Prim.Native.Nat.{ℕ, suc, ◌+◌, ◌-◌, ◌≤◌, ◌<◌, min}
 use native.Mathlib.Numerals.{add-one}
 use native.Mathlib.Omega.{arith}
-use borrow.Author.Tests.{ltb-true, ltb-false}
+use borrow.Author.Tests.{ltb-true, ltb-false, eqb-true, eqb-false, eq-eqb, ne_eqb}
 use lib.Dec.{eqb, ltb}
-use lib.ListN.{length, get_or, drop, drop_of_length-le}
+use lib.ListN.{length, get_or, take, drop, drop_of_length-le}
 use lib.Seq.{drop-cons}
-use Rattle.std.specs.Prelude.{Option, None, Some, MatchOption}
+use lib.Pointwise.{pointwise}
+use Rattle.std.specs.List.{position, position_or_len}
+use Rattle.std.specs.Prelude.{unwrap_or, Option, None, Some, MatchOption}
 use Rattle.model.specs.declared.Marks.{Marks}
 use Rattle.scan.specs.declared.Line.{Line}
 use Rattle.model.specs.Text.{Bytes, part, starts_with, up_to, lines}
 use Rattle.model.specs.Load.{body_of, body_at}
 use Rattle.model.proofs.Choices.{false-not-true}
-use Rattle.model.proofs.Text.{part_length, part-rest, part-whole, part_empty, part_cons, part-take}
-use Rattle.scan.specs.Lines.{line_at, FindsByte, Has, Begins, LineAt, FindsEnd, PassesLine, ContentAt, BeginsMarked, CodeLine, CodeAt}
-use Rattle.scan.proofs.Lines.{up_to_stops, up_to_goes_on, up_to_front, up_to_short, has_up_to, lines_at, body_none, body_ends, body_goes_on}
+use Rattle.model.proofs.Text.{part_length, part-rest, part_empty, part_cons, part-take}
+use Rattle.scan.specs.Lines.{line_at, FindsByte, Begins, LineAt, FindsEnd, ContentAt, BeginsMarked, CodeLine, CodeAt}
+use Rattle.scan.proofs.Lines.{up_to_stops, up_to_goes_on, up_to_front, up_to_short, up_to_long, lines_at, body_none, body_ends, body_goes_on}
 
 -- ---- find_byte
 
@@ -61,22 +62,31 @@ found_nowhere {s} {from} {to} {b} {i} h k = found-by s from to b i h (ap (λ (l 
 pub found-length : {s : Bytes} {from to b r : ℕ} → FindsByte s from to b r → to ≤ length s → length (up_to b (part s from to)) ≡ r - from
 found-length {s} {from} {to} {b} {r} h k = ap length (sym h.is) ∙ part_length s from r (omega arith)
 
--- ---- has_byte
-
-pub has-found : {s : Bytes} {b r : ℕ} → FindsByte s 0 (length s) b r → Has s b (ltb r (length s))
-has-found {s} {b} {r} h =
-    let e : length (up_to b s) ≡ r = ap (λ (l : Bytes). length (up_to b l)) (sym (part-whole s)) ∙ found-length h (omega arith) ∙ omega arith in
-    record { is = ap (λ (n : ℕ). ltb n (length s)) (sym e) ∙ sym (has_up_to b s) }
+-- what std's search answers
+pub found_by : {s : Bytes} {from to b : ℕ} {p : Option ℕ} {r : ℕ} → from ≤ to → to ≤ length s → p ≡ position (λ x. eqb x b) (part s from to) → r ≡ unwrap_or p (to - from)
+    → FindsByte s from to b (from + r)
+found_by {s} {from} {to} {b} {p} {r} h k e q =
+    let l : Bytes = part s from to in
+    let n : length (up_to b l) ≡ position_or_len (λ x. eqb x b) l = up_to_long b l in
+    let passed : unwrap_or (position (λ x. eqb x b) l) (to - from) ≡ position_or_len (λ x. eqb x b) l = by (ltb (position_or_len (λ x. eqb x b) l) (length l)) refl in
+    found_at s from to b (from + r) h k (ap (λ i. from + i) (n ∙ sym passed ∙ ap (λ o. unwrap_or o (to - from)) (sym e) ∙ sym q))
+  where
+    by : (c : Bool) → ltb (position_or_len (λ x. eqb x b) (part s from to)) (length (part s from to)) ≡ c
+        → unwrap_or (cond c (Some (position_or_len (λ x. eqb x b) (part s from to))) None) (to - from) ≡ position_or_len (λ x. eqb x b) (part s from to)
+    by true t = refl
+    by false t = omega (arith, ltb-false _ _ t, up_to_long b (part s from to), up_to_short b (part s from to), part_length s from to k)
 
 -- ---- begins_with
 
-pub begins-nothing : {text : Bytes} {at end b : ℕ} → at ≡ end → Begins text at end b false
+-- std's test for one byte at the front
+pub starts-with : (b : ℕ) (s : Bytes) → pointwise eqb (b ∷ []) (take 1 s) ≡ starts_with b s
 unfolding starts_with
-begins-nothing {text} {at} {end} {b} e = record { is = ap (starts_with b) (sym (part_empty text at end (omega arith))) }
-
-pub begins_here : {text : Bytes} {at end b : ℕ} → at ≤ end → ¬ (at ≡ end) → end ≤ length text → Begins text at end b (eqb (get_or text at 0) b)
-unfolding starts_with
-begins_here {text} {at} {end} {b} h f k = record { is = ap (starts_with b) (sym (part_cons text at end (omega arith) k)) }
+starts-with b [] = refl
+starts-with b (x ∷ s) = by (eqb b x) refl
+  where
+    by : (c : Bool) → eqb b x ≡ c → eqb b x && true ≡ eqb x b
+    by true e = rw e (sym (eq-eqb x b (sym (eqb-true b x e))))
+    by false e = rw e (sym (ne_eqb x b (λ z. eqb-false b x e (sym z))))
 
 -- what begins with a byte has one
 pub begins_inside : {text : Bytes} {at end b : ℕ} {r : Bool} → Begins text at end b r → r ≡ true → at + 1 ≤ end
@@ -104,12 +114,19 @@ line_by text at r next h k p q w e =
           ∙ ap (λ (i : ℕ). part text at r ∷ lines (drop i text)) z ∙ ap (λ (x : Bytes). part text at r ∷ lines x) e;
     }
 
-pub line_ended : {text : Bytes} {at r : ℕ} → FindsByte text at (length text) 10 r → r < length text → LineAt text at r (r + 1)
-line_ended {text} {at} {r} h k = rw add-one (line_by text at r (suc r) h (omega (arith, h.low)) (omega arith) (omega (arith, h.low)) (omega arith) refl)
-
-pub line_last : {text : Bytes} {at r : ℕ} → FindsByte text at (length text) 10 r → at < length text → length text ≤ r → LineAt text at r r
-line_last {text} {at} {r} h k p =
-    line_by text at r r h k (omega arith) (omega arith) h.high (drop_of_length-le text {i = suc r} (omega arith) ∙ sym (drop_of_length-le text {i = r} p))
+-- past byte 10, or at the end of the text
+pub line_found : {text : Bytes} {at r : ℕ} → FindsByte text at (length text) 10 r → at < length text → LineAt text at r (min (length text) (r + 1))
+line_found {text} {at} {r} h k = by (ltb r (length text)) refl
+  where
+    by : (c : Bool) → ltb r (length text) ≡ c → LineAt text at r (min (length text) (r + 1))
+    by true t =
+        let lt = ltb-true r (length text) t in
+        let e : suc r ≡ min (length text) (r + 1) = omega arith in
+        subst (λ (i : ℕ). LineAt text at r i) e (line_by text at r (suc r) h k (omega arith) (omega (arith, h.low)) (omega arith) refl)
+    by false t =
+        let le = ltb-false r (length text) t in
+        let e : r ≡ min (length text) (r + 1) = omega (arith, h.high) in
+        subst (λ (i : ℕ). LineAt text at r i) e (line_by text at r r h k (omega arith) (omega arith) h.high (drop_of_length-le text {i = suc r} (omega arith) ∙ sym (drop_of_length-le text {i = r} le)))
 
 -- the line is what precedes byte 10
 pub line_is : {text : Bytes} {at end next : ℕ} → LineAt text at end next → part text at end ≡ line_at text at
@@ -166,20 +183,8 @@ module _ {text : Bytes} {at mark r : ℕ} (s : Scanning text at mark r) where
       absurd (omega (arith, z, found-length f (omega arith))))
 
   pub end-text : length text ≤ r → FindsEnd text at mark r
-  end-text h = end_by (λ stop f k. absurd (omega (arith, f.high)))
-
--- ---- pass_line
-
-pub passes_ended : {text : Bytes} {at i : ℕ} → Seeking text at (length text) 10 i → i < length text → get_or text i 0 ≡ 10 → PassesLine text at (i + 1)
-passes_ended {text} {at} {i} h lt e = record { stop = i; found = found_there h lt e; past = inl (lt, refl) }
-
-pub passes_last : {text : Bytes} {at i : ℕ} → Seeking text at (length text) 10 i → length text ≤ i → PassesLine text at i
-passes_last {text} {at} {i} h k = record { stop = i; found = found_nowhere h k; past = inr (k, refl) }
-
--- what is passed from r on is the rest of the line at `at`
-line_passed : (text : Bytes) (at r next : ℕ) → at < length text → (p : PassesLine text r next) → FindsByte text at (length text) 10 p.stop → LineAt text at p.stop next
-line_passed text at r next lt p f =
-    ⊎_elim (λ h. subst (LineAt text at p.stop) (sym h.1) (line_ended f h.0)) (λ h. subst (LineAt text at p.stop) (sym h.1) (line_last f lt h.0)) p.past
+  end-text h =
+      end_by (λ stop f k. absurd (omega (arith, f.high)))
 
 -- ---- read_content
 
@@ -193,8 +198,9 @@ content_at {text} {mark} {at} {stop} {end} {next} h f = record {
   is = h.is ∙ ap (λ (l : Bytes). l ∷ lines (drop next text)) (line_is h);
 }
 
-pub content_read : {text : Bytes} {mark at end next : ℕ} → at < length text → FindsEnd text at mark end → PassesLine text end next → ContentAt text mark at end next
-content_read {text} {mark} {at} {end} {next} lt e p = content_at (line_passed text at end next lt p (e.line p.stop p.found)) (e.content p.stop p.found)
+pub content_read : {text : Bytes} {mark at end stop next : ℕ} → at < length text → FindsEnd text at mark end → FindsByte text end (length text) 10 stop → next ≡ min (length text) (stop + 1)
+    → ContentAt text mark at end next
+content_read {text} {mark} {at} {end} {stop} lt e f q = subst (λ (i : ℕ). ContentAt text mark at end i) (sym q) (content_at (line_found (e.line stop f) lt) (e.content stop f))
 
 -- ---- begins_marked
 

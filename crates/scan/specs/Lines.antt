@@ -1,5 +1,5 @@
 -- Where bytes, lines and marks stand in a text. Each record is what one function ensures.
-use Rattle.std.specs.Prelude.{◌≡◌, Bool, [], ◌∷◌, ◌⊎◌, ℕ, ◌+◌, ◌≤◌, ◌<◌, length, drop, Option, None, Some, MatchOption}
+use Rattle.std.specs.Prelude.{◌≡◌, Bool, [], ◌∷◌, ℕ, ◌≤◌, ◌<◌, length, drop, Option, None, Some, MatchOption}
 use Rattle.std.proofs.Math.Option as Math
 use Rattle.model.specs.declared.Marks.{Marks}
 use Rattle.model.specs.Text.{Bytes, part, has, starts_with, up_to, lines, plain, all_plain, distinct, legal_marks, marks_fault, marks_of}
@@ -39,12 +39,6 @@ pub record FindsEnd (text : Bytes) (at mark r : ℕ) : Type 0 where
   pub high : r ≤ length text
   pub line : (stop : ℕ) → FindsByte text r (length text) 10 stop → FindsByte text at (length text) 10 stop
   pub content : (stop : ℕ) → FindsByte text r (length text) 10 stop → FindsByte text at stop mark r
-
--- r is past the first byte 10 from `at` on, or where the text ends
-pub record PassesLine (text : Bytes) (at r : ℕ) : Type 0 where
-  pub stop : ℕ
-  pub found : FindsByte text at (length text) 10 stop
-  pub past : ((stop < length text) × (r ≡ stop + 1)) ⊎ ((length text ≤ stop) × (r ≡ stop))
 
 -- its content, up to the mark, is text[at..end]
 pub record ContentAt (text : Bytes) (mark at end next : ℕ) : Type 0 where

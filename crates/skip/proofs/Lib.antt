@@ -1,2 +1,3 @@
 -- The laws of skips.
+pub mod Made
 pub mod Skipping

@@ -43,6 +43,33 @@ fn parts_agree(params: &[u8], first: usize, second: usize) -> bool
 }
 
 impl<'a> Skip<'a> {
+    ghost use Rattle.skip.specs.Made.{IsSkip};
+
+    // A skip in a call.
+    pub fn new(
+        m: Marks,
+        text: &'a [u8],
+        call: Head,
+        nums: &'a [usize],
+        params: &'a [u8],
+        memory: &'a [u8],
+        state: State,
+    ) -> Skip<'a>
+        requires sized { Sized nums.now params.now × (call.next ≤ length text.now) }
+        requires kept { Kept memory.now state.index }
+        ensures { IsSkip result m text.now call nums.now params.now memory.now state }
+    {
+        Skip {
+            m,
+            text,
+            call,
+            nums,
+            params,
+            memory,
+            state,
+        }
+    }
+
     // Skips v code lines; a negative skip ends the run with 18.
     fn skip_lines(&self, v: Integer) -> Answer
         ensures { SkipsLines self.now.m self.now.text.now self.now.call v self.now.state result }

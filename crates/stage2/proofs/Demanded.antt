@@ -18,9 +18,12 @@ use Rattle.model.proofs.Theorems.{run_follows}
 use Rattle.model.proofs.Choices.{when_true, when_false, or_false, false-not-true}
 use Rattle.nodes.specs.declared.Node.{Node}
 use Rattle.nodes.specs.SideBySide.{HoldsTree}
-use Rattle.prepare.specs.declared.Tables.{Tables}
+use Rattle.std.specs.Prelude as Prelude
+use Rattle.std.specs.Prelude.{Ok, Err}
+use Rattle.load.specs.declared.Refused.{Refused}
+use Rattle.prepare.specs.declared.Prepared.{Prepared}
 use Rattle.prepare.specs.Prepares.{Prepares}
-use Rattle.prepare.proofs.Trees.{holds-tree}
+use Rattle.prepare.proofs.Trees.{holds-tree, refused-loads}
 use Rattle.run.proofs.Running.{same_runs, refuses}
 use Rattle.stage2.specs.Rooms.{TestsRooms}
 
@@ -80,6 +83,11 @@ module _ (fuel rows dead : ℕ) (text output second store report : Bytes) where
         → Runs whole output second store report r output' second' store' report'
     legal_runs e u a = same_runs (ap (λ (n : ℕ). run n room (load text)) u ∙ when_legal fuel rows dead room text (length store) (length report) (sym h.is ∙ e)) a
 
+  -- a text that loads has its tree in the row
+  tree : (row : List Node) (p : Prelude.Result Prepared Refused) → Prepares text row p → (t : Loaded) → load text ≡ loaded t → HoldsTree t row
+  tree row (Ok p) h t loads = holds-tree h t loads
+  tree row (Err f) h t loads = absurd (refused-loads text t h loads)
+
   -- what document 01 demands of them, and the tree that is left in the row
   module _ {row : List Node} {r : Ran} {output' second' store' report' : Bytes} (h : Runs whole output second store report r output' second' store' report') {b : Bool}
       (g : TestsRooms fuel rows dead (length store) (length report) b) where
@@ -88,10 +96,10 @@ module _ (fuel rows dead : ℕ) (text output second store report : Bytes) where
         → HoldsTree t row × FollowsExpansion t fuel output second store report r output' second' store' report'
     no_demand e t loads legal = absurd (false-not-true (sym legal ∙ sym g.is ∙ e))
 
-    pub follows-expansion : {p : Tables} → Prepares text row p → (t : Loaded) → load text ≡ loaded t → illegal fuel rows dead (length store) (length report) ≡ false
+    pub follows-expansion : (p : Prelude.Result Prepared Refused) → Prepares text row p → (t : Loaded) → load text ≡ loaded t → illegal fuel rows dead (length store) (length report) ≡ false
         → HoldsTree t row × FollowsExpansion t fuel output second store report r output' second' store' report'
-    follows-expansion p t loads legal = (
-      holds-tree p t loads,
+    follows-expansion p q t loads legal = (
+      tree row p q t loads,
       run_follows text t loads fuel output second store report
           (same_runs (sym (when_legal fuel rows dead room text (length store) (length report) legal) ∙ ap (run fuel room) loads) h) (g.few (g.is ∙ legal)),
     )

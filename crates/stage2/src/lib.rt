@@ -3,45 +3,36 @@
 // loads at the front of the row of nodes; what else these rows hold is free. No public function has a `requires`.
 #![tactic(auto)]
 
-ghost use Rattle.std.specs.Prelude.{◌≡◌, ◌≤◌, ◌<◌, length, true, false};
+ghost use Rattle.std.specs.Prelude.{◌≡◌, ◌≤◌, ◌<◌, length, false, IfSome};
 ghost use Rattle.model.specs.Load as Load;
 ghost use Rattle.model.specs.Load.{Loaded, loaded};
 ghost use Rattle.model.specs.Machine.{rooms};
 ghost use Rattle.model.specs.Results.{short_row, checked_as, check_text, without_pieces, fitted_in, fit_of_line, illegal, run_text};
 ghost use Rattle.model.specs.FirstReading.{FitsFirst};
 ghost use Rattle.nodes.specs.SideBySide.{HoldsTree};
-ghost use Rattle.prepare.specs.Prepares.{Prepares};
+ghost use Rattle.prepare.specs.Prepares.{IsPrepared};
 ghost use Rattle.model.specs.Runs.{Runs};
 ghost use Rattle.model.specs.Demands.{FollowsExpansion};
-ghost use Rattle.stage2.specs.Answers.{Answers};
+ghost use Rattle.stage2.specs.Answers.{answer_of};
 ghost use Rattle.stage2.specs.Rooms.{TestsRows, TestsRooms};
 ghost use Rattle.model.specs.Limits.{macros_most, dead_least};
 
-use buffer::widen;
+use faults::RunFault;
 use fit::{Choice, first_reading};
-use macros::line_of;
+use load::load;
+use macros::Table;
 use model::{
     Checked, DEAD_LEAST, FUEL_MOST, Fitted, LINE_MOST, NODES_MOST, REPORT_LEAST, Ran, STORE_LEAST,
 };
 use nodes::Node;
-use prepare::{Tables, load_tables, prepare};
+use prepare::{Prepared, prepare};
 use run::{refuse, run_prepared};
 
 // Nine counts, as the answers have them.
 fn widen_nine(a: [usize; 9]) -> [u64; 9]
     ensures { result ≡ a }
 {
-    [
-        widen(a[0]),
-        widen(a[1]),
-        widen(a[2]),
-        widen(a[3]),
-        widen(a[4]),
-        widen(a[5]),
-        widen(a[6]),
-        widen(a[7]),
-        widen(a[8]),
-    ]
+    a.map(|n| n as u64)
 }
 
 // Whether a row of so many nodes is below the least legal length.
@@ -62,11 +53,16 @@ fn lack_room(rows: usize, dead: usize) -> bool
 fn check_in(text: &[u8]) -> Checked
     ensures { result ≡ checked_as (Load.load text.now) }
 {
-    let t = load_tables(text);
-    let r = t.loading;
-    Checked {
-        number: widen(r.number),
-        line: widen(r.line),
+    let mut table = Table::default();
+    match load(text, &mut table) {
+        Ok(loaded) => Checked {
+            number: 0,
+            line: loaded.line as u64,
+        },
+        Err(refused) => Checked {
+            number: usize::from(refused.fault) as u64,
+            line: refused.line as u64,
+        },
     }
 }
 
@@ -85,8 +81,8 @@ fn no_pieces(number: usize, line: usize) -> Fitted
     ensures { result ≡ without_pieces number line }
 {
     Fitted {
-        number: widen(number),
-        line: widen(line),
+        number: number as u64,
+        line: line as u64,
         start: [0; 9],
         length: [0; 9],
         places: 0,
@@ -95,49 +91,40 @@ fn no_pieces(number: usize, line: usize) -> Fitted
 }
 
 // What a choice comes to; the table says each template's line.
-fn answer_choice(t: Tables, c: Choice) -> Fitted
-    requires { c.found ≡ true → c.template < macros_most }
-    ensures { Answers t.table c result }
+fn answer_choice(table: &Table, c: Choice) -> Fitted
+    requires { IfSome c.reading (λ r. r.template < macros_most) }
+    ensures { result ≡ answer_of table.now c.reading c.places c.bytes }
 {
-    if c.found {
-        let k = c.template;
-        let table = t.table;
-        let starts = c.starts;
-        let lens = c.lens;
-        return Fitted {
-            number: 0,
-            line: widen(line_of(&table, k)),
-            start: widen_nine(starts),
-            length: widen_nine(lens),
-            places: widen(c.places),
-            bytes: widen(c.bytes),
-        };
-    }
-    Fitted {
+    let none = Fitted {
         number: 0,
         line: 0,
         start: [0; 9],
         length: [0; 9],
-        places: widen(c.places),
-        bytes: widen(c.bytes),
+        places: c.places as u64,
+        bytes: c.bytes as u64,
+    };
+    match c.reading {
+        None => none,
+        Some(r) => Fitted {
+            line: table.line_of(r.template) as u64,
+            start: widen_nine(r.starts),
+            length: widen_nine(r.lens),
+            ..none
+        },
     }
 }
 
-// A line fitted against the templates of a text that is prepared, or refused.
-fn fit_prepared(text: &[u8], nodes: &[Node], dead: &mut [u8], t: Tables, line: &[u8]) -> Fitted
-    requires { Prepares text.now nodes.now t × (dead_least ≤ length dead.old) }
+// A line fitted against the templates of a text that is prepared.
+fn fit_prepared(text: &[u8], nodes: &[Node], dead: &mut [u8], t: &Prepared, line: &[u8]) -> Fitted
+    requires { IsPrepared text.now nodes.now t.now × (dead_least ≤ length dead.old) }
     ensures { result ≡ fitted_in line.now (Load.load text.now) }
 {
-    let r = t.loading;
-    if r.number != 0 {
-        return no_pieces(r.number, r.line);
+    if LINE_MOST < line.len() {
+        return no_pieces(RunFault::LongInput.into(), 0);
     }
-    let n = line.len();
-    if LINE_MOST < n {
-        return no_pieces(11, 0);
-    }
-    let c = first_reading(r.marks, nodes, r.nodes, dead, line, n);
-    answer_choice(t, c)
+    let loaded = t.loaded;
+    let choice = first_reading(loaded.marks, nodes, loaded.nodes, dead, line);
+    answer_choice(&t.table, choice)
 }
 
 // Fits one line, taken whole, against the templates of a text: the first of all its readings, or line 0 where it is no call; how many
@@ -150,8 +137,10 @@ pub fn fit(text: &[u8], nodes: &mut [Node], dead: &mut [u8], line: &[u8]) -> Fit
     if lack_room(nodes.len(), dead.len()) {
         return no_pieces(1, 0);
     }
-    let t = prepare(text, nodes);
-    fit_prepared(text, nodes, dead, t, line)
+    match prepare(text, nodes) {
+        Ok(prepared) => fit_prepared(text, nodes, dead, &prepared, line),
+        Err(refused) => no_pieces(refused.fault.into(), refused.line),
+    }
 }
 
 // Whether the fuel is not 1 to 1,000,000, the node row below 2,048, the row of dead places below 51,456, the store below 8,704 or the report
@@ -163,13 +152,6 @@ fn is_illegal(fuel: u64, rows: usize, dead: usize, store: usize, report: usize) 
         | ((FUEL_MOST < fuel)
             | ((rows < NODES_MOST)
                 | ((dead < DEAD_LEAST) | ((store < STORE_LEAST) | (report < REPORT_LEAST)))))
-}
-
-// The fuel as the machine counts it.
-fn count_of(n: u64) -> usize
-    ensures { result ≡ n }
-{
-    n as usize
 }
 
 // Runs a text. No more than 2,048 nodes and 51,456 bytes of the lent rows are used. Channel 3 is the output, and
@@ -201,8 +183,8 @@ pub fn run(
         text,
         nodes,
         dead,
-        t,
-        count_of(fuel),
+        &t,
+        fuel as usize,
         output,
         second,
         store,

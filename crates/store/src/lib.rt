@@ -219,7 +219,7 @@ fn part_of<'a>(entry: Entry<'a>, part: Part) -> &'a [u8]
     }
 }
 
-// All of src and a mark after it, to room from offset at; the answer is where they end.
+// All of src and a mark after it, to room from offset at; the answer is where they end, at which the next one begins.
 fn write_marked(src: &[u8], mark: u8, room: &mut [u8], at: usize) -> usize
     requires { at + length src.now < length room.old }
     ensures { Marked room.old at src.now mark result room.new }

@@ -16,6 +16,15 @@ use model::{END_KEY, Marks};
 use nodes::{Node, ROOT_KEY};
 use templates::{Pick, holes_past, take_run};
 
+// The templates in their order: the placeholder's mark, the text, and the table, which has n of them.
+#[derive(Clone, Copy)]
+struct Ordered<'a> {
+    mark: u8,
+    text: &'a [u8],
+    table: &'a Table,
+    n: usize,
+}
+
 // How many elements stand up to and with a node.
 fn depth_of(n: Node) -> usize
     requires { n.height ≤ 201 }
@@ -55,17 +64,9 @@ fn make_root(n: usize) -> Node
 }
 
 // Appends the children of node i; the answer is how many nodes there are then.
-fn fill_children(
-    mark: u8,
-    text: &[u8],
-    table: &Table,
-    n: usize,
-    nodes: &mut [Node],
-    i: usize,
-    made: usize,
-) -> usize
-    requires { NextNode mark text.now table.now n nodes.old i made × (elem nodes.old i ≡ end_key → ⊥) }
-    ensures { Filled mark (templates_in text.now table.now n) (order_in table.now) nodes.new i result made }
+fn fill_children(ordered: &Ordered, nodes: &mut [Node], i: usize, made: usize) -> usize
+    requires { NextNode ordered.now.mark ordered.now.text.now ordered.now.table.now ordered.now.n nodes.old i made × (elem nodes.old i ≡ end_key → ⊥) }
+    ensures { Filled ordered.now.mark (templates_in ordered.now.text.now ordered.now.table.now ordered.now.n) (order_in ordered.now.table.now) nodes.new i result made }
 {
     let parent = nodes[i];
     let d = depth_of(parent);
@@ -74,7 +75,15 @@ fn fill_children(
     let mut at = parent.first_child();
     // each turn takes a run of templates, and the look for it says how long it is: no range has these steps
     while at < end {
-        let r = take_run(mark, text, table, n, at, end, d);
+        let r = take_run(
+            ordered.mark,
+            ordered.text,
+            ordered.table,
+            ordered.n,
+            at,
+            end,
+            d,
+        );
         at = r.end;
         nodes[c] = make_child(parent, r);
         c += 1;
@@ -95,37 +104,30 @@ fn link_children(nodes: &mut [Node], i: usize, first: usize, c: usize)
 }
 
 // Gives node i its children; an end has none.
-fn add_children(
-    mark: u8,
-    text: &[u8],
-    table: &Table,
-    n: usize,
-    nodes: &mut [Node],
-    i: usize,
-    made: usize,
-) -> usize
-    requires { NextNode mark text.now table.now n nodes.old i made }
-    ensures { NodesMade mark (templates_in text.now table.now n) (order_in table.now) nodes.new (i + 1) result }
+fn add_children(ordered: &Ordered, nodes: &mut [Node], i: usize, made: usize) -> usize
+    requires { NextNode ordered.now.mark ordered.now.text.now ordered.now.table.now ordered.now.n nodes.old i made }
+    ensures { NodesMade ordered.now.mark (templates_in ordered.now.text.now ordered.now.table.now ordered.now.n) (order_in ordered.now.table.now) nodes.new (i + 1) result }
 {
     if nodes[i].element == END_KEY {
         link_children(nodes, i, made, made);
         return made;
     }
-    let c = fill_children(mark, text, table, n, nodes, i, made);
+    let c = fill_children(ordered, nodes, i, made);
     link_children(nodes, i, made, c);
     c
 }
 
 // Gives every node its children, from the root on: how many nodes there are then.
-fn grow_tree(mark: u8, text: &[u8], table: &Table, n: usize, nodes: &mut [Node]) -> usize
-    requires { Growing mark text.now table.now n nodes.old × Made mark (templates_in text.now table.now n) (order_in table.now) nodes.old 0 1 }
-    ensures { NodesMade mark (templates_in text.now table.now n) (order_in table.now) nodes.new result result }
+fn grow_tree(ordered: &Ordered, nodes: &mut [Node]) -> usize
+    requires { Growing ordered.now.mark ordered.now.text.now ordered.now.table.now ordered.now.n nodes.old
+        × Made ordered.now.mark (templates_in ordered.now.text.now ordered.now.table.now ordered.now.n) (order_in ordered.now.table.now) nodes.old 0 1 }
+    ensures { NodesMade ordered.now.mark (templates_in ordered.now.text.now ordered.now.table.now ordered.now.n) (order_in ordered.now.table.now) nodes.new result result }
 {
     let mut c = 1;
     let mut i = 0;
     // the tree grows while it is gone over, so how many turns there are is not known at first: no range
     while i < c {
-        c = add_children(mark, text, table, n, nodes, i, c);
+        c = add_children(ordered, nodes, i, c);
         i += 1;
     }
     c
@@ -137,5 +139,11 @@ pub fn build(m: Marks, text: &[u8], table: &Table, n: usize, nodes: &mut [Node])
     ensures { (result ≤ length nodes.new) × Built m (templates_in text.now table.now n) (take result nodes.new) }
 {
     nodes[0] = make_root(n);
-    grow_tree(m.placeholder, text, table, n, nodes)
+    let ordered = Ordered {
+        mark: m.placeholder,
+        text,
+        table,
+        n,
+    };
+    grow_tree(&ordered, nodes)
 }

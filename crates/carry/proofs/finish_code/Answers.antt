@@ -13,7 +13,7 @@ begin_passes-requires c =
     let e = c.in-Iterate.is in
     record {
       placed = (c.requires.placed.0, iterate_depth ready e);
-      parameter = (iterate_parameter ready e, (ready.short, ready.long));
+      parameter = (iterate_parameter ready e, ready.short);
       list_le_to = (iterate_within ready e, ready.within);
     }
 
@@ -28,7 +28,7 @@ repeat-requires c =
     let placed = pre.placed.0 in
     record {
       next_in_bounds = (placed.next, placed.nums, repeat_depth pre.placed.1 (search rules));
-      kept = (pre.sound.kept, search rules);
+      kept = pre.sound.kept;
     }
 
 pub returns-in-Offer : goal.returns-in-Offer

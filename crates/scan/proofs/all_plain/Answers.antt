@@ -1,17 +1,12 @@
--- all_plain is the test `all_plain`: the bytes before i are plain.
-use borrow.Author.Tests.{not-true, not-false}
+-- all_plain is the test `all_plain`: each byte is plain.
+use mathlib.Core.Path.{◌∙◌}
 use borrow.Author.Rules.{rules}
-use Rattle.scan.proofs.FlagLine.{passing_begins, plain_on, plain_fails, plain_all}
+use borrow.Author.Tests.{tests}
+use Rattle.std.proofs.lemmas.Iterator.{YieldsList-from_slice}
+use Rattle.std.proofs.lemmas.Iterator.Search.{all_from_yields_List}
+use Rattle.model.specs.Text.{plain}
+use Rattle.scan.proofs.FlagLine.{plain_all}
 use Rattle.scan.proofs.all_plain.Goals as goal
 
-pub loop-i-init : goal.loop-i-init
-loop-i-init c = search passing_begins
-
-pub returns-then-not-is_plain : goal.returns-then-not-is_plain
-returns-then-not-is_plain c = search (plain_fails, not-true, rules)
-
-pub loop-i-preserved : goal.loop-i-preserved
-loop-i-preserved c = search (plain_on, not-false, rules)
-
 pub returns : goal.returns
-returns c = search (plain_all, rules)
+returns c = record { is = all_from_yields_List plain _ _ c.all.result c.all.ensures.ran (YieldsList-from_slice _ c.iter.ensures.rest) (λ x b q k. search (rules, tests)) ∙ plain_all _ }

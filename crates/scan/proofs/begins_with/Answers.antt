@@ -1,10 +1,7 @@
--- begins_with tests the first byte of the part, if it has one.
-use borrow.Author.Rules.{rules}
-use Rattle.scan.proofs.Places.{begins-nothing, begins_here}
+-- begins_with is std's test for one byte at the front.
+use mathlib.Core.Path.{◌∙◌}
+use Rattle.scan.proofs.Places.{starts-with}
 use Rattle.scan.proofs.begins_with.Goals as goal
 
-pub returns-then-at-end : goal.returns-then-at-end
-returns-then-at-end c = search (begins-nothing, rules)
-
 pub returns : goal.returns
-returns c = search (begins_here, rules)
+returns c = record { is = c.starts_with.ensures.value ∙ starts-with c.args.b _ }

@@ -1,10 +1,6 @@
 -- find_byte finds the first b from `from` on, or `to`: the loop has passed no b.
-use Prim.Native.Nat.{◌-◌}
 use Rattle.scan.proofs.Places.{Seeking}
 use Rattle.scan.proofs.find_byte.Given as goal
 
 abbrev pub invariant-loop-i : goal.invariant-loop-i
 invariant-loop-i l = Seeking l.s l.from l.to l.b l.i
-
-abbrev pub decreases-loop-i : goal.decreases-loop-i
-decreases-loop-i l = l.to - l.i

@@ -1,16 +1,13 @@
--- read_marks gives the marks of a flag line where it is legal, and a fault where it is short, its fifth byte is not `0`, or its marks are not legal.
+-- read_marks gives the marks of a flag line where it is legal: it is 12 bytes long or longer, its fifth byte is `0`, and its marks are legal.
 use borrow.Author.Rules.{rules}
-use Rattle.scan.proofs.FlagLine.{fault_short, fault_fifth, fault_tested, legal_tested}
+use Rattle.scan.proofs.FlagLine.{fault_short, fault_fifth, marks_tested}
 use Rattle.scan.proofs.read_marks.Goals as goal
 
-pub returns-then-s-lt12 : goal.returns-then-s-lt12
-returns-then-s-lt12 c = search (fault_short, rules)
+pub returns-in_default : goal.returns-in_default
+returns-in_default c = search (fault_short, rules)
 
-pub returns-then-s-ne48 : goal.returns-then-s-ne48
-returns-then-s-ne48 c = search (fault_fifth, rules)
-
-pub returns-then-are_legal : goal.returns-then-are_legal
-returns-then-are_legal c = search legal_tested
+pub returns-in_default-2 : goal.returns-in_default-2
+returns-in_default-2 c = search (fault_fifth, rules)
 
 pub returns : goal.returns
-returns c = search fault_tested
+returns c = search (marks_tested, rules)

@@ -1,5 +1,5 @@
 -- fit answers 1 for a short row of nodes or of dead places, else the first reading, which keeps document 01's rule.
-use Rattle.stage2.proofs.Results.{fit_short, fit_legal, no_rule, first_rule}
+use Rattle.stage2.proofs.Results.{fit_short, fit_legal, fit_refused, no_rule, first_rule, refused_rule}
 use Rattle.stage2.proofs.fit.Goals as goal
 
 pub returns-then-lack_room : goal.returns-then-lack_room
@@ -7,7 +7,13 @@ returns-then-lack_room c =
     let is = fit_short _ _ _ _ c.lack_room.ensures c.if-lack_room.true c.no_pieces.ensures in
     record { value = is; holds_tree = no_rule _ _ is c.lack_room.ensures c.if-lack_room.true }
 
-pub returns : goal.returns
-returns c =
+pub returns-in-Ok : goal.returns-in-Ok
+returns-in-Ok c =
     let is = fit_legal _ _ _ _ c.lack_room.ensures c.if-lack_room.false c.fit_prepared.ensures in
-    record { value = is; holds_tree = first_rule _ _ is c.prepare-t.ensures }
+    record { value = is; holds_tree = first_rule _ _ is (rw c.in-Ok.is at c.prepare.ensures) }
+
+pub returns-in-Err : goal.returns-in-Err
+returns-in-Err c =
+    let refused = rw c.in-Err.is at c.prepare.ensures in
+    let is = fit_legal _ _ _ _ c.lack_room.ensures c.if-lack_room.false (fit_refused _ _ refused c.into.ensures c.no_pieces-in-Err.ensures) in
+    record { value = is; holds_tree = refused_rule _ _ is refused }

@@ -11,7 +11,7 @@ take_run-r-requires c =
     let few = last_within _ _ _ c.loop-at.invariant c.end_of_children-end.ensures in (
       asked.growing.entries,
       c.loop-at-test.true,
-      omega (arith, few, templates_in_length c.args.text.now c.args.table.now c.args.n),
+      omega (arith, few, templates_in_length c.args.ordered.now.text.now c.args.ordered.now.table.now c.args.ordered.now.n),
       asked.growing.in_order,
     )
 

@@ -5,7 +5,7 @@ use Rattle.tree.proofs.Filling.{Filling}
 use Rattle.tree.proofs.fill_children.Given as goal
 
 abbrev pub invariant-loop-at : goal.invariant-loop-at
-invariant-loop-at l = Filling l.mark (templates_in l.text l.table l.n) (order_in l.table) l.nodes l.i l.made l.parent l.c l.at
+invariant-loop-at l = Filling l.ordered.mark (templates_in l.ordered.text.now l.ordered.table.now l.ordered.n) (order_in l.ordered.table.now) l.nodes l.i l.made l.parent l.c l.at
 
 abbrev pub decreases-loop-at : goal.decreases-loop-at
 decreases-loop-at l = l.end - l.at

@@ -6,7 +6,7 @@ use Rattle.tree.specs.Built.{NodesMade}
 use Rattle.tree.proofs.grow_tree.Given as goal
 
 abbrev pub invariant-loop-i : goal.invariant-loop-i
-invariant-loop-i l = NodesMade l.mark (templates_in l.text l.table l.n) (order_in l.table) l.nodes l.i l.c
+invariant-loop-i l = NodesMade l.ordered.mark (templates_in l.ordered.text.now l.ordered.table.now l.ordered.n) (order_in l.ordered.table.now) l.nodes l.i l.c
 
 abbrev pub decreases-loop-i : goal.decreases-loop-i
-decreases-loop-i l = beginnings (templates_in l.text l.table l.n) + 1 - l.i
+decreases-loop-i l = beginnings (templates_in l.ordered.text.now l.ordered.table.now l.ordered.n) + 1 - l.i

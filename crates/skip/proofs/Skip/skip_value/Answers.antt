@@ -10,5 +10,5 @@ returns-in-Some-Some c = skips_value c.param_value.ensures (search rules) c.para
 pub returns-in_default : goal.returns-in_default
 returns-in_default c = elim c.in_default.branch [
   | in_default-via-in-Some+in_default w ↦ no_second c.param_value.ensures c.param_value-2.ensures w.in_default.is-1 c.end_with.ensures
-  | in_default-via-in_default w ↦ no_first c.param_value.ensures w.in_default.is c.end_with.ensures
+  | in_default-via-in_default w ↦ no_first c.param_value.ensures w.in_default.is-0 c.end_with.ensures
 ]

@@ -1,6 +1,6 @@
 -- name_end finds the end of the name. The loop keeps `Naming`: the name from i on ends where the one from `at` on does.
 use Rattle.value.proofs.Names.{naming_none, naming_mark, naming_more, naming_ended}
-use Rattle.value.proofs.name_end.Goals as goal
+use Rattle.value.proofs.Source.name_end.Goals as goal
 
 pub loop-i-init : goal.loop-i-init
 loop-i-init c = search naming_none

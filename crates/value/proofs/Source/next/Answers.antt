@@ -2,11 +2,11 @@
 use Rattle.value.proofs.Chain.{chain}
 use Rattle.value.specs.Place.{join_at}
 use borrow.Author.Rules.{rules}
-use Rattle.value.proofs.next.Goals as goal
+use Rattle.value.proofs.Source.next.Goals as goal
 
-pub returns-then-at-text : goal.returns-then-at-text
+pub returns-then-at-self : goal.returns-then-at-self
 unfolding join_at
-returns-then-at-text c = record { is = search chain; from = search rules; upto = search rules }
+returns-then-at-self c = record { is = search chain; from = search rules; upto = search rules }
 
 pub returns-then-b-one : goal.returns-then-b-one
 unfolding join_at

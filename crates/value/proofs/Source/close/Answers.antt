@@ -3,15 +3,15 @@ use Rattle.value.proofs.Chain.{chain}
 use Rattle.number.proofs.Signed.{told_in}
 use Rattle.value.specs.Place.{closed_at}
 use borrow.Author.Rules.{rules}
-use Rattle.value.proofs.close.Goals as goal
+use Rattle.value.proofs.Source.close.Goals as goal
 
-pub returns-then-v-text : goal.returns-then-v-text
+pub returns-then-v-self : goal.returns-then-v-self
 unfolding closed_at
-returns-then-v-text c = search chain
+returns-then-v-self c = search chain
 
-pub returns-then-text-v : goal.returns-then-text-v
+pub returns-then-self-v : goal.returns-then-self-v
 unfolding closed_at
-returns-then-text-v c = search chain
+returns-then-self-v c = search chain
 
 pub returns : goal.returns
 unfolding closed_at
