@@ -1,20 +1,17 @@
 -- add_part: each kind of part adds what the expansion adds.
 use native.Mathlib.Omega.{arith}
 use borrow.Author.Rules.{rules}
-use Rattle.build.proofs.Parts.{serial_most, convert_parameter, part_byte, part_serial, part_convert}
+use Rattle.build.proofs.Parts.{serial_most, part_byte, part_serial, part_convert}
 use Rattle.build.proofs.add_part.Goals as goal
 
 pub overflow_add-call : goal.overflow_add-call
 overflow_add-call c = let k = serial_most (search rules) c.in-Serial.is in omega arith
 
-pub add_conversion-requires : goal.add_conversion-requires
-add_conversion-requires c = record { has_built = search rules; kept = search rules; parameter = (search convert_parameter, search rules) }
-
 pub returns-in-Byte : goal.returns-in-Byte
-returns-in-Byte c = search part_byte
+returns-in-Byte c = search (part_byte, rules)
 
 pub returns-in-Serial : goal.returns-in-Serial
-returns-in-Serial c = search part_serial
+returns-in-Serial c = search (part_serial, rules)
 
 pub returns-in-Convert : goal.returns-in-Convert
-returns-in-Convert c = search part_convert
+returns-in-Convert c = search (part_convert, rules)

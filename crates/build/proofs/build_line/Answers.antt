@@ -5,10 +5,11 @@ use Rattle.build.proofs.Lines.{partly_ends, partly_more, partly_fails}
 use Rattle.build.proofs.build_line.Goals as goal
 
 pub returns-in-Ends : goal.returns-in-Ends
-returns-in-Ends c = partly_ends c.loop-ending.invariant c.read_token.ensures c.in-Ends.is
+returns-in-Ends c = search (partly_ends, rules)
 
-pub returns-in_err-added-in-Has : goal.returns-in_err-added-in-Has
-returns-in_err-added-in-Has c = partly_fails c.loop-ending.invariant c.read_token.ensures c.in-Has.is c.add_part.ensures c.in_err-added-in-Has.was c.from_residual.ensures.1
+pub returns-in_err-add_part-in-Has : goal.returns-in_err-add_part-in-Has
+returns-in_err-add_part-in-Has c =
+    partly_fails c.loop-ending.invariant c.read_token.ensures c.in-Has.is c.add_part.ensures c.in_err-add_part-in-Has.was c.from_residual.ensures.1
 
 pub loop-ending-preserved : goal.loop-ending-preserved
-loop-ending-preserved c = partly_more c.loop-ending.invariant c.read_token.ensures c.in-Has.is c.add_part.ensures c.in_ok-added-in-Has.was (search rules)
+loop-ending-preserved c = partly_more c.loop-ending.invariant c.read_token.ensures c.in-Has.is c.add_part.ensures c.in_ok-add_part-in-Has.was
