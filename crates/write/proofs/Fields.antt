@@ -2,24 +2,25 @@
 use mathlib.Core.Path.{◌≡◌, refl, sym, ap, ap₂, subst, ◌∙◌}
 use mathlib.Core.Bool.{Bool, true, false, not, cond, ◌&&◌}
 use mathlib.Core.List.{List, [], ◌∷◌, ◌++◌, append_assoc, append-nil}
-use Prim.Native.Nat.{ℕ, zero, suc, ◌+◌, ◌-◌, ◌*◌, ◌≤◌, ◌<◌, min}
+use Prim.Native.Nat.{ℕ, zero, suc, ◌+◌, ◌-◌, ◌≤◌, ◌<◌, min}
 use native.Mathlib.Omega.{arith}
 use borrow.Author.Tests.{ltb-false, leb-true, leb-false, eqb-false, eq-eqb, ne_eqb}
 use lib.Dec.{eqb, leb, ltb}
 use lib.ListN.{length, get_or, set, take, drop, replicate, length-append, length-replicate, drop_of_length-le}
-use lib.Seq.{take-take, take-length, drop-drop}
+use lib.Seq.{take-length, drop-drop, length-take-le}
 use Rattle.std.specs.Prelude.{Option, Some, None, position}
 use Rattle.std.specs.Option.{unwrap_or}
 use Rattle.model.specs.declared.Marks.{Marks}
 use Rattle.model.specs.Text.{Bytes, part}
 use Rattle.model.specs.Machine.{Frame, param, field, fields}
 use Rattle.model.proofs.Choices.{when_true, when_false}
-use Rattle.model.proofs.Text.{part_length, part-long, part-rest}
+use Rattle.model.proofs.Text.{part_length, part-rest}
 use Rattle.buffer.specs.Pasted.{Pasted}
 use Rattle.rendering.specs.Added.{AddsAt}
 use Rattle.rendering.proofs.Added.{adds_as, adds_none, adds_copy, adds_store, adds_more, adds_length}
-use Rattle.call.specs.Call.{Laid, frame_of}
-use Rattle.call.specs.Params.{Lies}
+use Rattle.call.specs.declared.Call.{Call}
+use Rattle.call.specs.Call.{frame_of}
+use Rattle.call.specs.Params.{Reads}
 use Rattle.write.specs.Layout.{is_field, NamesField, param_of, layout_of, run_length, PutsField, PutsPart}
 
 -- ---- one field
@@ -62,32 +63,21 @@ field_min b n len s e = by (leb n (length s)) refl
         let z : length s ≡ len = omega arith in
         field_filled b n (n - len) s (omega arith) ∙ ap (λ (x : Bytes). x ++ replicate (n - len) b) (sym (take-length s) ∙ ap (λ (k : ℕ). take k s) z)
 
--- the parameter's bytes in the call, whatever the marks are
-pub lies_param : (c : Laid) {d r : ℕ} → Lies c.nums d r → part c.bytes (200 * (d - 1)) (200 * (d - 1) + r) ≡ param_of c d
+-- the parameter's bytes, whatever the marks are
+pub reads_param : {c : Call} {d : ℕ} {s : Bytes} → Reads c d s → param_of c d ≡ s
 unfolding param
-lies_param c l =
-    let m : Marks = record { source = 0; placeholder = 0; code = 0; escape = 0; blank = 0; left = 0; plus = 0; minus = 0; times = 0; divide = 0; right = 0 } in
-    sym (l.is m [] c.head c.bytes)
+reads_param r = r.is (record { source = 0; placeholder = 0; code = 0; escape = 0; blank = 0; left = 0; plus = 0; minus = 0; times = 0; divide = 0; right = 0 }) []
 
 -- a parameter cut, or with blanks after it
-pub puts_field : {blank : ℕ} {c : Laid} {d n r len : ℕ} {o : Bytes} {w : ℕ} {o₁ o₂ : Bytes} → length c.bytes ≡ 3400 → d ≤ 9 → Lies c.nums d r → len ≡ min r n
-    → Pasted o w (part c.bytes (200 * (d - 1)) (200 * (d - 1) + len)) (length (part c.bytes (200 * (d - 1)) (200 * (d - 1) + len))) o₁
+pub puts_field : {blank : ℕ} {c : Call} {d n len : ℕ} {s o : Bytes} {w : ℕ} {o₁ o₂ : Bytes} → Reads c d s → len ≡ min (length s) n → Pasted o w (take len s) (length (take len s)) o₁
     → Pasted o₁ (w + len) (replicate (n - len) blank) (n - len) o₂ → w + n ≤ length o → PutsField blank c d o w n o₂
-puts_field {blank} {c} {d} {n} {r} {len} {o} {w} {o₁} {o₂} long few l e p q room =
-    let a : ℕ = 200 * (d - 1) in
-    let s = l.short in
-    let e₁ : length (part c.bytes a (a + len)) ≡ len = part-long c.bytes a len (omega arith) in
-    let i : length (param_of c d) ≡ r = ap (λ (x : Bytes). length x) (sym (lies_param c l)) ∙ part-long c.bytes a r (omega arith) in
-    let y : a + len - a ≡ len = omega arith in
-    let z : a + r - a ≡ r = omega arith in
-    let f : part c.bytes a (a + len) ≡ take len (param_of c d) =
-    ap (λ (j : ℕ). take j (drop a c.bytes)) y ∙ sym (take-take len r (drop a c.bytes) (omega arith))
-    ∙ ap (λ (x : Bytes). take len x) (ap (λ (j : ℕ). take j (drop a c.bytes)) (sym z) ∙ lies_param c l) in
+puts_field {blank} {c} {d} {n} {len} {s} {o} {w} {o₁} {o₂} l e p q room =
+    let e₁ : length (take len s) ≡ len = length-take-le len s (omega arith) in
     let b : length (replicate (n - len) blank) ≡ n - len = length-replicate (n - len) blank in
-    let g : AddsAt o w (take len (param_of c d)) len o₁ = adds_as (adds_copy p (omega arith)) f e₁ in
+    let g : AddsAt o w (take len s) len o₁ = adds_as (adds_copy p (omega arith)) refl e₁ in
     let t = adds_length g in
     let h : AddsAt o₁ (w + len) (replicate (n - len) blank) (n - len) o₂ = adds_as (adds_copy (subst (λ (k : ℕ). Pasted o₁ (w + len) (replicate (n - len) blank) k o₂) (sym b) q) (omega arith)) refl b in
-    record { adds = adds_as (adds_more g h) (sym (field_min blank n len (param_of c d) (omega arith))) (omega arith) }
+    record { adds = adds_as (adds_more g h) (sym (ap (λ (x : Bytes). field blank n x) (reads_param l) ∙ field_min blank n len s (omega arith))) (omega arith) }
 
 -- ---- all of them
 
@@ -197,7 +187,7 @@ module _ (m : Marks) (f : Frame) (b : ℕ) where
 
 -- ---- a part of a layout
 
-pub part_field : {m : Marks} {s : Bytes} {c : Laid} {o : Bytes} {w : ℕ} → 0 < length s → {r : Option ℕ} → NamesField (get_or s 0 0) r → {d n : ℕ} {o' : Bytes} → ((i : ℕ) → get_or s i 0 < 256) → r ≡ Some d
+pub part_field : {m : Marks} {s : Bytes} {c : Call} {o : Bytes} {w : ℕ} → 0 < length s → {r : Option ℕ} → NamesField (get_or s 0 0) r → {d n : ℕ} {o' : Bytes} → ((i : ℕ) → get_or s i 0 < 256) → r ≡ Some d
     → n ≡ run_length (get_or s 0 0) s → PutsField m.blank c d o w n o' → PutsPart m s c o w n o'
 unfolding param
 part_field {s = []} h k bytes e y p = absurd (omega arith)
@@ -222,7 +212,7 @@ first_byte : (s : Bytes) → 0 < length s → s ≡ get_or s 0 0 ∷ drop 1 s
 first_byte [] h = absurd (omega arith)
 first_byte (x ∷ s) h = refl
 
-module _ {m : Marks} {s : Bytes} {c : Laid} {o : Bytes} {w : ℕ} (h : 0 < length s) {r : Option ℕ} (n : NamesField (get_or s 0 0) r) where
+module _ {m : Marks} {s : Bytes} {c : Call} {o : Bytes} {w : ℕ} (h : 0 < length s) {r : Option ℕ} (n : NamesField (get_or s 0 0) r) where
   pub part_byte : r ≡ None → w + length s ≤ length o → PutsPart m s c o w 1 (set o w (get_or s 0 0))
   part_byte e room = record {
     bytes = get_or s 0 0 ∷ [];
@@ -235,20 +225,20 @@ module _ {m : Marks} {s : Bytes} {c : Laid} {o : Bytes} {w : ℕ} (h : 0 < lengt
 -- ---- the parts one after the other
 
 -- the layout's first i bytes are written
-pub record LayoutSoFar (m : Marks) (s : Bytes) (c : Laid) (o₀ : Bytes) (w i : ℕ) (o : Bytes) : Type 0 where
+pub record LayoutSoFar (m : Marks) (s : Bytes) (c : Call) (o₀ : Bytes) (w i : ℕ) (o : Bytes) : Type 0 where
   pub bytes : Bytes
   pub is : layout_of m s c ≡ bytes ++ layout_of m (drop i s) c
   pub adds : AddsAt o₀ w bytes i o
   pub upto : i ≤ length s
 
 -- a layout's bytes
-pub layout-long : (m : Marks) (s : Bytes) (c : Laid) → length (layout_of m s c) ≡ length s
+pub layout-long : (m : Marks) (s : Bytes) (c : Call) → length (layout_of m s c) ≡ length s
 layout-long m s c = fields-long m (frame_of m [] c) 256 0 s ∙ omega arith
 
-pub laying_none : {m : Marks} {s : Bytes} {c : Laid} {o : Bytes} {w : ℕ} → w + length (layout_of m s c) ≤ length o → LayoutSoFar m s c o w 0 o
+pub laying_none : {m : Marks} {s : Bytes} {c : Call} {o : Bytes} {w : ℕ} → w + length (layout_of m s c) ≤ length o → LayoutSoFar m s c o w 0 o
 laying_none h = record { bytes = []; is = refl; adds = adds_none (omega arith); upto = omega arith }
 
-module _ {m : Marks} {s : Bytes} {c : Laid} {o₀ : Bytes} {w i : ℕ} {o : Bytes} (p : LayoutSoFar m s c o₀ w i o) where
+module _ {m : Marks} {s : Bytes} {c : Call} {o₀ : Bytes} {w i : ℕ} {o : Bytes} (p : LayoutSoFar m s c o₀ w i o) where
   -- what a part asks
   pub laying_room : w + length (layout_of m s c) ≤ length o₀ → w + i + length (part s i (length s)) ≤ length o
   laying_room h = omega (arith, layout-long m s c, adds_length p.adds, p.upto, part_length s i (length s) (omega arith))

@@ -6,9 +6,9 @@ use mathlib.Core.List.{List, []}
 use Prim.Native.Nat.{ℕ, ◌+◌, ◌≤◌}
 use native.Mathlib.Omega.{arith}
 use lib.ListN.{length, take}
-use Rattle.std.specs.Prelude.{Option, Some, None}
+use Rattle.std.specs.Prelude.{Result, Ok, Err}
 use mathlib.Core.Option as Math
-use Rattle.faults.specs.declared.RunFault.TheVariants.{NoRoom}
+use Rattle.faults.specs.declared.RunFault.{RunFault}
 use Rattle.model.specs.declared.Marks.{Marks}
 use Rattle.model.specs.declared.Channel.{Channel}
 use Rattle.model.specs.declared.Channel.TheVariants.{Nowhere, First, Second}
@@ -18,209 +18,206 @@ use Rattle.model.specs.Machine.{Outputs, outputs, Frame, Shared, continues, appe
 use Rattle.model.proofs.Choices.{when_true, when_false, false-not-true}
 use Rattle.state.specs.declared.State.{State}
 use Rattle.state.specs.State.{shared_of, state_of, with_written, Sound}
-use Rattle.call.specs.declared.Head.{Head}
-use Rattle.call.specs.Call.{laid, frame_of, Placed}
-use Rattle.answer.specs.declared.Answer.{Answer}
-use Rattle.answer.specs.Answers.{goes_further, goes_back, ends_with, is_left, settle, next_at, next_of, rooms_of}
+use Rattle.call.specs.declared.Call.{Call}
+use Rattle.call.specs.Call.{frame_of, Placed}
+use Rattle.answer.specs.declared.Turn.TheVariants.{Continues, Back}
+use Rattle.answer.specs.Answers.{goes_on, is_left, settle, next_of, rooms_of}
 use Rattle.answer.specs.Kept.{Extends, ExtendsBoth, Comes, Follows}
 use Rattle.answer.proofs.Following.{extends_none, follows_itself}
-use Rattle.answer.proofs.Coming.{comes_as, came_end}
+use Rattle.answer.proofs.Coming.{comes_as, came_fault}
 use Rattle.answer.proofs.Expansion.{skip-none}
-use Rattle.write.specs.Output.{Puts, GoesTo, PutsOn, has_room_on, Writes, PassesThrough}
+use Rattle.write.specs.Output.{has_room, Puts, has_room_on, Writes, PassesThrough, done_with}
 
 -- ---- a channel
 
 -- nothing is written
-pub puts_nowhere : {ch : Channel} {l : Bytes} {s : State} {o : Outputs} → ch ≡ Nowhere → s.written ≤ length o.first → s.second ≤ length o.second → PutsOn ch l s o (Some s) o
+pub writes_nowhere : {ch : Channel} {l : Bytes} {s : State} {o : Outputs} → ch ≡ Nowhere → s.written ≤ length o.first → s.second ≤ length o.second → Writes ch l s o (Ok tt) s o
 unfolding wrote
-puts_nowhere {ch} {l} {s} {o} e h k = subst (λ (x : Channel). PutsOn x l s o (Some s) o) (sym e) (record {
-  fits = λ _. (s, refl, record { state = refl; wrote = λ memory. refl; extends = record { first = extends_none h; second = extends_none k } });
+writes_nowhere {ch} {l} {s} {o} e h k = subst (λ (x : Channel). Writes x l s o (Ok tt) s o) (sym e) (record {
+  fits = λ _. (refl, refl, refl);
   full = λ e. false-not-true (sym e);
+  extends = record { first = extends_none h; second = extends_none k };
 })
 
 module _ {ch : Channel} {l : Bytes} {s : State} where
   -- the line is written to the first output
-  pub puts_first : {o o' b : Bytes} {w : ℕ} {t : State} → ch ≡ First → s.second ≤ length b → Puts l o s.written (Some w) o' → t ≡ with_written s w s.second → PutsOn ch l s (outputs o b) (Some t) (outputs o' b)
+  pub writes_first : {o o' b : Bytes} {r : Result ℕ RunFault} {w : ℕ} → ch ≡ First → s.second ≤ length b → r ≡ Ok w → Puts l o s.written r o'
+      → Writes ch l s (outputs o b) (Ok tt) (with_written s w s.second) (outputs o' b)
   unfolding wrote appended with_first
-  puts_first {o} {o'} {b} {w} {t} e h p f = subst (λ (x : Channel). PutsOn x l s (outputs o b) (Some t) (outputs o' b)) (sym e)
-      (subst (λ (x : State). PutsOn First l s (outputs o b) (Some x) (outputs o' b)) (sym f) (record {
-        fits = λ k.
-            let q = p.fits k in
-            let z : w ≡ s.written + length l + 1 = cc in (
-              with_written s w s.second,
-              refl,
-              record {
-                state = refl;
-                wrote = λ memory.
-                    ap (with_first (shared_of s (outputs o b) memory)) (when_true _ _ k)
-                    ∙ ap (λ (x : Bytes). some (record { symbols = s.symbols; store = (shared_of s (outputs o b) memory).store; output = outputs x (take s.second b) })) (sym q.1 ∙ ap (λ (j : ℕ). take j o') (sym z));
-                extends = record { first = subst (λ (j : ℕ). Extends o s.written o' j) (sym z) q.2; second = extends_none h };
-              },
-            );
-        full = λ k. absurd (let q = (p.full k).0 in cc);
-      }))
+  writes_first {o} {o'} {b} {r} {w} e h u p =
+      subst (λ (x : Channel). Writes x l s (outputs o b) (Ok tt) (with_written s w s.second) (outputs o' b)) (sym e) (by (has_room l s.written o) refl)
+    where
+      n : ℕ
+      n = s.written + length l + 1
 
-  -- there is no room in it
-  pub no_room_first : {o o' b : Bytes} → ch ≡ First → Puts l o s.written None o' → PutsOn ch l s (outputs o b) None (outputs o' b)
-  unfolding wrote appended with_first
-  no_room_first {o} {o'} {b} e p = subst (λ (x : Channel). PutsOn x l s (outputs o b) None (outputs o' b)) (sym e) (record {
-    fits = λ k. absurd (let q = (p.fits k).0 in cc);
-    full = λ k. (refl, ap (λ (x : Bytes). outputs x b) (p.full k).1, λ memory. ap (with_first (shared_of s (outputs o b) memory)) (when_false _ _ k));
-  })
+      by : (k : Bool) → has_room l s.written o ≡ k → Writes First l s (outputs o b) (Ok tt) (with_written s w s.second) (outputs o' b)
+      by true k =
+          let q = p.fits k in
+          let z : w ≡ n = (let y = q.0 in cc) in
+          record {
+            fits = λ _. (
+              refl,
+              refl,
+              ap (with_first (shared_of s (outputs o b))) (when_true _ _ k)
+                  ∙ ap (λ (x : Bytes). some (record { symbols = s.symbols; store = s.store; output = outputs x (take s.second b) })) (sym q.1 ∙ ap (λ (j : ℕ). take j o') (sym z)),
+            );
+            full = λ f. false-not-true (sym f ∙ k);
+            extends = record { first = subst (λ (j : ℕ). Extends o s.written o' j) (sym z) q.2; second = extends_none h };
+          }
+      by false k = absurd (let q = (p.full k).0 in cc)
 
   -- or to the second
-  pub puts_second : {o b b' : Bytes} {w : ℕ} {t : State} → ch ≡ Second → s.written ≤ length o → Puts l b s.second (Some w) b' → t ≡ with_written s s.written w → PutsOn ch l s (outputs o b) (Some t) (outputs o b')
+  pub writes_second : {o b b' : Bytes} {r : Result ℕ RunFault} {w : ℕ} → ch ≡ Second → s.written ≤ length o → r ≡ Ok w → Puts l b s.second r b'
+      → Writes ch l s (outputs o b) (Ok tt) (with_written s s.written w) (outputs o b')
   unfolding wrote appended with_second
-  puts_second {o} {b} {b'} {w} {t} e h p f = subst (λ (x : Channel). PutsOn x l s (outputs o b) (Some t) (outputs o b')) (sym e)
-      (subst (λ (x : State). PutsOn Second l s (outputs o b) (Some x) (outputs o b')) (sym f) (record {
-        fits = λ k.
-            let q = p.fits k in
-            let z : w ≡ s.second + length l + 1 = cc in (
-              with_written s s.written w,
-              refl,
-              record {
-                state = refl;
-                wrote = λ memory.
-                    ap (with_second (shared_of s (outputs o b) memory)) (when_true _ _ k)
-                    ∙ ap (λ (x : Bytes). some (record { symbols = s.symbols; store = (shared_of s (outputs o b) memory).store; output = outputs (take s.written o) x })) (sym q.1 ∙ ap (λ (j : ℕ). take j b') (sym z));
-                extends = record { first = extends_none h; second = subst (λ (j : ℕ). Extends b s.second b' j) (sym z) q.2 };
-              },
-            );
-        full = λ k. absurd (let q = (p.full k).0 in cc);
-      }))
-
-  pub no_room_second : {o b b' : Bytes} → ch ≡ Second → Puts l b s.second None b' → PutsOn ch l s (outputs o b) None (outputs o b')
-  unfolding wrote appended with_second
-  no_room_second {o} {b} {b'} e p = subst (λ (x : Channel). PutsOn x l s (outputs o b) None (outputs o b')) (sym e) (record {
-    fits = λ k. absurd (let q = (p.fits k).0 in cc);
-    full = λ k. (refl, ap (λ (x : Bytes). outputs o x) (p.full k).1, λ memory. ap (with_second (shared_of s (outputs o b) memory)) (when_false _ _ k));
-  })
-
--- ---- the answer
-
-module _ {ch : Channel} {l : Bytes} {r : Answer} {o o' : Outputs} {a : Answer} where
-  goes : {t : State} → has_room_on ch l r.state o ≡ true → GoesTo ch l r.state o t o' → a ≡ record r { state = t } → Writes ch l r o a o'
-  goes {t} b g e = subst (λ (x : Answer). Writes ch l r o x o') (sym e) (record {
-    fits = λ _. (ap (λ (x : State). record r { state = x }) g.state, g.wrote);
-    full = λ f. false-not-true (sym f ∙ b);
-    extends = g.extends;
-  })
-
-  -- a line that is written
-  pub writes_put : {t : State} → PutsOn ch l r.state o (Some t) o' → a ≡ record r { state = t } → Writes ch l r o a o'
-  writes_put {t} p e = by (has_room_on ch l r.state o) refl
+  writes_second {o} {b} {b'} {r} {w} e h u p =
+      subst (λ (x : Channel). Writes x l s (outputs o b) (Ok tt) (with_written s s.written w) (outputs o b')) (sym e) (by (has_room l s.second b) refl)
     where
-      by : (b : Bool) → has_room_on ch l r.state o ≡ b → Writes ch l r o a o'
-      by true b =
-          let g = p.fits b in
-          let z : g.0 ≡ t = (let q = g.1 in cc) in
-          goes b (subst (λ (x : State). GoesTo ch l r.state o x o') z g.2) e
-      by false b = absurd (let q = (p.full b).0 in cc)
+      n : ℕ
+      n = s.second + length l + 1
 
-  -- there is no room for it
-  pub writes_none : PutsOn ch l r.state o None o' → r.state.written ≤ length o.first → r.state.second ≤ length o.second → a ≡ ends_with (Some NoRoom) r.state → Writes ch l r o a o'
-  writes_none p h k e = by (has_room_on ch l r.state o) refl
-    where
-      by : (b : Bool) → has_room_on ch l r.state o ≡ b → Writes ch l r o a o'
-      by true b = absurd (let q = (p.fits b).1 in cc)
-      by false b =
-          let g = p.full b in
+      by : (k : Bool) → has_room l s.second b ≡ k → Writes Second l s (outputs o b) (Ok tt) (with_written s s.written w) (outputs o b')
+      by true k =
+          let q = p.fits k in
+          let z : w ≡ n = (let y = q.0 in cc) in
           record {
-            fits = λ f. false-not-true (sym b ∙ f);
-            full = λ _. (e, g.1, g.2);
-            extends = subst (λ (x : Outputs). ExtendsBoth o r.state x a.state) (sym g.1)
-                (subst (λ (x : Answer). ExtendsBoth o r.state o x.state) (sym e) (record { first = extends_none h; second = extends_none k }));
+            fits = λ _. (
+              refl,
+              refl,
+              ap (with_second (shared_of s (outputs o b))) (when_true _ _ k)
+                  ∙ ap (λ (x : Bytes). some (record { symbols = s.symbols; store = s.store; output = outputs (take s.written o) x })) (sym q.1 ∙ ap (λ (j : ℕ). take j b') (sym z)),
+            );
+            full = λ f. false-not-true (sym f ∙ k);
+            extends = record { first = extends_none h; second = subst (λ (j : ℕ). Extends b s.second b' j) (sym z) q.2 };
+          }
+      by false k = absurd (let q = (p.full k).0 in cc)
+
+  -- there is no room in the first
+  pub no_room_first : {o o' b : Bytes} {r : Result ℕ RunFault} {fault : RunFault} → ch ≡ First → s.written ≤ length o → s.second ≤ length b → r ≡ Err fault → Puts l o s.written r o'
+      → Writes ch l s (outputs o b) (Err fault) s (outputs o' b)
+  unfolding wrote appended with_first
+  no_room_first {o} {o'} {b} {r} {fault} e h h' u p =
+      subst (λ (x : Channel). Writes x l s (outputs o b) (Err fault) s (outputs o' b)) (sym e) (by (has_room l s.written o) refl)
+    where
+      by : (k : Bool) → has_room l s.written o ≡ k → Writes First l s (outputs o b) (Err fault) s (outputs o' b)
+      by true k = absurd (let q = (p.fits k).0 in cc)
+      by false k =
+          let q = p.full k in
+          record {
+            fits = λ f. false-not-true (sym k ∙ f);
+            full = λ _. (let y = q.0 in cc, refl, ap (λ (x : Bytes). outputs x b) q.1, ap (with_first (shared_of s (outputs o b))) (when_false _ _ k));
+            extends = record { first = subst (λ (x : Bytes). Extends o s.written x s.written) (sym q.1) (extends_none h); second = extends_none h' };
+          }
+
+  -- or in the second
+  pub no_room_second : {o b b' : Bytes} {r : Result ℕ RunFault} {fault : RunFault} → ch ≡ Second → s.written ≤ length o → s.second ≤ length b → r ≡ Err fault → Puts l b s.second r b'
+      → Writes ch l s (outputs o b) (Err fault) s (outputs o b')
+  unfolding wrote appended with_second
+  no_room_second {o} {b} {b'} {r} {fault} e h h' u p =
+      subst (λ (x : Channel). Writes x l s (outputs o b) (Err fault) s (outputs o b')) (sym e) (by (has_room l s.second b) refl)
+    where
+      by : (k : Bool) → has_room l s.second b ≡ k → Writes Second l s (outputs o b) (Err fault) s (outputs o b')
+      by true k = absurd (let q = (p.fits k).0 in cc)
+      by false k =
+          let q = p.full k in
+          record {
+            fits = λ f. false-not-true (sym k ∙ f);
+            full = λ _. (let y = q.0 in cc, refl, ap (λ (x : Bytes). outputs o x) q.1, ap (with_second (shared_of s (outputs o b))) (when_false _ _ k));
+            extends = record { first = extends_none h; second = subst (λ (x : Bytes). Extends b s.second x s.second) (sym q.1) (extends_none h') };
           }
 
 -- a line without a reading is written, or there is no room for it
-module _ {line : Bytes} {s : State} {o o' : Bytes} {a : Answer} where
-  pub passes_through : {r : Option ℕ} {w : ℕ} {t : State} → r ≡ Some w → Puts line o s.written r o' → t ≡ with_written s w s.second → a ≡ goes_back 0 t → PassesThrough line s o a o'
-  passes_through z p f e = record { writes = λ b h. writes_put {r = goes_back 0 s} (puts_first {ch = First} refl h (subst (λ (x : Option ℕ). Puts line o s.written x o') z p) f) e }
+module _ {line : Bytes} {s : State} {o o' : Bytes} {r : Result ℕ RunFault} where
+  pub passes_through : {w : ℕ} → r ≡ Ok w → Puts line o s.written r o' → PassesThrough line s o (Ok tt) (with_written s w s.second) o'
+  passes_through u p = record { writes = λ b h. writes_first refl h u p }
 
-  pub passes_none : {r : Option ℕ} → r ≡ None → Puts line o s.written r o' → s.written ≤ length o → a ≡ ends_with (Some NoRoom) s → PassesThrough line s o a o'
-  passes_none z p h e = record { writes = λ b k. writes_none {r = goes_back 0 s} (no_room_first {ch = First} {b = b} refl (subst (λ (x : Option ℕ). Puts line o s.written x o') z p)) h k e }
+  pub passes_none : {fault : RunFault} → r ≡ Err fault → s.written ≤ length o → Puts line o s.written r o' → PassesThrough line s o (Err fault) s o'
+  passes_none u h p = record { writes = λ b k. no_room_first refl h k u p }
 
 -- ---- what a line that is written comes to
 
 -- the state, with what is written since
-written_sound : {text : Bytes} {s : State} {o : Outputs} {memory : Bytes} {n k : ℕ} {o' : Outputs} → Sound text s o memory → ExtendsBoth o s o' (with_written s n k) → Sound text (with_written s n k) o' memory
+written_sound : {text : Bytes} {s : State} {o : Outputs} {n k : ℕ} {o' : Outputs} → Sound text s o → ExtendsBoth o s o' (with_written s n k) → Sound text (with_written s n k) o'
 written_sound h x = record {
   within = h.within;
   lines = h.lines;
   written = omega (arith, x.first.long, x.first.fits);
   second = omega (arith, x.second.long, x.second.fits);
-  kept = h.kept;
   symbols = h.symbols;
   calls = h.calls;
   total = h.total;
 }
 
 -- F1: the call goes on
-pub wrote_on : {m : Marks} {text : Bytes} {ch : Channel} {c : Head} {nums : List ℕ} {bytes l : Bytes} {s : State} {o : Outputs} {memory b : Bytes} {r a : Answer} {o' : Outputs} → Sound text s o memory → Placed text (laid c nums bytes)
-    → r ≡ goes_further c s → Writes ch l r o a o' → Comes m text (write_to (rooms_of o) ch l (frame_of m text (laid c nums bytes)) (shared_of s o memory)) s o b a nums bytes o' memory
-unfolding write_to goes_written settle next_at next_of stepped state_with
-wrote_on {m} {text} {ch} {c} {nums} {bytes} {l} {s} {o} {memory} {b} {r} {a} {o'} h q e v = by (has_room_on ch l s o) refl (subst (λ (x : Answer). Writes ch l x o a o') e v)
+pub wrote_on : {m : Marks} {text : Bytes} {ch : Channel} {c : Call} {l : Bytes} {s : State} {o : Outputs} {b : Bytes} {r : Result Unit RunFault} {s' : State} {o' : Outputs} → Sound text s o → Placed text c → Writes ch l s o r s' o'
+    → Comes m text (write_to (rooms_of o) ch l (frame_of m text c) (shared_of s o)) s o b (goes_on r) s' c o'
+unfolding write_to goes_written settle next_of stepped state_with
+wrote_on {m} {text} {ch} {c} {l} {s} {o} {b} {r} {s'} {o'} h q v = by (has_room_on ch l s o) refl
   where
     f : Frame
-    f = frame_of m text (laid c nums bytes)
+    f = frame_of m text c
 
-    by : (k : Bool) → has_room_on ch l s o ≡ k → Writes ch l (goes_further c s) o a o' → Comes m text (write_to (rooms_of o) ch l f (shared_of s o memory)) s o b a nums bytes o' memory
-    by true k v =
-        let is = (v.fits k).0 in
-        comes_as (ap (goes_written f (shared_of s o memory)) ((v.fits k).1 memory))
-        (subst (λ (x : Answer). Comes m text (continues f (shared_of a.state o' memory)) s o b x nums bytes o' memory) (sym is)
-        (comes_as (ap (λ (x : Answer). continues f (shared_of x.state o' memory)) is)
+    by : (k : Bool) → has_room_on ch l s o ≡ k → Comes m text (write_to (rooms_of o) ch l f (shared_of s o)) s o b (goes_on r) s' c o'
+    by true k =
+        let z = v.fits k in
+        let grown : ExtendsBoth o s o' (with_written s s'.written s'.second) = subst (λ (x : State). ExtendsBoth o s o' x) z.1 v.extends in
+        comes_as (ap (goes_written f (shared_of s o)) z.2)
+        (subst (λ (x : Result Unit RunFault). Comes m text (continues f (shared_of s' o')) s o b (goes_on x) s' c o') (sym z.0)
+        (subst (λ (x : State). Comes m text (continues f (shared_of x o')) s o b (Ok Continues) x c o') (sym z.1)
         (record {
           same = λ fs y. refl;
-          sound = written_sound h (subst (λ (x : Answer). ExtendsBoth o s o' x.state) is v.extends);
+          sound = written_sound h grown;
           placed = q;
-          short = omega arith;
           stays = record { from = omega arith; calls = refl; events = refl; fuel = refl };
-          extends = subst (λ (x : Answer). ExtendsBoth o s o' x.state) is v.extends;
+          extends = grown;
         })))
-    by false k v =
-        subst (λ (x : Outputs). Comes m text (write_to (rooms_of o) ch l f (shared_of s o memory)) s o b a nums bytes x memory) (sym (v.full k).1)
-        (came_end h q (v.full k).0 (ap (goes_written f (shared_of s o memory)) ((v.full k).2 memory)))
+    by false k =
+        let z = v.full k in
+        subst (λ (x : State). Comes m text (write_to (rooms_of o) ch l f (shared_of s o)) s o b (goes_on r) x c o') (sym z.1)
+        (subst (λ (x : Outputs). Comes m text (write_to (rooms_of o) ch l f (shared_of s o)) s o b (goes_on r) s c x) (sym z.2)
+        (came_fault h q (ap goes_on z.0) (ap (goes_written f (shared_of s o)) z.3)))
 
 -- a line without a reading: its caller goes on
-module _ {l : Bytes} {s : State} {o : Outputs} {a : Answer} {o' : Outputs} (v : Writes First l (goes_back 0 s) o a o') where
-  pub wrote_back : (m : Marks) (text : Bytes) (fs : List Frame) (y : Tally) (nums : List ℕ) (bytes line memory : Bytes)
-      → settle (pass_through (rooms_of o) l (state_of text none fs y s o memory)) ≡ next_of m text fs y a nums bytes line o' memory
-  unfolding pass_through passed settle next_at next_of state_with
-  wrote_back m text fs y nums bytes line memory = by (has_room_on First l s o) refl
+module _ {l : Bytes} {s : State} {o : Outputs} {r : Result Unit RunFault} {s' : State} {o' : Outputs} (v : Writes First l s o r s' o') where
+  pub wrote_back : (m : Marks) (text : Bytes) (fs : List Frame) (y : Tally) (c : Call) (line : Bytes) → settle (pass_through (rooms_of o) l (state_of text none fs y s o)) ≡ next_of m text fs y (done_with r) c s' line o'
+  unfolding pass_through passed settle next_of state_with
+  wrote_back m text fs y c line = by (has_room_on First l s o) refl
     where
-      by : (k : Bool) → has_room_on First l s o ≡ k → settle (pass_through (rooms_of o) l (state_of text none fs y s o memory)) ≡ next_of m text fs y a nums bytes line o' memory
+      by : (k : Bool) → has_room_on First l s o ≡ k → settle (pass_through (rooms_of o) l (state_of text none fs y s o)) ≡ next_of m text fs y (done_with r) c s' line o'
       by true k =
-          ap (λ (x : Math.Option Shared). settle (passed (state_of text none fs y s o memory) x)) ((v.fits k).1 memory)
-          ∙ ap (λ (x : Answer). running (state_with (state_of text none fs y s o memory) none fs (shared_of x.state o' memory))) (v.fits k).0
-          ∙ sym (skip-none m text fs y (with_written s a.state.written a.state.second) o' memory)
-          ∙ ap (λ (x : Answer). next_of m text fs y x nums bytes line o' memory) (sym (v.fits k).0)
+          let z = v.fits k in
+          ap (λ (x : Math.Option Shared). settle (passed (state_of text none fs y s o) x)) z.2
+          ∙ ap (λ (x : State). running (state_with (state_of text none fs y s o) none fs (shared_of x o'))) z.1
+          ∙ sym (skip-none m text fs y (with_written s s'.written s'.second) o')
+          ∙ ap (λ (x : State). next_of m text fs y (Ok (Back 0)) c x line o') (sym z.1)
+          ∙ ap (λ (x : Result Unit RunFault). next_of m text fs y (done_with x) c s' line o') (sym z.0)
       by false k =
-          ap (λ (x : Math.Option Shared). settle (passed (state_of text none fs y s o memory) x)) ((v.full k).2 memory)
-          ∙ ap (λ (x : Outputs). ended 13 (state_of text none [] y s x memory)) (sym (v.full k).1)
-          ∙ ap (λ (x : Answer). next_of m text fs y x nums bytes line o' memory) (sym (v.full k).0)
+          let z = v.full k in
+          ap (λ (x : Math.Option Shared). settle (passed (state_of text none fs y s o) x)) z.3
+          ∙ ap (λ (x : Outputs). ended 13 (state_of text none [] y s x)) (sym z.2)
+          ∙ ap (λ (x : State). ended 13 (state_of text none [] y x o')) (sym z.1)
+          ∙ ap (λ (x : Result Unit RunFault). next_of m text fs y (done_with x) c s' line o') (sym z.0)
 
-  pub wrote_follows : {text memory : Bytes} → Sound text s o memory → Follows text s o a.state o' memory
-  wrote_follows {text} {memory} h = by (has_room_on First l s o) refl
+  pub wrote_follows : {text : Bytes} → Sound text s o → Follows text s o s' o'
+  wrote_follows {text} h = by (has_room_on First l s o) refl
     where
-      by : (k : Bool) → has_room_on First l s o ≡ k → Follows text s o a.state o' memory
+      by : (k : Bool) → has_room_on First l s o ≡ k → Follows text s o s' o'
       by true k =
-          let grown = subst (λ (x : Answer). ExtendsBoth o s o' x.state) (v.fits k).0 v.extends in
-          subst (λ (x : State). Follows text s o x o' memory) (sym (ap (λ (x : Answer). x.state) (v.fits k).0))
-          (record { sound = written_sound h grown; from = omega arith; fuel = omega arith; extends = grown })
-      by false k = subst (λ (x : Outputs). Follows text s o a.state x memory) (sym (v.full k).1)
-          (subst (λ (x : State). Follows text s o x o memory) (sym (ap (λ (x : Answer). x.state) (v.full k).0)) (follows_itself h))
+          let z = (v.fits k).1 in
+          let grown : ExtendsBoth o s o' (with_written s s'.written s'.second) = subst (λ (x : State). ExtendsBoth o s o' x) z v.extends in
+          subst (λ (x : State). Follows text s o x o') (sym z) (record { sound = written_sound h grown; from = omega arith; fuel = omega arith; extends = grown })
+      by false k =
+          let z = v.full k in
+          subst (λ (x : State). Follows text s o x o') (sym z.1) (subst (λ (x : Outputs). Follows text s o s x) (sym z.2) (follows_itself h))
 
-  pub wrote_left : is_left a.turn ≡ true
-  wrote_left = by (has_room_on First l s o) refl
-    where
-      by : (k : Bool) → has_room_on First l s o ≡ k → is_left a.turn ≡ true
-      by true k = ap (λ (x : Answer). is_left x.turn) (v.fits k).0
-      by false k = ap (λ (x : Answer). is_left x.turn) (v.full k).0
-
-  pub wrote_fuel : a.state.fuel ≡ s.fuel
+  pub wrote_fuel : s'.fuel ≡ s.fuel
   wrote_fuel = by (has_room_on First l s o) refl
     where
-      by : (k : Bool) → has_room_on First l s o ≡ k → a.state.fuel ≡ s.fuel
-      by true k = ap (λ (x : Answer). x.state.fuel) (v.fits k).0
-      by false k = ap (λ (x : Answer). x.state.fuel) (v.full k).0
+      by : (k : Bool) → has_room_on First l s o ≡ k → s'.fuel ≡ s.fuel
+      by true k = ap (λ (x : State). x.fuel) (v.fits k).1
+      by false k = ap (λ (x : State). x.fuel) (v.full k).1
+
+-- its line is done with
+pub wrote_left : (r : Result Unit RunFault) → is_left (done_with r) ≡ true
+wrote_left (Ok u) = refl
+wrote_left (Err fault) = refl

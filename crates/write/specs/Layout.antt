@@ -1,11 +1,12 @@
 -- A layout's text: fields for parameters, and bytes that are copied.
-use Rattle.std.specs.Prelude.{◌≡◌, Bool, true, false, ◌&&◌, List, [], ◌++◌, ℕ, ◌-◌, ◌≤◌, ◌<◌, leb, length, get_or, take, drop, not, ◌==◌, Option, Some, None}
+use Rattle.std.specs.Prelude.{◌≡◌, Bool, true, false, ◌&&◌, [], ◌++◌, ℕ, ◌-◌, ◌≤◌, ◌<◌, leb, length, get_or, drop, not, ◌==◌, Option, Some, None}
 use Rattle.std.specs.List.{position_or_len}
 use Rattle.model.specs.declared.Marks.{Marks}
 use Rattle.model.specs.Text.{Bytes}
 use Rattle.model.specs.Machine.{field, fields}
 use Rattle.rendering.specs.Added.{AddsAt}
-use Rattle.call.specs.Call.{slots, Laid, laid, frame_of}
+use Rattle.call.specs.declared.Call.{Call}
+use Rattle.call.specs.Call.{texts_of, frame_of}
 
 -- whether a byte names a parameter
 abbrev pub is_field : ℕ → Bool
@@ -17,16 +18,12 @@ pub record NamesField (b : ℕ) (r : Option ℕ) : Type 0 where
   pub none : r ≡ None → is_field b ≡ false
   pub names : (d : ℕ) → r ≡ Some d → (is_field b ≡ true) × (d ≡ b - 48)
 
--- a call of which only the parameters matter
-abbrev pub bare : List ℕ → Bytes → Laid
-bare nums bytes = laid (record { number = 0; next = 0; depth = 0 }) nums bytes
-
 -- parameter d of a call
-abbrev pub param_of : Laid → ℕ → Bytes
-param_of c d = get_or (slots (take 9 c.nums) c.bytes) (d - 1) []
+abbrev pub param_of : Call → ℕ → Bytes
+param_of c d = get_or (texts_of c.params) (d - 1) []
 
 -- what a layout is written as
-abbrev pub layout_of : Marks → Bytes → Laid → Bytes
+abbrev pub layout_of : Marks → Bytes → Call → Bytes
 layout_of m s c = fields m (frame_of m [] c) 256 0 s
 
 -- how many bytes b a layout begins with
@@ -34,11 +31,11 @@ abbrev pub run_length : ℕ → Bytes → ℕ
 run_length b s = position_or_len (λ x. not (x == b)) s
 
 -- parameter d, cut or filled to n bytes, comes after the first w of o
-pub record PutsField (blank : ℕ) (c : Laid) (d : ℕ) (o : Bytes) (w n : ℕ) (o' : Bytes) : Type 0 where
+pub record PutsField (blank : ℕ) (c : Call) (d : ℕ) (o : Bytes) (w n : ℕ) (o' : Bytes) : Type 0 where
   pub adds : AddsAt o w (field blank n (param_of c d)) n o'
 
 -- the field or byte that the layout s begins with, with the parameters of c, comes after the first w of o, which becomes o'; it has r bytes
-pub record PutsPart (m : Marks) (s : Bytes) (c : Laid) (o : Bytes) (w r : ℕ) (o' : Bytes) : Type 0 where
+pub record PutsPart (m : Marks) (s : Bytes) (c : Call) (o : Bytes) (w r : ℕ) (o' : Bytes) : Type 0 where
   pub bytes : Bytes
   pub is : layout_of m s c ≡ bytes ++ layout_of m (drop r s) c
   pub adds : AddsAt o w bytes r o'

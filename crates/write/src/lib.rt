@@ -2,14 +2,13 @@
 #![tactic(auto)]
 
 ghost use Rattle.std.specs.Prelude.{◌≡◌, ◌+◌, ◌≤◌, length};
-ghost use Rattle.write.specs.Output.{Puts, PutsOn, Writes, PassesThrough};
+ghost use Rattle.write.specs.Output.{Puts, Writes, PassesThrough};
 ghost use Rattle.rendering.specs.Added.{AddsAt};
 ghost use Rattle.model.specs.Machine.{outputs};
 ghost use Rattle.model.specs.Text.{Bytes};
 
 mod layout;
 
-use answer::{Answer, end_with, go_back};
 use buffer::copy;
 use faults::RunFault;
 pub use layout::Layout;
@@ -48,68 +47,45 @@ impl<'a> Content for Line<'a> {
     }
 }
 
-// A content and a byte 10 come after the first w bytes of an output. The answer is how many it then has, where there is room for them.
-fn put<C: Content>(content: &C, output: &mut [u8], w: usize) -> Option<usize>
+// A content and a byte 10 come after the first w bytes of an output. The answer is how many it then has; without room for them the run ends
+// with 13.
+fn put<C: Content>(content: &C, output: &mut [u8], w: usize) -> Result<usize, RunFault>
     requires { w ≤ length output.old }
     ensures { Puts (C.bytes content.now) output.old w result output.new }
 {
     let n = content.count();
     if output.len() - w <= n {
-        return None;
+        return Err(RunFault::NoRoom);
     }
     content.add_to(output, w);
     output[w + n] = b'\n';
-    Some(w + n + 1)
+    Ok(w + n + 1)
 }
 
-// They go to a channel. The answer is the state with the line written, where there is room for it.
-fn put_on<C: Content>(
-    ch: Channel,
-    content: &C,
-    output: &mut [u8],
-    second: &mut [u8],
-    s: State,
-) -> Option<State>
-    requires { (s.written ≤ length output.old) × (s.second ≤ length second.old) }
-    ensures { PutsOn ch (C.bytes content.now) s (outputs output.old second.old) result (outputs output.new second.new) }
-{
-    match ch {
-        Channel::Nowhere => Some(s),
-        Channel::First => {
-            let w = put(content, output, s.written)?;
-            Some(s.set_written(w, s.second))
-        }
-        Channel::Second => {
-            let w = put(content, second, s.second)?;
-            Some(s.set_written(s.written, w))
-        }
-    }
-}
-
-// A content and a byte 10 after it go to a channel. The answer is r with the line written; without room for it the run ends with 13.
+// A content and a byte 10 after it go to a channel. Without room for them nothing changes, and the run ends with 13.
 pub fn write<C: Content>(
     ch: Channel,
     content: &C,
     output: &mut [u8],
     second: &mut [u8],
-    r: Answer,
-) -> Answer
-    requires { (r.state.written ≤ length output.old) × (r.state.second ≤ length second.old) }
-    ensures { Writes ch (C.bytes content.now) r (outputs output.old second.old) result (outputs output.new second.new) }
+    s: &mut State,
+) -> Result<(), RunFault>
+    requires { (s.old.written ≤ length output.old) × (s.old.second ≤ length second.old) }
+    ensures { Writes ch (C.bytes content.now) s.old (outputs output.old second.old) result s.new (outputs output.new second.new) }
 {
-    match put_on(ch, content, output, second, r.state) {
-        Some(state) => Answer { state, ..r },
-        None => end_with(RunFault::NoRoom, r.state),
+    match ch {
+        Channel::Nowhere => {}
+        Channel::First => s.written = put(content, output, s.written)?,
+        Channel::Second => s.second = put(content, second, s.second)?,
     }
+    Ok(())
 }
 
-// A line without a reading is written to the first output as it is, and is done with.
-pub fn pass_through(line: &[u8], output: &mut [u8], s: State) -> Answer
-    requires { s.written ≤ length output.old }
-    ensures { PassesThrough line.now s output.old result output.new }
+// A line without a reading is written to the first output as it is.
+pub fn pass_through(line: &[u8], output: &mut [u8], s: &mut State) -> Result<(), RunFault>
+    requires { s.old.written ≤ length output.old }
+    ensures { PassesThrough line.now s.old output.old result s.new output.new }
 {
-    match put(&Line { bytes: line }, output, s.written) {
-        Some(w) => go_back(0, s.set_written(w, s.second)),
-        None => end_with(RunFault::NoRoom, s),
-    }
+    s.written = put(&Line { bytes: line }, output, s.written)?;
+    Ok(())
 }

@@ -1,10 +1,19 @@
--- write answers with what is put counted, or ends the run where there is no room.
+-- write counts what is put to the channel's output, or ends the run where there is no room.
 use borrow.Author.Rules.{rules}
-use Rattle.write.proofs.Lines.{writes_put, writes_none}
+use Rattle.write.proofs.Lines.{writes_nowhere, writes_first, writes_second, no_room_first, no_room_second}
 use Rattle.write.proofs.write.Goals as goal
 
-pub returns-in-Some : goal.returns-in-Some
-returns-in-Some g c = search (writes_put, rules)
+pub returns-in_err-s-in-First : goal.returns-in_err-s-in-First
+returns-in_err-s-in-First g c = search (no_room_first, rules)
 
-pub returns-in-None : goal.returns-in-None
-returns-in-None g c = search (writes_none, rules)
+pub returns-in_err-s-in-Second : goal.returns-in_err-s-in-Second
+returns-in_err-s-in-Second g c = search (no_room_second, rules)
+
+pub returns-in-Nowhere : goal.returns-in-Nowhere
+returns-in-Nowhere g c = search (writes_nowhere, rules)
+
+pub returns-in_ok-s-in-First : goal.returns-in_ok-s-in-First
+returns-in_ok-s-in-First g c = search (writes_first, rules)
+
+pub returns-in_ok-s-in-Second : goal.returns-in_ok-s-in-Second
+returns-in_ok-s-in-Second g c = search (writes_second, rules)

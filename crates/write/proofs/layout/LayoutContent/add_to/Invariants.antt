@@ -1,12 +1,11 @@
 -- add_to adds the layout part by part: the loop keeps `LayoutSoFar`, that its first i bytes are written, and how many are left falls.
 use lib.ListN.{length}
 use Prim.Native.Nat.{◌-◌}
-use Rattle.write.specs.Layout.{bare}
 use Rattle.write.proofs.Fields.{LayoutSoFar}
 use Rattle.write.proofs.layout.LayoutContent.add_to.Given as goal
 
 abbrev pub invariant-loop-i : goal.invariant-loop-i
-invariant-loop-i l = LayoutSoFar l.self.m l.text (bare l.self.nums.now l.self.params.now) l.initial.output l.w l.i l.output
+invariant-loop-i l = LayoutSoFar l.self.m l.text l.self.call.now l.initial.output l.w l.i l.output
 
 abbrev pub decreases-loop-i : goal.decreases-loop-i
 decreases-loop-i l = length l.text - l.i
