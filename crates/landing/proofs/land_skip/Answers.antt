@@ -3,11 +3,11 @@ use Rattle.landing.proofs.Leaves.{lands_on, lands_beyond, lands_badly}
 use borrow.Author.Rules.{rules}
 use Rattle.landing.proofs.land_skip.Goals as goal
 
-pub returns-in-Ok-Landed : goal.returns-in-Ok-Landed
-returns-in-Ok-Landed c = search (lands_on, rules)
+pub returns-in-Landed : goal.returns-in-Landed
+returns-in-Landed c = search (lands_on, rules)
 
-pub returns-in-Ok-Beyond : goal.returns-in-Ok-Beyond
-returns-in-Ok-Beyond c = search (lands_beyond, rules)
+pub returns-in-Beyond : goal.returns-in-Beyond
+returns-in-Beyond c = search (lands_beyond, rules)
 
-pub returns-in-Err : goal.returns-in-Err
-returns-in-Err c = search (lands_badly, rules)
+pub returns-in_err-next : goal.returns-in_err-next
+returns-in_err-next c = lands_badly c.pass_over.ensures c.in_err-next.was (search rules)
