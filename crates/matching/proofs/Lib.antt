@@ -1,4 +1,3 @@
 -- Laws of matching a line.
-mod Deciding
 pub mod Counting
 pub mod Matching

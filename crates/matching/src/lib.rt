@@ -1,83 +1,69 @@
 // What an offered line comes to up to a call, and the call that its reading opens (document 01, "Fitting a line" and "Events, store and
-// result"). A line is counted when its reading is decided. open_reading asks what a choice of `fit` has in a text that is loaded: its pieces
-// lie in the line's first n bytes, and its template has a body (`Opening`).
+// result"). A line is counted when its reading is decided. open_reading asks what a reading of `fit` has in a text that is loaded: its pieces
+// lie in the line, and its template has a body (`Opening`).
 #![tactic(auto)]
 
-ghost use Rattle.std.specs.Prelude.{◌+◌, ◌≤◌, ◌<◌, ◌≡◌, length, true};
+ghost use Rattle.std.specs.Prelude.{◌+◌, ◌≤◌, ◌<◌, ◌≡◌, length, IfSome};
 ghost use Rattle.model.specs.Limits.{macros_most, fuel_most};
-ghost use Rattle.state.specs.State.{with_call};
 ghost use Rattle.usage.specs.Counts.{Counts};
 ghost use Rattle.matching.specs.Matches.{chosen_place, CountsDecided, Decides, Opening, Opened};
 
-use answer::{Answer, end_with, go_on};
-use call::{Call, Head};
-use fit::Choice;
+use call::Call;
+use faults::RunFault;
+use fit::{Choice, Reading};
 use model::{CALLS_MOST, MACROS_MOST};
 use state::State;
 use usage::count_line;
 use write::pass_through;
 
 // Where a line is counted by its reading: at its template's place, or behind all templates where it has none.
-fn find_count(c: Choice) -> usize
-    ensures { result ≡ chosen_place c }
+fn find_count(found: &Choice) -> usize
+    ensures { result ≡ chosen_place found.now.reading }
 {
-    if c.found {
-        return c.template;
+    match found.reading {
+        Some(reading) => reading.template,
+        None => MACROS_MOST,
     }
-    MACROS_MOST
 }
 
 // Counts a line whose reading is decided, whatever follows; where no fuel is left it is not offered.
-pub fn count_decided(c: Choice, counts: &mut [usize], s: State)
-    requires { Counts counts.old s.fuel × (c.found ≡ true → c.template < macros_most) }
-    ensures { CountsDecided c s.fuel counts.old counts.new }
+pub fn count_decided(found: &Choice, counts: &mut [usize], fuel: usize)
+    requires { Counts counts.old fuel × IfSome found.now.reading (λ r. r.template < macros_most) }
+    ensures { CountsDecided found.now.reading fuel counts.old counts.new }
 {
-    if 0 < s.fuel {
-        count_line(counts, find_count(c));
+    if 0 < fuel {
+        count_line(counts, find_count(found));
     }
 }
 
-// What the first n bytes of a line come to by their reading, with `depth` calls open: the run is spent; without a reading the line is
-// written to the first output; a call more is one too many; or a call is to be opened, and the answer, which goes on, has the event counted.
-pub fn decide(c: Choice, line: &[u8], n: usize, output: &mut [u8], depth: usize, s: State) -> Answer
-    requires { (n ≤ length line.now) × (s.written ≤ length output.old) × (s.events + s.fuel ≤ fuel_most) }
-    ensures { Decides c line.now n depth s output.old result output.new }
+// What a line comes to by its reading, with `depth` calls open, up to the opening of a call: the run is spent, or an event is counted, and without a
+// reading the line is written to the first output, and with one a call more may be one too many.
+pub fn decide(
+    found: &Choice,
+    line: &[u8],
+    output: &mut [u8],
+    depth: usize,
+    s: &mut State,
+) -> Result<(), RunFault>
+    requires { (s.old.written ≤ length output.old) × (s.old.events + s.old.fuel ≤ fuel_most) }
+    ensures { Decides found.now.reading line.now depth s.old output.old result s.new output.new }
 {
     if s.fuel == 0 {
-        return end_with(20, s);
+        return Err(RunFault::NoFuel);
     }
-    let t = s.count_event();
-    if !c.found {
-        return pass_through(line, n, output, t);
+    s.count_event();
+    match found.reading {
+        None => pass_through(line, output, s),
+        Some(_) if depth == CALLS_MOST => Err(RunFault::DeepCall),
+        Some(_) => Ok(()),
     }
-    if depth == CALLS_MOST {
-        return end_with(14, t);
-    }
-    let none = Head {
-        number: 0,
-        next: 0,
-        depth: 0,
-    };
-    go_on(none, t)
 }
 
-// The state of an answer, with a call more counted.
-pub fn count_call(a: Answer) -> State
-    requires { a.state.calls ≤ fuel_most }
-    ensures { result ≡ with_call a.state }
+// The call with that number of the body of a reading's template, with the pieces of a line as its parameters.
+pub fn open_reading(bodies: &[usize], line: &[u8], reading: Reading, number: usize) -> Call
+    requires { Opening bodies.now line.now reading }
+    ensures { Opened bodies.now line.now reading number result }
 {
-    a.state.add_call()
-}
-
-// A call of the body of a reading's template, with the pieces of the first n bytes of a line as its parameters. Its number is that of
-// the last call that s counts.
-pub fn open_reading(bodies: &[usize], line: &[u8], n: usize, c: Choice, s: State) -> Call
-    requires { Opening bodies.now line.now n c }
-    ensures { Opened bodies.now line.now n c s.calls result }
-{
-    let template = c.template;
-    let next = bodies[template];
-    let starts = c.starts;
-    let lens = c.lens;
-    call::open_call(s.calls, next, &line[0..n], starts, lens)
+    let next = bodies[reading.template];
+    Call::open(number, next, line, reading.starts, reading.lens)
 }
