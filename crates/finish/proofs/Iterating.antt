@@ -1,62 +1,54 @@
--- ed6, ed7, F7 and F8: a parameter set, and iterations.
-use mathlib.Core.Path.{◌≡◌, sym, ap, ◌∙◌}
-use mathlib.Core.List.{List}
+-- F7: a count of passes.
+use mathlib.Core.Path.{◌≡◌, refl, ap, ◌∙◌, subst}
 use Prim.Native.Nat.{ℕ}
+use native.Mathlib.Omega.{arith}
 use lib.IntN.{ℤ}
-use Rattle.std.specs.Prelude.{Result, Ok, Err, Some, None}
+use mir.Val.{to_z, of_z}
+use Rattle.std.specs.Prelude.{Result, Ok, Err, Some, None, IsErrAnd, ok_or}
 use Rattle.std.proofs.Math.Option as Math
 use Rattle.faults.specs.declared.RunFault.{RunFault}
 use Rattle.faults.specs.declared.RunFault.TheVariants.{NoValue}
 use Rattle.model.specs.declared.Marks.{Marks}
 use Rattle.model.specs.Text.{Bytes}
-use Rattle.model.specs.Machine.{Frame, Step, continues, start_repeat, Outputs}
+use Rattle.model.specs.Machine.{start_repeat}
 use Rattle.state.specs.declared.State.{State}
-use Rattle.state.specs.State.{shared_of, Sound}
-use Rattle.call.specs.declared.Head.{Head}
-use Rattle.call.specs.Call.{Laid, laid, frame_of, Placed}
-use Rattle.call.specs.Params.{Sets}
-use Rattle.number.specs.Number.{Valued, number_of}
+use Rattle.state.specs.State.{shared_of}
+use Rattle.call.specs.declared.Call.{Call}
+use Rattle.call.specs.Call.{frame_of}
+use Rattle.number.specs.Number.{width, Valued, number_of, InRange}
+use Rattle.number.proofs.Signed.{told_in}
 use Rattle.value.specs.Reads.{Values}
-use Rattle.iterate.specs.Iterate.{pass_step, call_after, StartsPass, EndsPass, StartsRepeat}
-use Rattle.answer.specs.declared.Answer.{Answer}
-use Rattle.answer.specs.Answers.{goes_further, ends_with, goes_or_ends}
-use Rattle.answer.specs.Kept.{Comes}
-use Rattle.answer.proofs.Coming.{came_on, came_end}
-use Rattle.finish.specs.Leaves.{Assigns, BeginsPasses, Repeats, PassesAgain}
+use Rattle.iterate.specs.Iterate.{StartsRepeat}
+use Rattle.answer.proofs.Coming.{came_on, came_fault}
+use Rattle.answer.specs.Answers.{goes_on}
+use Rattle.finish.specs.Leaves.{Repeats}
 
-pub assigns : {c : Head} {nums : List ℕ} {bytes : Bytes} {d : ℕ} {line : Bytes} {s : State} {nums' : List ℕ} {bytes' : Bytes} {r : Answer} → Sets nums bytes d line nums' bytes' → r ≡ goes_further c s
-    → Assigns (laid c nums bytes) d line s r nums' bytes'
-assigns {c} {nums} {bytes} {s = s} g e = record {
-  comes = λ m text o memory b q h. came_on h (g.placed text c q) e (ap (λ (f : Frame). continues f (shared_of s o memory)) (sym (g.frame m text c)));
-}
+-- the value of an answer, or the fault in its place
+valued_none : {v : Valued} {q : Result ℤ RunFault} {e : RunFault} → q ≡ ok_or v NoValue → q ≡ Err e → (v ≡ None) × (e ≡ NoValue)
+valued_none {v = Some z} p f = let k : ◌≡◌ {A = ℕ} 0 1 = cc in absurd (omega arith)
+valued_none {v = None} p f = (refl, cc)
 
--- ---- a pass
+valued_some : {v : Valued} {q : Result ℤ RunFault} {z : ℤ} → q ≡ ok_or v NoValue → q ≡ Ok z → v ≡ Some z
+valued_some {v = Some z} p f = cc
+valued_some {v = None} p f = let k : ◌≡◌ {A = ℕ} 0 1 = cc in absurd (omega arith)
 
--- what a pass comes to: its call goes on, or the run ends
-pass_comes : (c : Head) (p : Result Head RunFault) {m : Marks} {text : Bytes} {nums : List ℕ} {bytes : Bytes} {s : State} {o : Outputs} {memory b : Bytes} {t : Step} {r : Answer} → Sound text s o memory
-    → Placed text (laid (call_after c p) nums bytes) → r ≡ goes_or_ends p s → t ≡ pass_step m text p nums bytes (shared_of s o memory) → Comes m text t s o b r nums bytes o memory
-unfolding pass_step
-pass_comes c (Ok d) h q e f = came_on h q e f
-pass_comes c (Err fault) h q e f = came_end h q e f
-
-module _ {m : Marks} {text : Bytes} {c : Laid} {s : State} {p : Result Head RunFault} {nums : List ℕ} {bytes : Bytes} {r : Answer} where
-  pub begins : {d list to : ℕ} {line : Bytes} → StartsPass m text c d line list to p nums bytes → r ≡ goes_or_ends p s → BeginsPasses m text c d list to line s r nums bytes
-  begins g e = record { comes = λ o memory b h. pass_comes c.head p h g.placed e (g.step (shared_of s o memory)) }
-
-  pub passes_again : EndsPass m text c p nums bytes → r ≡ goes_or_ends p s → PassesAgain m text c s r nums bytes
-  passes_again g e = record { comes = λ o memory b h. pass_comes c.head p h g.placed e (g.step (shared_of s o memory)) }
-
--- ---- a count
-
-module _ {m : Marks} {text : Bytes} {c : Head} {nums : List ℕ} {line memory : Bytes} {s : State} {v : Valued} (a : Values m memory s.index line v) where
-  pub repeats_fault : {r : Answer} → v ≡ None → r ≡ ends_with (Some NoValue) s → Repeats m text c nums line memory s r nums
+module _ {m : Marks} {text : Bytes} {c : Call} {line : Bytes} {s : State} {v : Valued} (a : Values m s.store line v) {q : Result ℤ RunFault} (i : q ≡ ok_or v NoValue) where
+  pub repeats_fault : {e : RunFault} {r : Result Unit RunFault} → q ≡ Err e → IsErrAnd r (λ f. f ≡ e) → Repeats m text c line s r c
   unfolding start_repeat
-  repeats_fault f e = record {
-    comes = λ bytes o b q h. came_end h q e (ap (λ (i : Math.Option ℤ). start_repeat m i (frame_of m text (laid c nums bytes)) (shared_of s o memory)) (a.is ∙ ap number_of f));
-  }
+  repeats_fault {r = Ok u} f g = absurd g
+  repeats_fault {r = Err e} f g =
+      let k = valued_none i f in
+      record {
+        comes = λ o b p h. came_fault h p (ap (λ (e : RunFault). goes_on (Err e)) (g ∙ k.1))
+            (ap (λ (x : Math.Option ℤ). start_repeat m x (frame_of m text c) (shared_of s o)) (a.is ∙ ap number_of k.0));
+      }
 
-  pub repeats : {z : ℤ} {c' : Head} {nums' : List ℕ} {r : Answer} → v ≡ Some z → StartsRepeat m text c nums z c' nums' → r ≡ goes_further c' s → Repeats m text c nums line memory s r nums'
-  repeats f g e = record {
-    comes = λ bytes o b q h. came_on h (g.placed bytes q) e
-        (ap (λ (i : Math.Option ℤ). start_repeat m i (frame_of m text (laid c nums bytes)) (shared_of s o memory)) (a.is ∙ ap number_of f) ∙ g.step bytes (shared_of s o memory) q.bytes);
-  }
+  -- a signed number is read back from its bits
+  pub repeats : {z : ℤ} {c' : Call} → q ≡ Ok z → StartsRepeat m text c (to_z width (of_z width z)) c' → Repeats m text c line s (Ok tt) c'
+  repeats {z} {c'} f g =
+      let k = valued_some i f in
+      let h : StartsRepeat m text c z c' = subst (λ (z : ℤ). StartsRepeat m text c z c') (told_in z (subst InRange k a.fits)) g in
+      record {
+        comes = λ o b p e. came_on e (h.placed p) refl
+            (ap (λ (x : Math.Option ℤ). start_repeat m x (frame_of m text c) (shared_of s o)) (a.is ∙ ap number_of k) ∙ h.step (shared_of s o));
+      }

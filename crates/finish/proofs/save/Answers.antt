@@ -1,10 +1,9 @@
 -- save stores the text, or ends the run with 19.
-use borrow.Author.Rules.{rules}
 use Rattle.finish.proofs.Storing.{saves, saves_full}
 use Rattle.finish.proofs.save.Goals as goal
 
-pub returns-in-Ok : goal.returns-in-Ok
-returns-in-Ok c = search (saves, rules)
+pub returns-in_err-put : goal.returns-in_err-put
+returns-in_err-put c = saves_full c.param.ensures c.param-2.ensures c.put.ensures c.in_err-put.was c.from_residual.ensures.1
 
-pub returns-in-Err : goal.returns-in-Err
-returns-in-Err c = search (saves_full, rules)
+pub returns : goal.returns
+returns c = saves c.param.ensures c.param-2.ensures c.put.ensures c.in_ok-put.was

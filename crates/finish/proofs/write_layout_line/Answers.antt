@@ -1,6 +1,6 @@
 -- write_layout_line writes the layout that follows to its channel, and the call goes on past it.
-use borrow.Author.Rules.{rules}
 use Rattle.finish.proofs.Lines.{no_layout, writes_layout}
+use borrow.Author.Rules.{rules}
 use Rattle.finish.proofs.write_layout_line.Goals as goal
 
 pub returns-in_default : goal.returns-in_default
