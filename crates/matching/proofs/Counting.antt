@@ -1,20 +1,22 @@
 -- A line that is counted by its reading: the counts stay within the fuel, and stand for the tally that the expansion has.
 use mathlib.Core.Path.{◌≡◌, refl, sym, ap, ◌∙◌}
-use mathlib.Core.Bool.{Bool, true, false}
-use mathlib.Core.Option.{Option, none, some}
+use mathlib.Core.Option as Math
+use mathlib.Core.Option.{none, some}
+use Rattle.std.specs.Prelude.{Option, Some, None, IfSome}
 use mathlib.Core.List.{List}
 use Prim.Native.Nat.{ℕ, ◌-◌, ◌≤◌, ◌<◌}
 use native.Mathlib.Omega.{arith}
 use lib.ListN.{length, get_or}
 use Rattle.model.specs.declared.Marks.{Marks}
 use Rattle.model.specs.Text.{Bytes}
-use Rattle.model.specs.Reading.{Reading, chosen}
+use Rattle.model.specs.Reading.{Reading as ReadingOf, chosen}
 use Rattle.model.specs.Load.{templates, Loaded}
 use Rattle.model.specs.Report.{one_more_of, tallied}
 use Rattle.model.proofs.Loading.{templates-length}
 use Rattle.nodes.specs.declared.Node.{Node}
 use Rattle.fit.specs.declared.Choice.{Choice}
-use Rattle.fit.specs.Chosen.{Chosen, Chooses}
+use Rattle.fit.specs.declared.Reading.{Reading}
+use Rattle.fit.specs.Chosen.{TreeAt, Chosen, Chooses}
 use Rattle.usage.specs.Counts.{Counts}
 use Rattle.usage.proofs.Counts.{counts_chosen, counts_passed, counts_more, counts_room}
 use Rattle.matching.specs.Book.{Book, Prepared, tally_in}
@@ -22,30 +24,27 @@ use Rattle.matching.specs.Matches.{chosen_place, CountsDecided}
 
 -- ---- the place
 
-place_found : (c : Choice) → c.found ≡ true → c.template ≡ chosen_place c
-place_found c e = sym (ap (λ (b : Bool). elim b as (λ _. ℕ) [ true ↦ c.template | false ↦ 128 ]) e)
+place_found : {c : Option Reading} {x : Reading} → c ≡ Some x → x.template ≡ chosen_place c
+place_found e = sym (ap chosen_place e)
 
-place-passed : (c : Choice) → c.found ≡ false → 128 ≡ chosen_place c
-place-passed c e = sym (ap (λ (b : Bool). elim b as (λ _. ℕ) [ true ↦ c.template | false ↦ 128 ]) e)
+place-passed : {c : Option Reading} → c ≡ None → 128 ≡ chosen_place c
+place-passed e = sym (ap chosen_place e)
 
 -- it is that of a count
-place-within : (c : Choice) → (c.found ≡ true → c.template < 128) → chosen_place c < 129
-place-within c h = by c.found refl
-  where
-    by : (b : Bool) → c.found ≡ b → chosen_place c < 129
-    by true e = rw (← place_found c e) (omega (arith, h e))
-    by false e = rw (← place-passed c e) (omega arith)
+place-within : (c : Option Reading) → IfSome c (λ r. r.template < 128) → chosen_place c < 129
+place-within None h = omega arith
+place-within (Some x) h = omega (arith, h)
 
 -- ---- a line counted, or none
 
 -- what the count asks
-pub place-counted : (c : Choice) {counts : List ℕ} {fuel k : ℕ} → Counts counts fuel → (c.found ≡ true → c.template < 128) → k ≡ chosen_place c → k < length counts
+pub place-counted : (c : Option Reading) {counts : List ℕ} {fuel k : ℕ} → Counts counts fuel → IfSome c (λ r. r.template < 128) → k ≡ chosen_place c → k < length counts
 place-counted c h below e = omega (arith, place-within c below, h.long)
 
 pub room_counted : {counts : List ℕ} {fuel : ℕ} → Counts counts fuel → 0 < fuel → (k : ℕ) → get_or counts k 0 < 1000000
 room_counted h e k = counts_room h e k
 
-module _ {c : Choice} {fuel : ℕ} {counts : List ℕ} where
+module _ {c : Option Reading} {fuel : ℕ} {counts : List ℕ} where
   -- no fuel is left
   pub counts_spent : fuel ≤ 0 → CountsDecided c fuel counts counts
   counts_spent e = record { spent = λ _. refl; counted = λ k. absurd (omega arith) }
@@ -58,27 +57,31 @@ module _ {c : Choice} {fuel : ℕ} {counts : List ℕ} where
 
 -- a template that is chosen has its count
 pub choice_below : {m : Marks} {text : Bytes} {row : List Node} {count : ℕ} {bodies : List ℕ} {line : Bytes} {c : Choice} → Prepared m text row count bodies → Chooses m row count line c
-    → c.found ≡ true → c.template < 128
-choice_below p g e = let b = p.book in omega (arith, (g.call e _ b.fits).place, templates-length p.table.macros, b.few)
+    → IfSome c.reading (λ r. r.template < 128)
+choice_below {m} {row = row} {count} {line = line} {c} p g = by c.reading g.call
+  where
+    by : (x : Option Reading) → IfSome x (λ r. (ts : List Bytes) → TreeAt m row count ts → Chosen m ts line r) → IfSome x (λ r. r.template < 128)
+    by None h = tt
+    by (Some r) h = let b = p.book in omega (arith, (h _ b.fits).place, templates-length p.table.macros, b.few)
 
-module _ {c : Choice} {fuel : ℕ} {counts counts' : List ℕ} (z : CountsDecided c fuel counts counts') (some_fuel : 0 < fuel) where
+module _ {c : Option Reading} {fuel : ℕ} {counts counts' : List ℕ} (z : CountsDecided c fuel counts counts') (some_fuel : 0 < fuel) where
   -- the counts stay within the fuel
   pub decided_counts : Counts counts fuel → Counts counts' (fuel - 1)
   decided_counts h = rw (z.counted some_fuel) (counts_more h some_fuel (chosen_place c))
 
   module _ {m : Marks} {text : Bytes} {row : List Node} {count : ℕ} {bodies : List ℕ} {t : Loaded} (b : Book m text row count bodies t) where
     -- a line without a reading is one more that is passed through
-    pub passed_tally : Counts counts fuel → c.found ≡ false → tally_in t counts' ≡ tallied none (tally_in t counts)
-    passed_tally h e = rw (z.counted some_fuel, ← place-passed c e) (counts_passed (length t.macros) counts b.few h.long)
+    pub passed_tally : Counts counts fuel → c ≡ None → tally_in t counts' ≡ tallied none (tally_in t counts)
+    passed_tally h e = rw (z.counted some_fuel, ← place-passed e) (counts_passed (length t.macros) counts b.few h.long)
 
     -- one with a reading is one more of its template's
-    pub chosen_tally : {line : Bytes} → c.found ≡ true → Chosen m (templates t.macros) line c → (r : Reading) → chosen m (templates t.macros) line ≡ some r
+    pub chosen_tally : {line : Bytes} {x : Reading} → c ≡ Some x → Chosen m (templates t.macros) line x → (r : ReadingOf) → chosen m (templates t.macros) line ≡ some r
         → tally_in t counts' ≡ tallied (some r.which) (tally_in t counts)
-    chosen_tally e q r f =
-        let below : c.template < length t.macros = omega (arith, q.place, templates-length t.macros) in
-        ap (tally_in t) (z.counted some_fuel ∙ ap (λ (k : ℕ). one_more_of k counts) (sym (place_found c e))) ∙ counts_chosen (length t.macros) c.template counts below b.few
+    chosen_tally {x = x} e q r f =
+        let below : x.template < length t.macros = omega (arith, q.place, templates-length t.macros) in
+        ap (tally_in t) (z.counted some_fuel ∙ ap (λ (k : ℕ). one_more_of k counts) (sym (place_found e))) ∙ counts_chosen (length t.macros) x.template counts below b.few
         ∙ ap (λ (k : ℕ). tallied (some k) (tally_in t counts)) (sym q.which ∙ ap which (sym q.is ∙ f))
       where
-        which : Option Reading → ℕ
-        which none = 0
-        which (some x) = x.which
+        which : Math.Option ReadingOf → ℕ
+        which Math.none = 0
+        which (Math.some x) = x.which
