@@ -1,9 +1,8 @@
 // Bytes in lent slices: copied, moved, compared, and numbers written in decimal. Nothing here knows what the bytes mean.
-// What is copied or moved has to lie in its slice, at its old place and at the new one. A number to be narrowed has to be below 256, and
-// one in decimal to have 20 bytes for its digits.
+// What is copied or moved has to lie in its slice, at its old place and at the new one, and a number in decimal to have 20 bytes for its digits.
 #![tactic(auto)]
 
-ghost use Rattle.std.specs.Prelude.{◌≡◌, ◌+◌, ◌≤◌, ◌<◌, length, drop};
+ghost use Rattle.std.specs.Prelude.{◌≡◌, ◌+◌, ◌≤◌, length, drop};
 ghost use Rattle.model.specs.Text.{same};
 ghost use Rattle.buffer.specs.Pasted.{Pasted};
 ghost use Rattle.buffer.specs.Decimal.{Decimal};
@@ -30,21 +29,6 @@ pub fn same_bytes(a: &[u8], b: &[u8]) -> bool
     ensures { result ≡ same a.now b.now }
 {
     a == b
-}
-
-// A byte as a number.
-pub fn wide(b: u8) -> usize
-    ensures { (result ≡ b) × (result < 256) }
-{
-    b as usize
-}
-
-// A number below 256 as a byte.
-pub fn narrow(n: usize) -> u8
-    requires { n < 256 }
-    ensures { result ≡ n }
-{
-    n as u8
 }
 
 // A count as the public calls answer it.

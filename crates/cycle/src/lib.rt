@@ -4,7 +4,7 @@
 #![tactic(auto)]
 
 ghost use Rattle.std.proofs.Math.Option.{none, some};
-ghost use Rattle.std.specs.Prelude.{[], ◌∷◌, ◌≤◌, ◌<◌, length, take};
+ghost use Rattle.std.specs.Prelude.{[], ◌∷◌, ◌≤◌, ◌<◌, length};
 ghost use Rattle.model.specs.Machine.{outputs};
 ghost use Rattle.state.specs.State.{Sound};
 ghost use Rattle.call.specs.Call.{opened_of, laid, Sized};
@@ -14,15 +14,16 @@ ghost use Rattle.answer.specs.Kept.{Begun, Open};
 ghost use Rattle.cycle_laws.specs.Meets.{Meets, Advances};
 ghost use Rattle.model.specs.Limits.{line_most, calls_most, dead_least};
 
-use answer::{Answer, go_on, is_left, is_offer, offered_length};
+use answer::{Answer, go_on};
 use call::{CALL_BYTES, CALL_NUMBERS, Call};
+use fit::first_reading;
 use landing::land;
-use matching::{count_call, count_decided, decide, open_reading};
+use matching::{Decided, count_decided, decide, open_reading};
 use model::{LINE_MOST, Marks};
 use nodes::Node;
 use state::State;
 
-// Offers the first n bytes of a line, with `depth` calls open. A call that it opens is laid out in two arrays.
+// Offers a line, with `depth` calls open. A call that it opens is laid out in two arrays.
 #[cycle(calls)]
 pub fn offer(
     m: Marks,
@@ -36,44 +37,44 @@ pub fn offer(
     memory: &mut [u8],
     counts: &mut [usize],
     line: &[u8],
-    n: usize,
     depth: usize,
     s: State,
 ) -> Answer
     requires { Prepared m text.now nodes.now count bodies.now × Sound text.now s (outputs output.old second.old) memory.old
-        × (n ≤ line_most) × (n ≤ length line.now) × (depth ≤ calls_most) × (dead_least ≤ length dead.old)
+        × (length line.now ≤ line_most) × (depth ≤ calls_most) × (dead_least ≤ length dead.old)
         × Counts counts.old s.fuel }
-    ensures { Meets m text.now nodes.now count bodies.now (some (take n line.now)) []
+    ensures { Meets m text.now nodes.now count bodies.now (some line.now) []
         depth s (outputs output.old second.old) memory.old counts.old result
         (outputs output.new second.new) memory.new counts.new }
 {
-    let found = fit::first_reading(m, nodes, count, dead, line, n);
+    let found = first_reading(m, nodes, count, dead, line).reading;
     count_decided(found, counts, s);
-    let a = decide(found, line, n, output, depth, s);
-    if is_left(a) {
-        return a;
+    match decide(found, line, output, depth, s) {
+        Decided::Ends(a) => a,
+        Decided::Opens(reading, counted) => {
+            let called = counted.add_call();
+            let call = open_reading(bodies, line, reading, called);
+            let mut nums = [0usize; CALL_NUMBERS];
+            let mut params = [0u8; CALL_BYTES];
+            body(
+                m,
+                text,
+                nodes,
+                count,
+                dead,
+                bodies,
+                output,
+                second,
+                memory,
+                counts,
+                &mut nums,
+                &mut params,
+                call,
+                depth,
+                called,
+            )
+        }
     }
-    let called = count_call(a);
-    let call = open_reading(bodies, line, n, found, called);
-    let mut nums = [0usize; CALL_NUMBERS];
-    let mut params = [0u8; CALL_BYTES];
-    body(
-        m,
-        text,
-        nodes,
-        count,
-        dead,
-        bodies,
-        output,
-        second,
-        memory,
-        counts,
-        &mut nums,
-        &mut params,
-        call,
-        depth,
-        called,
-    )
 }
 
 // Lays a call out that is opened, with `depth` callers, and runs it.
@@ -109,7 +110,7 @@ fn body(
             m, text, nodes, count, dead, bodies, output, second, memory, counts, nums, params, a,
             depth,
         );
-        if is_left(r) {
+        if r.is_left() {
             return r;
         }
         a = r;
@@ -143,11 +144,10 @@ fn advance(
 {
     let mut built = [0u8; LINE_MOST];
     let q = carry::step(m, text, a, nums, params, &mut built, output, second, memory);
-    if !is_offer(q) {
+    if !q.is_offer() {
         return q;
     }
-    let n = offered_length(q);
-    let t = q.state;
+    let n = q.offered_length();
     let r = offer(
         m,
         text,
@@ -159,10 +159,9 @@ fn advance(
         second,
         memory,
         counts,
-        &built,
-        n,
+        &built[0..n],
         depth + 1,
-        t,
+        q.state,
     );
-    land(m, text, q, r)
+    land(m, text, q.call, r)
 }

@@ -2,6 +2,8 @@
 use mathlib.Core.Path.{◌≡◌, refl, sym, ap, ◌∙◌}
 use mathlib.Core.Bool.{true, false}
 use mathlib.Core.Option.{Option, none, some}
+use Rattle.std.specs.Prelude.{Some}
+use Rattle.faults.specs.declared.RunFault.TheVariants.{NoFuel, DeepCall}
 use mathlib.Core.List.{List, ◌∷◌}
 use Prim.Native.Nat.{ℕ, suc, ◌+◌, ◌-◌, ◌<◌}
 use native.Mathlib.Numerals.{add-one}
@@ -30,7 +32,7 @@ event_with n s = record { at = s.at; line = s.line; calls = n; symbols = s.symbo
 
 module _ (room : Rooms) (m : Marks) (text : Bytes) (t : Loaded) (y : Tally) (s : State) (o : Outputs) (w : Bytes) where
   -- no fuel is left where a line is to be offered
-  pub offer_spent : s.fuel ≡ 0 → (l : Bytes) (fs : List Frame) → comes_to s.fuel room t (running (state_of text (some l) fs y s o w)) ≡ result_after t y (ends_with 20 s) o w
+  pub offer_spent : s.fuel ≡ 0 → (l : Bytes) (fs : List Frame) → comes_to s.fuel room t (running (state_of text (some l) fs y s o w)) ≡ result_after t y (ends_with (Some NoFuel) s) o w
   unfolding outcome Machine.result_of
   offer_spent spent l fs =
       ap (λ (n : ℕ). comes_to n room t (running (state_of text (some l) fs y s o w))) spent
@@ -63,7 +65,7 @@ module _ (room : Rooms) (m : Marks) (text : Bytes) (t : Loaded) (y : Tally) (s :
       opens_call = offers-line l fs ∙ ap (λ (r : Option Reading). comes_to (s.fuel - 1) room t (offered_as room t l (state_of text none fs y (counted_event s) o w) r)) e
 
       -- a thirteenth call
-      pub too_deep : leb 12 (length fs) ≡ true → comes_to s.fuel room t (running (state_of text (some l) fs y s o w)) ≡ result_after t (tallied (some r.which) y) (ends_with 14 (counted_event s)) o w
+      pub too_deep : leb 12 (length fs) ≡ true → comes_to s.fuel room t (running (state_of text (some l) fs y s o w)) ≡ result_after t (tallied (some r.which) y) (ends_with (Some DeepCall) (counted_event s)) o w
       unfolding call outcome Machine.result_of
       too_deep b = opens_call ∙ ap (λ (x : Next). comes_to (s.fuel - 1) room t x) (when_true _ _ b) ∙ ap (outcome t) (after_ended (s.fuel - 1) room t 14 (state_of text none fs (tallied (some r.which) y) (counted_event s) o w))
 

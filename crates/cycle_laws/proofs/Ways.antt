@@ -2,6 +2,8 @@
 use mathlib.Core.Path.{◌≡◌, refl, sym, ap, ◌∙◌, subst}
 use mathlib.Core.Bool.{Bool, true, false}
 use mathlib.Core.Option.{none, some}
+use Rattle.std.specs.Prelude.{Option, Some, None}
+use Rattle.faults.specs.declared.RunFault.TheVariants.{NoFuel, DeepCall}
 use mathlib.Core.List.{List, [], ◌∷◌}
 use Prim.Native.Nat.{ℕ, suc, ◌+◌, ◌-◌, ◌≤◌, ◌<◌}
 use native.Mathlib.Numerals.{add-one}
@@ -11,13 +13,14 @@ use borrow.Author.Tests.{le-leb, lt-leb, eqb-true, eqb-false}
 use lib.Dec.{eqb}
 use lib.ListN.{length, get_or, take}
 use Rattle.model.specs.declared.Marks.{Marks}
-use Rattle.model.specs.Text.{Bytes}
+use Rattle.model.specs.Text.{Bytes, part}
 use Rattle.model.specs.Load.{templates, Loaded, no_macro}
 use Rattle.model.specs.Report.{Tally, no_lines}
 use Rattle.model.specs.Machine.{Rooms, Outputs, outputs, Frame, running, pass_through}
 use Rattle.model.specs.Sizes.{Nested}
 use Rattle.model.proofs.Choices.{false-not-true}
 use Rattle.model.proofs.Frames.{NextOk}
+use Rattle.model.proofs.Text.{part_front}
 use Rattle.nodes.specs.declared.Node.{Node}
 use Rattle.state.specs.declared.State.{State}
 use Rattle.state.specs.State.{state_of, Sound, counted_event, with_call}
@@ -26,9 +29,10 @@ use Rattle.call.specs.declared.Head.{Head}
 use Rattle.call.specs.Call.{opened_of, Laid, laid, frame_of}
 use Rattle.call.specs.Params.{Lays}
 use Rattle.fit.specs.declared.Choice.{Choice}
+use Rattle.fit.specs.declared.Reading.{Reading}
 use Rattle.fit.specs.Chosen.{Chooses}
 use Rattle.answer.specs.declared.Answer.{Answer}
-use Rattle.answer.specs.Answers.{turn, goes_further, ends_with, is_left, is_offer, offered_length, next_at, next_of, rooms_of, comes_to, result_after}
+use Rattle.answer.specs.Answers.{goes_further, ends_with, is_left, is_offer, offered_length, next_at, next_of, rooms_of, comes_to, result_after}
 use Rattle.answer.specs.Kept.{Follows, Begun, Open}
 use Rattle.answer.proofs.Following.{extends_none, follows_itself, follows_trans, rooms_kept}
 use Rattle.answer.proofs.Expansion.{halts_with, settle-same, next_on, next_offers, next-nested, left_same, left_nested, unoffered_same, offer_open}
@@ -39,8 +43,10 @@ use Rattle.landing.specs.Landing.{LandsAnswer}
 use Rattle.usage.specs.Counts.{Counts}
 use Rattle.usage.proofs.Counts.{counts_less}
 use Rattle.matching.specs.Book.{Book, Prepared, tally_in}
+use Rattle.matching.specs.declared.Decided.{Decided}
+use Rattle.matching.specs.declared.Decided.TheVariants.{Ends, Opens}
 use Rattle.matching.specs.Matches.{opened, CountsDecided, Decides, Opened}
-use Rattle.matching.proofs.Matching.{reading_calls}
+use Rattle.matching.proofs.Matching.{found_none, found_call, reading_calls}
 use Rattle.matching.proofs.Counting.{decided_counts, passed_tally, chosen_tally}
 use Rattle.cycle_laws.specs.Meets.{Meets, Advances}
 use Rattle.cycle_laws.proofs.Events.{event_with, offer_spent, no_call, too_deep, enters}
@@ -58,31 +64,31 @@ event_follows n few h k = record {
 
 -- ---- offering a line
 
--- what is known where the line opens a call; o is the first output before it, and o₁ after it
-pub record EntersCall (q : Choice) (depth : ℕ) (s : State) (o : Bytes) (a : Answer) (o₁ : Bytes) : Type 0 where
+-- what is known where the line opens a call of its reading x, with the state u; o is the first output before it, and o₁ after it
+pub record EntersCall (q : Option Reading) (depth : ℕ) (s : State) (o : Bytes) (x : Reading) (u : State) (o₁ : Bytes) : Type 0 where
   pub some_fuel : 0 < s.fuel
-  pub found : q.found ≡ true
+  pub found : q ≡ Some x
   pub shallow : ¬ (depth ≡ 12)
-  pub counted : a.state ≡ counted_event s
+  pub counted : u ≡ counted_event s
   pub kept : o₁ ≡ o
 
 -- no fuel is left
 offer_stops : {m : Marks} {text : Bytes} {row : List Node} {count : ℕ} {bodies : List ℕ} {l : Bytes} {depth : ℕ} {s : State} {o : Outputs} {w : Bytes} {cs : List ℕ}
-    → Sound text s o w → Counts cs s.fuel → s.fuel ≡ 0 → Meets m text row count bodies (some l) [] depth s o w cs (ends_with 20 s) o w cs
+    → Sound text s o w → Counts cs s.fuel → s.fuel ≡ 0 → Meets m text row count bodies (some l) [] depth s o w cs (ends_with (Some NoFuel) s) o w cs
 unfolding next_at next_of
 offer_stops {m} {text} {row} {count} {bodies} {l} {depth} {s} {o} {w} {cs} sound kept spent = record {
   follows = follows_itself sound;
   counted = kept;
   left = refl;
-  same = λ t b fs k _ _ _. offer_spent (rooms_of o) m text t (tally_in t cs) s o w spent l fs ∙ sym (halts_with s.fuel (rooms_of o) t text 20 [] (tally_in t cs) s o w);
+  same = λ t b fs k _ _ _. offer_spent (rooms_of o) m text t (tally_in t cs) s o w spent l fs ∙ sym (halts_with s.fuel (rooms_of o) t text (Some NoFuel) [] (tally_in t cs) s o w);
 }
 
-module _ {m : Marks} {text : Bytes} {row : List Node} {count : ℕ} {bodies : List ℕ} (line : Bytes) (n : ℕ) {depth : ℕ} {s : State} {o : Outputs} {w : Bytes} {cs cs₁ : List ℕ} {q : Choice}
-    (sound : Sound text s o w) (kept : Counts cs s.fuel) (g : Chooses m row count (take n line) q) (z : CountsDecided q s.fuel cs cs₁) where
+module _ {m : Marks} {text : Bytes} {row : List Node} {count : ℕ} {bodies : List ℕ} {line : Bytes} {depth : ℕ} {s : State} {o : Outputs} {w : Bytes} {cs cs₁ : List ℕ} {q : Choice}
+    (sound : Sound text s o w) (kept : Counts cs s.fuel) (g : Chooses m row count line q) (z : CountsDecided q.reading s.fuel cs cs₁) where
   module _ (some_fuel : 0 < s.fuel) where
     -- the line has no reading
-    offer_writes : {r : Answer} {o' : Bytes} → q.found ≡ false → PassesThrough line n (counted_event s) o.first r o'
-        → Meets m text row count bodies (some (take n line)) [] depth s o w cs r (outputs o' o.second) w cs₁
+    offer_writes : {r : Answer} {o' : Bytes} → q.reading ≡ None → PassesThrough line (counted_event s) o.first r o'
+        → Meets m text row count bodies (some line) [] depth s o w cs r (outputs o' o.second) w cs₁
     offer_writes e p =
         let v = p.writes o.second sound.second in
         let c = event_follows s.calls (omega arith) sound some_fuel in
@@ -90,73 +96,75 @@ module _ {m : Marks} {text : Bytes} {row : List Node} {count : ℕ} {bodies : Li
           follows = follows_trans c (wrote_follows v c.sound);
           counted = rw (wrote_fuel v) (decided_counts z some_fuel kept);
           left = wrote_left v;
-          same = λ t b fs i nums bytes built. no_call (rooms_of o) m text t (tally_in t cs) s o w b.marks some_fuel (take n line) fs (g.no_call e _ b.fits)
-              ∙ ap (λ (y : Tally). comes_to (s.fuel - 1) (rooms_of o) t (pass_through (rooms_of o) (take n line) (state_of text none fs y (counted_event s) o w))) (sym (passed_tally z some_fuel b kept e))
+          same = λ t b fs i nums bytes built. no_call (rooms_of o) m text t (tally_in t cs) s o w b.marks some_fuel line fs (found_none g e _ b.fits)
+              ∙ ap (λ (y : Tally). comes_to (s.fuel - 1) (rooms_of o) t (pass_through (rooms_of o) line (state_of text none fs y (counted_event s) o w))) (sym (passed_tally z some_fuel b kept e))
               ∙ settle-same (s.fuel - 1) (rooms_of o) t _
               ∙ (λ j. comes_to (sym (wrote_fuel v) j) (rooms_of o) t (wrote_back v m text fs (tally_in t cs₁) nums bytes built w j));
         }
 
     -- it opens a thirteenth call
-    offer_deep : q.found ≡ true → depth ≡ 12 → Meets m text row count bodies (some (take n line)) [] depth s o w cs (ends_with 14 (counted_event s)) o w cs₁
+    offer_deep : {x : Reading} → q.reading ≡ Some x → depth ≡ 12 → Meets m text row count bodies (some line) [] depth s o w cs (ends_with (Some DeepCall) (counted_event s)) o w cs₁
     unfolding next_at next_of
     offer_deep e deep = record {
       follows = event_follows s.calls (omega arith) sound some_fuel;
       counted = decided_counts z some_fuel kept;
       left = refl;
       same = λ t b fs i _ _ _.
-          let c = g.call e (templates t.macros) b.fits in
-          too_deep (rooms_of o) m text t (tally_in t cs) s o w b.marks some_fuel (take n line) fs c.reading c.is (le-leb 12 (length fs) (omega arith))
-          ∙ ap (λ (y : Tally). result_after t y (ends_with 14 (counted_event s)) o w) (sym (chosen_tally z some_fuel b e c c.reading c.is))
-          ∙ sym (halts_with (s.fuel - 1) (rooms_of o) t text 14 [] (tally_in t cs₁) (counted_event s) o w);
+          let c = found_call g e (templates t.macros) b.fits in
+          too_deep (rooms_of o) m text t (tally_in t cs) s o w b.marks some_fuel line fs c.reading c.is (le-leb 12 (length fs) (omega arith))
+          ∙ ap (λ (y : Tally). result_after t y (ends_with (Some DeepCall) (counted_event s)) o w) (sym (chosen_tally z some_fuel b e c c.reading c.is))
+          ∙ sym (halts_with (s.fuel - 1) (rooms_of o) t text (Some DeepCall) [] (tally_in t cs₁) (counted_event s) o w);
     }
 
-  module _ {a : Answer} {o₁ : Bytes} (d : Decides q line n depth s o.first a o₁) where
+  module _ {r : Decided} {o₁ : Bytes} (d : Decides q.reading line depth s o.first r o₁) where
     -- no call is opened
-    pub offer_left : is_left (turn a) ≡ true → Meets m text row count bodies (some (take n line)) [] depth s o w cs a (outputs o₁ o.second) w cs₁
-    offer_left e = by (eqb s.fuel 0) refl q.found refl (eqb depth 12) refl
+    pub offer_left : {a : Answer} → r ≡ Ends a → Meets m text row count bodies (some line) [] depth s o w cs a (outputs o₁ o.second) w cs₁
+    offer_left {a} e = by (eqb s.fuel 0) refl q.reading refl (eqb depth 12) refl
       where
-        is : {x : Answer} → (a ≡ x) × (o₁ ≡ o.first) → Meets m text row count bodies (some (take n line)) [] depth s o w cs x o w cs₁
-            → Meets m text row count bodies (some (take n line)) [] depth s o w cs a (outputs o₁ o.second) w cs₁
-        is f h = rw (f.0, f.1) h
+        is : {x : Answer} → (r ≡ Ends x) × (o₁ ≡ o.first) → Meets m text row count bodies (some line) [] depth s o w cs x o w cs₁
+            → Meets m text row count bodies (some line) [] depth s o w cs a (outputs o₁ o.second) w cs₁
+        is {x} f h =
+            let y : a ≡ x = (let p = f.0 in cc) in
+            rw (y, f.1) h
 
-        uncounted : s.fuel ≡ 0 → Meets m text row count bodies (some (take n line)) [] depth s o w cs (ends_with 20 s) o w cs₁
+        uncounted : s.fuel ≡ 0 → Meets m text row count bodies (some line) [] depth s o w cs (ends_with (Some NoFuel) s) o w cs₁
         uncounted e = rw (z.spent e) (offer_stops sound kept e)
 
-        by : (spent : Bool) → eqb s.fuel 0 ≡ spent → (found : Bool) → q.found ≡ found → (deep : Bool) → eqb depth 12 ≡ deep
-            → Meets m text row count bodies (some (take n line)) [] depth s o w cs a (outputs o₁ o.second) w cs₁
+        by : (spent : Bool) → eqb s.fuel 0 ≡ spent → (found : Option Reading) → q.reading ≡ found → (deep : Bool) → eqb depth 12 ≡ deep
+            → Meets m text row count bodies (some line) [] depth s o w cs a (outputs o₁ o.second) w cs₁
         by true f b _ _ _ = is (d.spent (eqb-true _ _ f)) (uncounted (eqb-true _ _ f))
-        by false f false b _ _ = let k = pos_of_ne-zero (eqb-false _ _ f) in offer_writes k b (d.writes k b)
-        by false f true b true c = let k = pos_of_ne-zero (eqb-false _ _ f) in is (d.deep k b (eqb-true _ _ c)) (offer_deep k b (eqb-true _ _ c))
-        by false f true b false c = false-not-true (sym (ap (λ (x : Answer). is_left (turn x)) (d.opens (pos_of_ne-zero (eqb-false _ _ f)) b (eqb-false _ _ c)).0) ∙ e)
+        by false f None b _ _ =
+            let k = pos_of_ne-zero (eqb-false _ _ f) in
+            let v = d.writes k b in
+            let y : a ≡ v.0 = (let p = v.1 in cc) in
+            rw y (offer_writes k b v.2)
+        by false f (Some x) b true c = let k = pos_of_ne-zero (eqb-false _ _ f) in is (d.deep k x b (eqb-true _ _ c)) (offer_deep k b (eqb-true _ _ c))
+        by false f (Some x) b false c = absurd (let p = (d.opens (pos_of_ne-zero (eqb-false _ _ f)) x b (eqb-false _ _ c)).0 in cc)
 
 -- ---- opening a call
 
-module _ {text line : Bytes} {n depth : ℕ} {s : State} {o : Outputs} {w : Bytes} {q : Choice} {a : Answer} {o₁ : Bytes} (sound : Sound text s o w) (d : Decides q line n depth s o.first a o₁) where
-  -- a call is opened: there is fuel, a reading, and room for the call
-  pub offer_opens : is_left (turn a) ≡ false → EntersCall q depth s o.first a o₁
-  offer_opens e = by (eqb s.fuel 0) refl q.found refl (eqb depth 12) refl
-    where
-      left : {x : Answer} → a ≡ x → is_left (turn x) ≡ true → EntersCall q depth s o.first a o₁
-      left f h = false-not-true (sym e ∙ ap (λ (x : Answer). is_left (turn x)) f ∙ h)
+-- a call is opened: there is fuel, a reading, and room for the call
+pub offer_opens : {line : Bytes} {depth : ℕ} {s : State} {o : Bytes} {q : Option Reading} {r : Decided} {o₁ : Bytes} {x : Reading} {u : State} → Decides q line depth s o r o₁ → r ≡ Opens x u → EntersCall q depth s o x u o₁
+offer_opens {line} {depth} {s} {o} {q} {r} {o₁} {x} {u} d e = by (eqb s.fuel 0) refl q refl (eqb depth 12) refl
+  where
+    by : (spent : Bool) → eqb s.fuel 0 ≡ spent → (found : Option Reading) → q ≡ found → (deep : Bool) → eqb depth 12 ≡ deep → EntersCall q depth s o x u o₁
+    by true f b _ _ _ = absurd (let p = (d.spent (eqb-true _ _ f)).0 in cc)
+    by false f None b _ _ = absurd (let p = (d.writes (pos_of_ne-zero (eqb-false _ _ f)) b).1 in cc)
+    by false f (Some y) b true c = absurd (let p = (d.deep (pos_of_ne-zero (eqb-false _ _ f)) y b (eqb-true _ _ c)).0 in cc)
+    by false f (Some y) b false c =
+        let k = pos_of_ne-zero (eqb-false _ _ f) in
+        let v = d.opens k y b (eqb-false _ _ c) in
+        record { some_fuel = k; found = (let p = v.0 in cc); shallow = eqb-false _ _ c; counted = (let p = v.0 in cc); kept = v.1 }
 
-      by : (spent : Bool) → eqb s.fuel 0 ≡ spent → (found : Bool) → q.found ≡ found → (deep : Bool) → eqb depth 12 ≡ deep → EntersCall q depth s o.first a o₁
-      by true f b _ _ _ = left (d.spent (eqb-true _ _ f)).0 refl
-      by false f false b _ _ = left refl (wrote_left ((d.writes (pos_of_ne-zero (eqb-false _ _ f)) b).writes o.second sound.second))
-      by false f true b true c = left (d.deep (pos_of_ne-zero (eqb-false _ _ f)) b (eqb-true _ _ c)).0 refl
-      by false f true b false c =
-          let k = pos_of_ne-zero (eqb-false _ _ f) in
-          let r = d.opens k b (eqb-false _ _ c) in
-          record { some_fuel = k; found = b; shallow = eqb-false _ _ c; counted = ap (λ (x : Answer). x.state) r.0; kept = r.1 }
-
-module _ {text : Bytes} {depth : ℕ} {s : State} {o : Outputs} {w : Bytes} {q : Choice} {a : Answer} {o₁ : Bytes} (sound : Sound text s o w) (k : EntersCall q depth s o.first a o₁) where
+module _ {text : Bytes} {depth : ℕ} {s : State} {o : Outputs} {w : Bytes} {c : Option Reading} {x : Reading} {v : State} {o₁ : Bytes} (sound : Sound text s o w) (k : EntersCall c depth s o.first x v o₁) where
   -- the last call's number
-  pub calls_small : a.state.calls ≤ 1000000
+  pub calls_small : v.calls ≤ 1000000
   calls_small = omega (arith, sound.calls, sound.total, k.some_fuel, ap (λ (y : State). y.calls) k.counted)
 
   entered : Follows text s o (with_call (counted_event s)) o w
   entered = event_follows (s.calls + 1) (omega arith) sound k.some_fuel
 
-  module _ {u : State} (eu : u ≡ with_call a.state) where
+  module _ {u : State} (eu : u ≡ with_call v) where
     called : u ≡ with_call (counted_event s)
     called = eu ∙ ap with_call k.counted
 
@@ -167,32 +175,32 @@ module _ {text : Bytes} {depth : ℕ} {s : State} {o : Outputs} {w : Bytes} {q :
     called_less = omega (arith, k.some_fuel, ap (λ (y : State). y.fuel) called)
 
     -- with the line counted
-    pub called_counts : {cs cs₁ : List ℕ} → Counts cs s.fuel → CountsDecided q s.fuel cs cs₁ → Counts cs₁ u.fuel
+    pub called_counts : {cs cs₁ : List ℕ} → Counts cs s.fuel → CountsDecided c s.fuel cs cs₁ → Counts cs₁ u.fuel
     called_counts kept z = rw called (decided_counts z k.some_fuel kept)
 
-    module _ {m : Marks} {row : List Node} {count : ℕ} {bodies : List ℕ} (line : Bytes) (n : ℕ) {c : Call} (g : Chooses m row count (take n line) q) (h : Opened bodies line n q u.calls c) where
+    module _ {m : Marks} {row : List Node} {count : ℕ} {bodies : List ℕ} {line : Bytes} {q : Choice} {call : Call} (g : Chooses m row count line q) (found : q.reading ≡ Some x) (h : Opened bodies line x u.calls call) where
       -- the call that is opened
-      pub called_begun : Prepared m text row count bodies → Begun m text c
+      pub called_begun : Prepared m text row count bodies → Begun m text call
       called_begun p =
-          let r = reading_calls line n g k.found h text p.table p.book in
+          let r = reading_calls g found h text p.table p.book in
           record { number = omega (arith, r.same, k.some_fuel, ap (λ (y : State). y.calls) called, sound.calls, sound.total); next = r.within; nested = r.nested }
 
       -- what comes of it
-      pub offer_enters : {cs cs₁ : List ℕ} {r : Answer} {o' : Outputs} {w' : Bytes} {cs' : List ℕ} → depth ≤ 12 → CountsDecided q s.fuel cs cs₁
-          → Meets m text row count bodies none (opened_of m text c ∷ []) depth u (outputs o₁ o.second) w cs₁ r o' w' cs'
-          → Meets m text row count bodies (some (take n line)) [] depth s o w cs r o' w' cs'
+      pub offer_enters : {cs cs₁ : List ℕ} {r : Answer} {o' : Outputs} {w' : Bytes} {cs' : List ℕ} → depth ≤ 12 → CountsDecided q.reading s.fuel cs cs₁
+          → Meets m text row count bodies none (opened_of m text call ∷ []) depth u (outputs o₁ o.second) w cs₁ r o' w' cs'
+          → Meets m text row count bodies (some line) [] depth s o w cs r o' w' cs'
       offer_enters {cs} {cs₁} {r} {o'} {w'} {cs'} few d p =
-          let x : Meets m text row count bodies none (opened_of m text c ∷ []) depth (with_call (counted_event s)) o w cs₁ r o' w' cs' = rw (called, k.kept) at p in
+          let x : Meets m text row count bodies none (opened_of m text call ∷ []) depth (with_call (counted_event s)) o w cs₁ r o' w' cs' = rw (called, k.kept) at p in
           record {
             follows = follows_trans entered x.follows;
             counted = x.counted;
             left = x.left;
             same = λ t b fs i nums bytes built.
-                let v = g.call k.found (templates t.macros) b.fits in
-                let z = reading_calls line n g k.found h text t b in
-                enters (rooms_of o) m text t (tally_in t cs) s o w b.marks k.some_fuel (take n line) fs z.reading z.is (lt-leb 12 (length fs) (omega (arith, few, k.shallow, i)))
+                let v = found_call g found (templates t.macros) b.fits in
+                let z = reading_calls g found h text t b in
+                enters (rooms_of o) m text t (tally_in t cs) s o w b.marks k.some_fuel line fs z.reading z.is (lt-leb 12 (length fs) (omega (arith, few, k.shallow, i)))
                 ∙ ap (λ (y : Tally). comes_to (s.fuel - 1) (rooms_of o) t (running (state_of text none (opened (s.calls + 1) (get_or t.macros z.reading.which no_macro) z.reading.pieces ∷ fs) y (with_call (counted_event s)) o w)))
-                (sym (chosen_tally d k.some_fuel b k.found v z.reading z.is))
+                (sym (chosen_tally d k.some_fuel b found v z.reading z.is))
                 ∙ ap (λ (f : Frame). comes_to (s.fuel - 1) (rooms_of o) t (running (state_of text none (f ∷ fs) (tally_in t cs₁) (with_call (counted_event s)) o w)))
                 (ap (λ (j : ℕ). opened j (get_or t.macros z.reading.which no_macro) z.reading.pieces) (sym (ap (λ (y : State). y.calls) called)) ∙ sym z.frame)
                 ∙ x.same t b fs i nums bytes built;
@@ -202,7 +210,7 @@ module _ {text : Bytes} {depth : ℕ} {s : State} {o : Outputs} {w : Bytes} {q :
 
 module _ {m : Marks} {text : Bytes} {c : Laid} {s : State} {o : Outputs} {w b : Bytes} {q : Answer} {nums : List ℕ} {bytes : Bytes} {o₁ : Outputs} {w₁ : Bytes} (steps : Steps m text c s o w b q nums bytes o₁ w₁) where
   -- it offers nothing
-  pub advance_takes : {row : List Node} {count : ℕ} {bodies : List ℕ} {depth : ℕ} {cs : List ℕ} → Counts cs s.fuel → is_offer (turn q) ≡ false
+  pub advance_takes : {row : List Node} {count : ℕ} {bodies : List ℕ} {depth : ℕ} {cs : List ℕ} → Counts cs s.fuel → is_offer q.turn ≡ false
       → Advances m text row count bodies c depth s o w cs q nums bytes o₁ w₁ cs
   advance_takes {cs = cs} kept e = record {
     follows = steps.follows;
@@ -213,19 +221,19 @@ module _ {m : Marks} {text : Bytes} {c : Laid} {s : State} {o : Outputs} {w b : 
     same = λ t k fs n line. steps.same t k.marks fs (tally_in t cs) ∙ ap (comes_to q.state.fuel (rooms_of o) t) (unoffered_same m text q fs (tally_in t cs) nums bytes b o₁ w₁ e line);
   }
 
-  module _ (e : is_offer (turn q) ≡ true) where
+  module _ (e : is_offer q.turn ≡ true) where
     stays : Open m text (laid q.call nums bytes)
-    stays = steps.stays (offer_open (turn q) e)
+    stays = steps.stays (offer_open q.turn e)
 
     pub offer_less : q.state.fuel < s.fuel
-    offer_less = steps.less (offer_open (turn q) e)
+    offer_less = steps.less (offer_open q.turn e)
 
     pub offer_placed : q.call.next ≤ length text
     offer_placed = stays.placed.next
 
     -- the line that it builds is offered
-    pub advance_offers : {row : List Node} {count : ℕ} {bodies : List ℕ} {depth n : ℕ} {cs : List ℕ} {r a : Answer} {o₂ : Outputs} {w₂ : Bytes} {cs₂ : List ℕ} → n ≡ offered_length (turn q)
-        → Meets m text row count bodies (some (take n b)) [] (depth + 1) q.state o₁ w₁ cs r o₂ w₂ cs₂ → LandsAnswer m text q.call r a
+    pub advance_offers : {row : List Node} {count : ℕ} {bodies : List ℕ} {depth n : ℕ} {cs : List ℕ} {r a : Answer} {o₂ : Outputs} {w₂ : Bytes} {cs₂ : List ℕ} → n ≡ offered_length q.turn
+        → Meets m text row count bodies (some (part b 0 n)) [] (depth + 1) q.state o₁ w₁ cs r o₂ w₂ cs₂ → LandsAnswer m text q.call r a
         → Advances m text row count bodies c depth s o w cs a nums bytes o₂ w₂ cs₂
     advance_offers {depth = depth} {n} {cs} {r} {a} {o₂} {w₂} {cs₂} en p k =
         let f = frame_of m text (laid q.call nums bytes) in
@@ -240,8 +248,8 @@ module _ {m : Marks} {text : Bytes} {c : Laid} {s : State} {o : Outputs} {w b : 
           stays = λ g. record { placed = k.placed p.left g nums bytes stays.placed; nested = next-nested m text a [] y nums bytes [] o₂ w₂ ok g };
           same = λ t b' fs i line. steps.same t b'.marks fs (tally_in t cs)
               ∙ ap (comes_to q.state.fuel (rooms_of o) t) (next_offers m text q fs (tally_in t cs) nums bytes b o₁ w₁ e)
-              ∙ ap (λ (j : ℕ). comes_to q.state.fuel (rooms_of o) t (running (state_of text (some (take j b)) (f ∷ fs) (tally_in t cs) q.state o₁ w₁))) (sym en)
-              ∙ subst (λ (room : Rooms). comes_to q.state.fuel room t (running (state_of text (some (take n b)) (f ∷ fs) (tally_in t cs) q.state o₁ w₁))
+              ∙ ap (λ (l : Bytes). comes_to q.state.fuel (rooms_of o) t (running (state_of text (some l) (f ∷ fs) (tally_in t cs) q.state o₁ w₁))) (ap (λ (j : ℕ). take j b) (sym en) ∙ sym (part_front b n))
+              ∙ subst (λ (room : Rooms). comes_to q.state.fuel room t (running (state_of text (some (part b 0 n)) (f ∷ fs) (tally_in t cs) q.state o₁ w₁))
               ≡ comes_to r.state.fuel room t (next_of m text (f ∷ fs) (tally_in t cs₂) r nums bytes line o₂ w₂))
               (rooms_kept steps.follows.extends) (p.same t b' (f ∷ fs) (ap suc i ∙ sym (add-one depth)) nums bytes line)
               ∙ (λ j. comes_to (sym k.state j).fuel (rooms_of o) t (k.same p.left fs (tally_in t cs₂) nums bytes line o₂ w₂ j));
@@ -280,7 +288,7 @@ module _ {m : Marks} {text : Bytes} {row : List Node} {count : ℕ} {bodies : Li
         (rooms_kept i.follows.extends) (h.same t b fs n line)
 
     -- the call is left, or the run has ended
-    pub body_left : is_left (turn a) ≡ true → Meets m text row count bodies none (f₀ ∷ []) depth s₀ o₀ w₀ cs₀ a o' w' cs'
+    pub body_left : is_left a.turn ≡ true → Meets m text row count bodies none (f₀ ∷ []) depth s₀ o₀ w₀ cs₀ a o' w' cs'
     body_left e = record {
       follows = follows_trans i.follows h.follows;
       counted = h.counted;
@@ -289,7 +297,7 @@ module _ {m : Marks} {text : Bytes} {row : List Node} {count : ℕ} {bodies : Li
     }
 
     -- the call goes on
-    pub running_on : is_left (turn a) ≡ false → Running m text row count bodies depth f₀ s₀ o₀ w₀ cs₀ (laid a.call nums bytes) a.state o' w' cs'
+    pub running_on : is_left a.turn ≡ false → Running m text row count bodies depth f₀ s₀ o₀ w₀ cs₀ (laid a.call nums bytes) a.state o' w' cs'
     running_on e = record {
       follows = follows_trans i.follows h.follows;
       counted = h.counted;

@@ -12,7 +12,7 @@ use Rattle.state.specs.declared.State.{State}
 use Rattle.state.specs.State.{state_of}
 use Rattle.call.specs.Call.{Laid, laid, frame_of}
 use Rattle.answer.specs.declared.Answer.{Answer}
-use Rattle.answer.specs.Answers.{turn, is_left, is_offer, next_of, rooms_of, comes_to}
+use Rattle.answer.specs.Answers.{is_left, is_offer, next_of, rooms_of, comes_to}
 use Rattle.answer.specs.Kept.{Open, Follows}
 use Rattle.usage.specs.Counts.{Counts}
 use Rattle.matching.specs.Book.{Book, tally_in}
@@ -23,7 +23,7 @@ pub record Meets (m : Marks) (text : Bytes) (row : List Node) (count : ℕ) (bod
     (s : State) (o : Outputs) (memory : Bytes) (counts : List ℕ) (r : Answer) (o' : Outputs) (memory' : Bytes) (counts' : List ℕ) : Type 0 where
   pub follows : Follows text s o r.state o' memory'
   pub counted : Counts counts' r.state.fuel
-  pub left : is_left (turn r) ≡ true
+  pub left : is_left r.turn ≡ true
   pub same : (t : Loaded) → Book m text row count bodies t → (fs : List Frame) → length fs ≡ depth → (nums : List ℕ) (bytes line : Bytes)
       → comes_to s.fuel (rooms_of o) t (running (state_of text pending (own ++ fs) (tally_in t counts) s o memory))
       ≡ comes_to r.state.fuel (rooms_of o) t (next_of m text fs (tally_in t counts') r nums bytes line o' memory')
@@ -34,9 +34,9 @@ pub record Advances (m : Marks) (text : Bytes) (row : List Node) (count : ℕ) (
     (s : State) (o : Outputs) (memory : Bytes) (counts : List ℕ) (a : Answer) (nums : List ℕ) (bytes : Bytes) (o' : Outputs) (memory' : Bytes) (counts' : List ℕ) : Type 0 where
   pub follows : Follows text s o a.state o' memory'
   pub counted : Counts counts' a.state.fuel
-  pub settled : is_offer (turn a) ≡ false
-  pub less : is_left (turn a) ≡ false → a.state.fuel < s.fuel
-  pub stays : is_left (turn a) ≡ false → Open m text (laid a.call nums bytes)
+  pub settled : is_offer a.turn ≡ false
+  pub less : is_left a.turn ≡ false → a.state.fuel < s.fuel
+  pub stays : is_left a.turn ≡ false → Open m text (laid a.call nums bytes)
   pub same : (t : Loaded) → Book m text row count bodies t → (fs : List Frame) → length fs ≡ depth → (line : Bytes)
       → comes_to s.fuel (rooms_of o) t (running (state_of text none (frame_of m text c ∷ fs) (tally_in t counts) s o memory))
       ≡ comes_to a.state.fuel (rooms_of o) t (next_of m text fs (tally_in t counts') a nums bytes line o' memory')

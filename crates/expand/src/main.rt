@@ -52,7 +52,7 @@ fn write_second<F: Write + Drop>(
     write_target(styles, shown)
 }
 
-// Its usage report.
+// Its usage report. The two stay apart: each requires something else of what it writes.
 fn write_report<F: Write + Drop>(
     text: &[u8],
     room: usize,

@@ -2,6 +2,8 @@
 use mathlib.Core.Path.{◌≡◌, refl, sym, ap, ◌∙◌}
 use mathlib.Core.Bool.{true, false}
 use mathlib.Core.Option.{none, some}
+use Rattle.std.specs.Prelude.{Some, None}
+use Rattle.faults.specs.declared.RunFault.TheVariants.{LongInput}
 use mathlib.Core.List.{[], ◌∷◌}
 use Prim.Native.Nat.{ℕ, suc, ◌+◌}
 use native.Mathlib.Numerals.{add-one}
@@ -20,7 +22,7 @@ use Rattle.answer.specs.Answers.{ends_with, comes_to, result_after}
 
 module _ (room : Rooms) (m : Marks) (text : Bytes) (t : Loaded) (y : Tally) (s : State) (o : Outputs) (w : Bytes) where
   -- no line is left
-  pub input_over : lines (drop s.at text) ≡ [] → comes_to s.fuel room t (running (state_of text none [] y s o w)) ≡ result_after t y (ends_with 0 s) o w
+  pub input_over : lines (drop s.at text) ≡ [] → comes_to s.fuel room t (running (state_of text none [] y s o w)) ≡ result_after t y (ends_with None s) o w
   unfolding outcome Machine.result_of state_with
   input_over e = ap (outcome t) (Steps.input_done s.fuel room t (state_of text none [] y s o w) refl refl e)
 
@@ -43,7 +45,7 @@ module _ (room : Rooms) (m : Marks) (text : Bytes) (t : Loaded) (y : Tally) (s :
         ∙ ap (λ (x : Machine.State). comes_to s.fuel room t (running x)) reading_is
 
     -- it is too long
-    pub input_long : leb (length c) 200 ≡ false → comes_to s.fuel room t (running (state_of text none [] y s o w)) ≡ result_after t y (ends_with 11 (with_input s at (s.line + 1))) o w
+    pub input_long : leb (length c) 200 ≡ false → comes_to s.fuel room t (running (state_of text none [] y s o w)) ≡ result_after t y (ends_with (Some LongInput) (with_input s at (s.line + 1))) o w
     unfolding outcome Machine.result_of
     input_long b =
         ap (outcome t) (Steps.input_long s.fuel room t (state_of text none [] y s o w) l (lines (drop at text)) refl refl e (measure_is ∙ b))

@@ -2,12 +2,13 @@
 use mathlib.Core.Path.{◌≡◌, refl, sym, ap, ◌∙◌, subst}
 use mathlib.Core.Bool.{true, false}
 use mathlib.Core.Option.{none, some}
+use Rattle.std.specs.Prelude.{Some, None}
+use Rattle.faults.specs.declared.RunFault.TheVariants.{LongInput}
 use mathlib.Core.List.{List, []}
 use Prim.Native.Nat.{ℕ, ◌+◌, ◌-◌, ◌≤◌, ◌<◌}
 use native.Mathlib.Omega.{arith}
 use borrow.Author.Tests.{le-leb, lt-leb}
-use lib.ListN.{length, take, drop, length-drop, drop_of_length-le}
-use lib.Seq.{length-take-le}
+use lib.ListN.{length, drop, drop_of_length-le}
 use Rattle.model.specs.declared.Marks.{Marks}
 use Rattle.model.specs.Text.{Bytes, part, lines}
 use Rattle.model.specs.Load.{Loaded}
@@ -17,21 +18,15 @@ use Rattle.nodes.specs.declared.Node.{Node}
 use Rattle.state.specs.declared.State.{State}
 use Rattle.state.specs.State.{shared_of, state_of, Sound, with_input}
 use Rattle.answer.specs.declared.Answer.{Answer}
-use Rattle.answer.specs.Answers.{turn, ends_with, is_end, lines_back, settle, next_of, rooms_of, comes_to}
+use Rattle.answer.specs.Answers.{ends_with, is_end, lines_back, settle, next_of, rooms_of, comes_to}
 use Rattle.answer.specs.Kept.{ExtendsBoth}
 use Rattle.answer.proofs.Following.{both_none, extends_more, rooms_kept}
 use Rattle.answer.proofs.Expansion.{next_back, next_ends}
 use Rattle.usage.specs.Counts.{Counts}
 use Rattle.matching.specs.Book.{Book, tally_in}
 use Rattle.cycle_laws.specs.Meets.{Meets}
-use Rattle.input.specs.Expands.{TakesContent, DropsLines, Expands}
+use Rattle.input.specs.Expands.{DropsLines, Expands}
 use Rattle.input.proofs.Reading.{input_over, input_read, input_long}
-
--- a line that is taken is offered
-pub offers_content : {m : Marks} {text : Bytes} {row : List Node} {count : ℕ} {bodies : List ℕ} {at end : ℕ} {line : Bytes} {s : State} {o : Outputs} {w : Bytes} {cs : List ℕ} {r : Answer} {o' : Outputs} {w' : Bytes} {cs' : List ℕ}
-    → TakesContent text at end line → Meets m text row count bodies (some (take (end - at) line)) [] 0 s o w cs r o' w' cs' → Meets m text row count bodies (some (part text at end)) [] 0 s o w cs r o' w' cs'
-offers_content {m} {text} {row} {count} {bodies} {s = s} {o = o} {w = w} {cs = cs} {r = r} {o' = o'} {w' = w'} {cs' = cs'} t h =
-    subst (λ (l : Bytes). Meets m text row count bodies (some l) [] 0 s o w cs r o' w' cs') t.is h
 
 -- what the expansion comes to from s₀ on, it comes to from s on
 pub record Expanding (m : Marks) (text : Bytes) (row : List Node) (count : ℕ) (bodies : List ℕ) (s₀ : State) (o₀ : Outputs) (w₀ : Bytes) (cs₀ : List ℕ)
@@ -66,7 +61,7 @@ read_sound h c e = rw e (moved_sound h c.within (omega (arith, c.ahead)))
 module _ {m : Marks} {text : Bytes} {row : List Node} {count : ℕ} {bodies : List ℕ} {s₀ : State} {o₀ : Outputs} {w₀ : Bytes} {cs₀ : List ℕ} {s : State} {o : Outputs} {w : Bytes} {cs : List ℕ}
     (i : Expanding m text row count bodies s₀ o₀ w₀ cs₀ s o w cs) where
   -- no input is left
-  pub expands_over : {r : Answer} → length text ≤ s.at → r ≡ ends_with 0 s → Expands m text row count bodies s₀ o₀ w₀ cs₀ r o w cs
+  pub expands_over : {r : Answer} → length text ≤ s.at → r ≡ ends_with None s → Expands m text row count bodies s₀ o₀ w₀ cs₀ r o w cs
   unfolding lines
   expands_over h er = subst (λ (y : Answer). Expands m text row count bodies s₀ o₀ w₀ cs₀ y o w cs) (sym er) record {
     sound = i.sound;
@@ -76,29 +71,24 @@ module _ {m : Marks} {text : Bytes} {row : List Node} {count : ℕ} {bodies : Li
   }
 
   module _ {end next : ℕ} {x : State} (content : ContentAt text m.source s.at end next) (ex : x ≡ with_input s next (s.line + 1)) where
-    content_long : length (part text s.at end) ≡ end - s.at
-    content_long =
-        let d = length-drop s.at text in
-        length-take-le (end - s.at) (drop s.at text) (omega (arith, content.high, content.within))
-
     -- the line's content has over 200 bytes
-    pub expands_long : {r : Answer} → 200 < end - s.at → r ≡ ends_with 11 x → Expands m text row count bodies s₀ o₀ w₀ cs₀ r o w cs
-    expands_long h er = subst (λ (y : Answer). Expands m text row count bodies s₀ o₀ w₀ cs₀ y o w cs) (sym (er ∙ ap (ends_with 11) ex)) record {
+    pub expands_long : {r : Answer} → 200 < length (part text s.at end) → r ≡ ends_with (Some LongInput) x → Expands m text row count bodies s₀ o₀ w₀ cs₀ r o w cs
+    expands_long h er = subst (λ (y : Answer). Expands m text row count bodies s₀ o₀ w₀ cs₀ y o w cs) (sym (er ∙ ap (ends_with (Some LongInput)) ex)) record {
       sound = read_sound i.sound content refl;
       counted = i.counted;
       extends = record { first = i.extends.first; second = i.extends.second };
       same = λ t b. i.same t b
-          ∙ input_long (rooms_of o₀) m text t (tally_in t cs) s o w b.marks (line_at text s.at) (part text s.at end) next content.is content.content (lt-leb (length (part text s.at end)) 200 (omega (arith, content_long)));
+          ∙ input_long (rooms_of o₀) m text t (tally_in t cs) s o w b.marks (line_at text s.at) (part text s.at end) next content.is content.content (lt-leb (length (part text s.at end)) 200 h);
     }
 
-    module _ {r : Answer} {o' : Outputs} {w' : Bytes} {cs' : List ℕ} (short : end - s.at ≤ 200) (h : Meets m text row count bodies (some (part text s.at end)) [] 0 x o w cs r o' w' cs') where
+    module _ {r : Answer} {o' : Outputs} {w' : Bytes} {cs' : List ℕ} (short : length (part text s.at end) ≤ 200) (h : Meets m text row count bodies (some (part text s.at end)) [] 0 x o w cs r o' w' cs') where
       k : Meets m text row count bodies (some (part text s.at end)) [] 0 (with_input s next (s.line + 1)) o w cs r o' w' cs'
       k = subst (λ (y : State). Meets m text row count bodies (some (part text s.at end)) [] 0 y o w cs r o' w' cs') ex h
 
       line_same : (t : Loaded) → Book m text row count bodies t
           → comes_to s₀.fuel (rooms_of o₀) t (running (state_of text none [] (tally_in t cs₀) s₀ o₀ w₀)) ≡ comes_to r.state.fuel (rooms_of o₀) t (next_of m text [] (tally_in t cs') r [] [] [] o' w')
       line_same t b = i.same t b
-          ∙ input_read (rooms_of o₀) m text t (tally_in t cs) s o w b.marks (line_at text s.at) (part text s.at end) next content.is content.content (le-leb (length (part text s.at end)) 200 (omega (arith, content_long)))
+          ∙ input_read (rooms_of o₀) m text t (tally_in t cs) s o w b.marks (line_at text s.at) (part text s.at end) next content.is content.content (le-leb (length (part text s.at end)) 200 short)
           ∙ subst (λ (room : Rooms). comes_to s.fuel room t (running (state_of text (some (part text s.at end)) [] (tally_in t cs) (with_input s next (s.line + 1)) o w))
           ≡ comes_to r.state.fuel room t (next_of m text [] (tally_in t cs') r [] [] [] o' w'))
           (rooms_kept i.extends) (k.same t b [] refl [] [] [])
@@ -108,7 +98,7 @@ module _ {m : Marks} {text : Bytes} {row : List Node} {count : ℕ} {bodies : Li
       written_on at line = record { first = extends_more i.extends.first k.follows.extends.first; second = extends_more i.extends.second k.follows.extends.second }
 
       -- the run has ended with this line
-      pub expands_ended : is_end (turn r) ≡ true → Expands m text row count bodies s₀ o₀ w₀ cs₀ r o' w' cs'
+      pub expands_ended : is_end r.turn ≡ true → Expands m text row count bodies s₀ o₀ w₀ cs₀ r o' w' cs'
       expands_ended e = record {
         sound = k.follows.sound;
         counted = k.counted;
@@ -116,15 +106,15 @@ module _ {m : Marks} {text : Bytes} {row : List Node} {count : ℕ} {bodies : Li
         same = λ t b. line_same t b ∙ next_ends m text r [] (tally_in t cs') [] [] [] o' w' e r.state.fuel (rooms_of o₀) t;
       }
 
-      module _ {n : ℕ} {z : State} (en : n ≡ lines_back (turn r)) (d : DropsLines text n r.state z) where
-        drops : DropsLines text (lines_back (turn r)) r.state z
+      module _ {n : ℕ} {z : State} (en : n ≡ lines_back r.turn) (d : DropsLines text n r.state z) where
+        drops : DropsLines text (lines_back r.turn) r.state z
         drops = subst (λ (j : ℕ). DropsLines text j r.state z) en d
 
         pub input_less : length text - z.at < length text - s.at
         input_less = omega (arith, k.follows.from, content.ahead, content.within, drops.from)
 
         -- the run goes on in the input
-        pub expanding_on : is_end (turn r) ≡ false → Expanding m text row count bodies s₀ o₀ w₀ cs₀ z o' w' cs'
+        pub expanding_on : is_end r.turn ≡ false → Expanding m text row count bodies s₀ o₀ w₀ cs₀ z o' w' cs'
         unfolding settle skip_in
         expanding_on e =
             let u = with_input r.state z.at z.line in

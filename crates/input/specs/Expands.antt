@@ -14,10 +14,6 @@ use Rattle.answer.specs.Kept.{ExtendsBoth}
 use Rattle.usage.specs.Counts.{Counts}
 use Rattle.matching.specs.Book.{Book, tally_in}
 
--- the content text[at..end] is at the front of the line
-pub record TakesContent (text : Bytes) (at end : ℕ) (line : Bytes) : Type 0 where
-  pub is : take (end - at) line ≡ part text at end
-
 -- n input lines are dropped, or all that are left
 pub record DropsLines (text : Bytes) (n : ℕ) (s s' : State) : Type 0 where
   pub is : s' ≡ with_input s s'.at s'.line

@@ -16,7 +16,7 @@ use macros::Table;
 use model::Marks;
 use scan::{Line, begins_with, read_line};
 
-// Line n, text[at..end], after which the next one starts at `next`.
+// Line n, which starts at a place: a template's, or one of a macro's body.
 fn see_line(
     m: Marks,
     text: &[u8],
@@ -56,7 +56,7 @@ fn refuse_at(text: &[u8], next: usize, fault: LoadFault, n: usize) -> Refused
     }
 }
 
-// Line n, which starts at a place.
+// The same, with the line of its fault.
 fn load_line(
     m: Marks,
     text: &[u8],
@@ -76,7 +76,12 @@ fn load_line(
 }
 
 // The macros from the text's second line on, which starts at `first`, up to the section's end.
-pub fn load_section(m: Marks, text: &[u8], table: &mut Table, first: usize) -> Result<Loaded, Refused>
+pub fn load_section(
+    m: Marks,
+    text: &[u8],
+    table: &mut Table,
+    first: usize,
+) -> Result<Loaded, Refused>
     requires { SectionAt text.now first }
     ensures { Loads (load_from m none_read 1 (lines (drop first text.now))) text.now table.new result }
 {
@@ -85,6 +90,7 @@ pub fn load_section(m: Marks, text: &[u8], table: &mut Table, first: usize) -> R
         ..Progress::default()
     };
     let mut n = 1;
+    // no range: where the next line starts is what read_line says
     let mut at = first;
     while at < text.len() {
         let line = read_line(text, at);

@@ -20,7 +20,7 @@ struct Weighed {
     place: usize,
 }
 
-// How many bytes are b.
+// How many of the bytes are b.
 fn count_byte(s: &[u8], b: u8) -> usize
     ensures { result ≡ count_by (λ x. x == b) s.now }
 {
@@ -45,8 +45,8 @@ fn weigh_template(
     if PLACEHOLDERS_MOST < count_byte(template, m.placeholder) {
         return Err(LoadFault::ManyPlaceholders);
     }
-    let found = find_place(m.placeholder, text, table, p.count, template)
-        .ok_or(LoadFault::MetTemplate)?;
+    let place = find_place(m.placeholder, text, table, p.count, template);
+    let found = place.ok_or(LoadFault::MetTemplate)?;
     if MACROS_MOST <= p.count || NODES_MOST - p.nodes < found.new {
         return Err(LoadFault::OverLimit);
     }

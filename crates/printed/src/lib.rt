@@ -70,7 +70,8 @@ fn run_text(text: &[u8], out: &mut [u8], second: &mut [u8], report: &mut [u8]) -
     )
 }
 
-// How many bytes expand prints, how many it writes to channel 4's file, and how many to the report's.
+// How many bytes expand prints, how many it writes to channel 4's file, and how many to the report's. These are counts and no slices, since
+// what is promised of each room speaks of all of it, also of what is behind them.
 #[derive(Clone, Copy)]
 pub struct Shown {
     pub printed: usize,
@@ -145,7 +146,7 @@ fn add_fitted(out: &mut [u8], at: usize, f: Fitted) -> usize
     add_counts(out, counts, f.places, f.bytes)
 }
 
-// What fit_line prints for a text and a file of lines.
+// What fit_line prints for a text and a file of lines. The loop stays a while: it goes from line to line, and counts no index.
 pub fn print_fits(text: &[u8], file: &[u8], out: &mut [u8]) -> usize
     requires { 51 * (length file.now + 1) ≤ length out.old }
     ensures { Prints out.old 0 (fit_prints text.now file.now) result out.new }

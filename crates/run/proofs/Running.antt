@@ -38,7 +38,7 @@ use Rattle.matching.specs.Book.{tally_in}
 use Rattle.prepare.specs.declared.Prepared.{Prepared}
 use Rattle.prepare.specs.Prepares.{IsPrepared, Prepares}
 use Rattle.answer.specs.declared.Answer.{Answer}
-use Rattle.answer.specs.Answers.{turn, end_number, result_after}
+use Rattle.answer.specs.Answers.{end_number, result_after}
 use Rattle.answer.specs.Kept.{Extends}
 use Rattle.input.specs.Expands.{Expands}
 use Rattle.model.specs.Runs.{Runs}
@@ -114,7 +114,7 @@ ready {text} {row} {t} p b =
 -- ---- the expansion of a text that is ready
 
 -- the answer, once memory is listed
-pub ended_as : {q : Answer} {reported : ℕ} {memory store store' : Bytes} {a b c d e f g k n : ℕ} → Lists memory q.state.index store n store' → k ≡ end_number (turn q) → a ≡ k
+pub ended_as : {q : Answer} {reported : ℕ} {memory store store' : Bytes} {a b c d e f g k n : ℕ} → Lists memory q.state.index store n store' → k ≡ end_number q.turn → a ≡ k
     → b ≡ q.state.line → c ≡ q.state.events → d ≡ q.state.written → f ≡ q.state.second → e ≡ n → g ≡ reported
     → EndsRun q reported memory store (record { number = a; line = b; events = c; output = d; second = f; store = e; report = g }) store'
 ended_as {q} {memory = memory} {store} {store'} {e = e} h z u v w x s y p =
@@ -207,7 +207,7 @@ module _ {text : Bytes} {row : List Node} {bodies : List ℕ} {t : Prepared} (y 
           let b = whole_report p in
           same_runs whole (record {
             is = d.is ∙ (λ i. record {
-              number = end_number (turn q);
+              number = end_number q.turn;
               line = q.state.line;
               events = q.state.events;
               output = sym w i;

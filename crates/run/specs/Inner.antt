@@ -16,7 +16,7 @@ use Rattle.load.specs.Answer.{loaded_of}
 use Rattle.prepare.specs.declared.Prepared.{Prepared}
 use Rattle.matching.specs.Book.{Book}
 use Rattle.answer.specs.declared.Answer.{Answer}
-use Rattle.answer.specs.Answers.{turn, end_number}
+use Rattle.answer.specs.Answers.{end_number}
 
 -- a text is loaded into t: the tree of its templates stands in the row, and `bodies` says where their bodies start
 pub record ReadyToRun (text : Bytes) (row : List Node) (bodies : List ℕ) (t : Prepared) : Type 0 where
@@ -34,7 +34,7 @@ start_of r x fuel = record { at = r.input; line = r.line; calls = 0; symbols = 0
 -- r is the answer of a run that ended with q, with a report of so many bytes, and what memory holds is listed in the store
 pub record EndsRun (q : Answer) (reported : ℕ) (memory store : Bytes) (r : Ran) (store' : Bytes) : Type 0 where
   pub is : r ≡ record {
-    number = end_number (turn q);
+    number = end_number q.turn;
     line = q.state.line;
     events = q.state.events;
     output = q.state.written;

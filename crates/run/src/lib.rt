@@ -16,8 +16,7 @@ ghost use Rattle.usage.specs.Counts.{ReadyToReport, PrintsReport};
 ghost use Rattle.run.specs.Inner.{ReadyToRun, start_of, EndsRun};
 ghost use Rattle.model.specs.Limits.{store_least, dead_least, report_least, fuel_most};
 
-use answer::{Answer, end_number};
-use buffer::widen;
+use answer::Answer;
 use input::expand_input;
 use load::{Loaded, Refused};
 use model::{Ran, STORE_LEAST};
@@ -32,8 +31,8 @@ pub fn refuse(number: usize, line: usize) -> Ran
     ensures { result ≡ ran_as (no_run number line) }
 {
     Ran {
-        number: widen(number),
-        line: widen(line),
+        number: number as u64,
+        line: line as u64,
         events: 0,
         output: 0,
         second: 0,
@@ -67,13 +66,13 @@ fn end(q: Answer, reported: usize, memory: &[u8], store: &mut [u8]) -> Ran
     let s = q.state;
     let n = listing(memory, s.index, store);
     Ran {
-        number: widen(end_number(q)),
-        line: widen(s.line),
-        events: widen(s.events),
-        output: widen(s.written),
-        second: widen(s.second),
-        store: widen(n),
-        report: widen(reported),
+        number: q.end_number() as u64,
+        line: s.line as u64,
+        events: s.events as u64,
+        output: s.written as u64,
+        second: s.second as u64,
+        store: n as u64,
+        report: reported as u64,
     }
 }
 

@@ -15,7 +15,8 @@ pub struct Line {
 }
 
 // The place of the first b in s[from..to], or `to` where there is none. A `for` costs nothing; std's `position` takes 4 to 14 % more in a
-// walk over lines, the more the shorter they are.
+// walk over lines, the more the shorter they are. A call for the rest of every code line would cost more than the bytes that it reads.
+#[inline(always)]
 pub fn find_byte(s: &[u8], from: usize, to: usize, b: u8) -> usize
     requires { (from ≤ to) × (to ≤ length s.now) }
     ensures { FindsByte s.now from to b result }

@@ -66,7 +66,8 @@ pub fn read_argument(argument: &[u8]) -> Argument
 
 // ---- readers and files
 
-// Reads until buf is full or the input ends, and answers how many bytes were read.
+// Reads until buf is full or the input ends, and answers how many bytes were read. The loop stays: std's read_to_end takes a Vec, and the
+// programs have no heap.
 fn fill<R: Read>(from: &mut R, buf: &mut [u8]) -> io::Result<usize>
     ensures bound { IfOk result (λ n. n ≤ length buf.new) }
     ensures bytes { IfOk result (λ n. Consumes (R.remaining from.old) (R.remaining from.new) (take n buf.new)) }

@@ -55,13 +55,7 @@ pub struct Found {
 
 // Where a template goes in the order of the first k of the table, or nothing where it is one of them. Of all of these, its neighbours there
 // have the most in common with it: the places are halved by hand, since no search of the library says how much that is.
-pub fn find_place(
-    mark: u8,
-    text: &[u8],
-    table: &Table,
-    k: usize,
-    template: &[u8],
-) -> Option<Found>
+pub fn find_place(mark: u8, text: &[u8], table: &Table, k: usize, template: &[u8]) -> Option<Found>
     requires { Entries text.now table.now k × InOrder mark (templates_in text.now table.now k) (order_in table.now) }
     ensures { FindsPlace mark (templates_in text.now table.now k) (order_in table.now) template.now result }
 {
@@ -124,6 +118,7 @@ pub fn take_run(
     let key = key_in_order(mark, text, table, n, from, d);
     let mut template = table.macro_at(from);
     let mut end = from + 1;
+    // no range: it stops at the first other key, and the run's end is what is asked for
     while end < to && key_in_order(mark, text, table, n, end, d) == key {
         template = template.min(table.macro_at(end));
         end += 1;

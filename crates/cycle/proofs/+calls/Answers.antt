@@ -8,40 +8,39 @@ use Rattle.cycle.proofs.+calls.Goals as goal
 -- ---- a line is offered
 
 pub offer-count_decided-requires : goal.offer-count_decided-requires
-offer-count_decided-requires t c = (c.requires.6, choice_below c.requires.0 c.first_reading-found.ensures)
+offer-count_decided-requires t c = (c.requires.5, choice_below c.requires.0 c.first_reading-found.ensures)
 
-pub offer-returns-then-is_left : goal.offer-returns-then-is_left
-offer-returns-then-is_left t c =
-    offer_left c.args.line.now c.args.n c.requires.1 c.requires.6 c.first_reading-found.ensures c.count_decided.ensures c.decide-a.ensures (sym c.is_left.ensures ∙ c.if-is_left.true)
+pub offer-returns-in-Ends : goal.offer-returns-in-Ends
+offer-returns-in-Ends t c = offer_left c.requires.1 c.requires.5 c.first_reading-found.ensures c.count_decided.ensures c.decide.ensures c.in-Ends.is
 
-pub offer-count_call-called-requires : goal.offer-count_call-called-requires
-offer-count_call-called-requires t c = calls_small c.requires.1 (offer_opens c.requires.1 c.decide-a.ensures (sym c.is_left.ensures ∙ c.if-is_left.false))
+pub offer-add_call-called-requires : goal.offer-add_call-called-requires
+offer-add_call-called-requires t c = calls_small c.requires.1 (offer_opens c.decide.ensures c.in-Opens.is)
 
 pub offer-open_reading-call-requires : goal.offer-open_reading-call-requires
 offer-open_reading-call-requires t c =
-    let opens = offer_opens c.requires.1 c.decide-a.ensures (sym c.is_left.ensures ∙ c.if-is_left.false) in
-    choice_opening c.args.line.now c.args.n c.first_reading-found.ensures opens.found c.requires.0 c.requires.2 c.requires.3
+    let opens = offer_opens c.decide.ensures c.in-Opens.is in
+    choice_opening c.first_reading-found.ensures opens.found c.requires.0 c.requires.2
 
 pub offer-body-requires : goal.offer-body-requires
 offer-body-requires t c =
-    let opens = offer_opens c.requires.1 c.decide-a.ensures (sym c.is_left.ensures ∙ c.if-is_left.false) in
-    let called = c.count_call-called.ensures in (
+    let opens = offer_opens c.decide.ensures c.in-Opens.is in
+    let called = c.add_call-called.ensures in (
       omega (arith, called_less c.requires.1 opens called, c.decreases),
       (
         c.requires.0,
         called_sound c.requires.1 opens called,
-        called_begun c.requires.1 opens called c.args.line.now c.args.n c.first_reading-found.ensures c.open_reading-call.ensures c.requires.0,
-        omega (arith, c.requires.4, opens.shallow),
+        called_begun c.requires.1 opens called c.first_reading-found.ensures opens.found c.open_reading-call.ensures c.requires.0,
+        omega (arith, c.requires.3, opens.shallow),
         (refl, refl),
-        omega (arith, c.requires.5, c.first_reading-found.auto.dead),
-        called_counts c.requires.1 opens called c.requires.6 c.count_decided.ensures,
+        omega (arith, c.requires.4, c.first_reading-found.auto.dead),
+        called_counts c.requires.1 opens called c.requires.5 c.count_decided.ensures,
       ),
     )
 
-pub offer-returns : goal.offer-returns
-offer-returns t c =
-    let opens = offer_opens c.requires.1 c.decide-a.ensures (sym c.is_left.ensures ∙ c.if-is_left.false) in
-    offer_enters c.requires.1 opens c.count_call-called.ensures c.args.line.now c.args.n c.first_reading-found.ensures c.open_reading-call.ensures c.requires.4 c.count_decided.ensures c.body.ensures
+pub offer-returns-in-Opens : goal.offer-returns-in-Opens
+offer-returns-in-Opens t c =
+    let opens = offer_opens c.decide.ensures c.in-Opens.is in
+    offer_enters c.requires.1 opens c.add_call-called.ensures c.first_reading-found.ensures opens.found c.open_reading-call.ensures c.requires.3 c.count_decided.ensures c.body.ensures
 
 -- ---- a body
 

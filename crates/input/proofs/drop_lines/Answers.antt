@@ -2,14 +2,14 @@
 use Rattle.input.proofs.Lines.{dropping_starts, dropping_more, dropped_all, input_ends}
 use Rattle.input.proofs.drop_lines.Goals as goal
 
-pub loop-at-init : goal.loop-at-init
-loop-at-init c = dropping_starts c.requires.0
+pub loop-dropped-init : goal.loop-dropped-init
+loop-dropped-init c = dropping_starts c.requires.0
 
-pub returns-then-left-eq0 : goal.returns-then-left-eq0
-returns-then-left-eq0 c = dropped_all c.loop-at.invariant c.if-left-eq0.true c.set_input.ensures
+pub returns-then-at-text : goal.returns-then-at-text
+returns-then-at-text c = search input_ends
 
-pub loop-at-preserved : goal.loop-at-preserved
-loop-at-preserved c = dropping_more c.loop-at.invariant c.if-left-eq0.false c.read_line-l.ensures
+pub loop-dropped-preserved : goal.loop-dropped-preserved
+loop-dropped-preserved c = search dropping_more
 
 pub returns : goal.returns
-returns c = input_ends c.loop-at.invariant c.loop-at-test.false c.set_input-2.ensures
+returns c = search dropped_all

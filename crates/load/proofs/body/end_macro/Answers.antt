@@ -6,7 +6,7 @@ use Rattle.load.proofs.body.end_macro.Goals.{then-p-ne0-via-then-p-ne0, then-p-n
 
 pub returns-then-p-ne0 : goal.returns-then-p-ne0
 returns-then-p-ne0 c = elim c.then-p-ne0.branch [
-  then-p-ne0-via-then-p-ne0 w ↦ search (end-open, rules)
+  | then-p-ne0-via-then-p-ne0 w ↦ search (end-open, rules)
   | then-p-ne0-via-else-p-ne0+then-p w ↦ search (end-due, rules)
 ]
 

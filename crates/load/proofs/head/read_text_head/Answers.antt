@@ -7,7 +7,7 @@ use Rattle.load.proofs.head.read_text_head.Goals.{then-text-gt-TEXT_MOST-via-the
 
 pub returns-then-text-gt-TEXT_MOST : goal.returns-then-text-gt-TEXT_MOST
 returns-then-text-gt-TEXT_MOST c = elim c.then-text-gt-TEXT_MOST.branch [
-  then-text-gt-TEXT_MOST-via-then-text-gt-TEXT_MOST w ↦ search (head-large, rules)
+  | then-text-gt-TEXT_MOST-via-then-text-gt-TEXT_MOST w ↦ search (head-large, rules)
   | then-text-gt-TEXT_MOST-via-else-text-gt-TEXT_MOST+then-has_byte w ↦ search (head-zero, rules)
 ]
 

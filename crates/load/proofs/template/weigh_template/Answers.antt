@@ -15,17 +15,17 @@ pub returns-in_err-found : goal.returns-in_err-found
 returns-in_err-found c =
     let n = c.in_err-found.ensures.ok_part in
     rw (exit-none c.from_residual.ensures.1 c.in_err-found.ensures.value n)
-    (weighs-met (search rules) c.count_byte.ensures (search rules) (rw n at c.find_place.ensures))
+    (weighs-met (search rules) c.count_byte.ensures (search rules) (rw n at c.find_place-place.ensures))
 
 pub returns-then-p-ge-MACROS_MOST : goal.returns-then-p-ge-MACROS_MOST
 returns-then-p-ge-MACROS_MOST c =
-    let f = rw c.in_ok-found.ensures.ok_part at c.find_place.ensures in
+    let f = rw c.in_ok-found.ensures.ok_part at c.find_place-place.ensures in
     elim c.then-p-ge-MACROS_MOST.branch [
-      then-p-ge-MACROS_MOST-via-then-p-ge-MACROS_MOST w ↦ weighs-full (search rules) c.count_byte.ensures (search rules) f (search rules)
+      | then-p-ge-MACROS_MOST-via-then-p-ge-MACROS_MOST w ↦ weighs-full (search rules) c.count_byte.ensures (search rules) f (search rules)
       | then-p-ge-MACROS_MOST-via-else-p-ge-MACROS_MOST+then-p-found w ↦ weighs-many (search rules) c.count_byte.ensures (search rules) f (search rules)
     ]
 
 pub returns : goal.returns
 returns c =
-    weighs-new (search rules) c.count_byte.ensures (search rules) (rw c.in_ok-found.ensures.ok_part at c.find_place.ensures)
+    weighs-new (search rules) c.count_byte.ensures (search rules) (rw c.in_ok-found.ensures.ok_part at c.find_place-place.ensures)
     (search rules) (search rules) (search rules)
