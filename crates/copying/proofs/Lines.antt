@@ -3,9 +3,10 @@ use mathlib.Core.Path.{◌≡◌, refl, sym, ap, subst, ◌∙◌}
 use mathlib.Core.Bool.{Bool, true, false}
 use mathlib.Core.Option as Math
 use mathlib.Core.Option.{none, some}
-use Rattle.std.specs.Prelude.{Option, Some}
+use Rattle.std.specs.Prelude.{Result, Ok, Err}
 use Rattle.faults.specs.declared.RunFault.{RunFault}
 use Rattle.faults.specs.declared.RunFault.TheVariants.{LongInput}
+use Rattle.faults.specs.Numbers.{run_number}
 use mathlib.Core.List.{List, [], ◌∷◌}
 use Prim.Native.Nat.{ℕ, ◌+◌, ◌-◌, ◌≤◌, ◌<◌}
 use native.Mathlib.Omega.{arith}
@@ -20,31 +21,27 @@ use Rattle.model.specs.Machine as Machine
 use Rattle.model.specs.Machine.{Rooms, Outputs, Frame, Shared, Next, running, ended, state_with, stepped, param, wrote, past_line, is_too_long, copies, copy_lines, copy_input}
 use Rattle.model.proofs.Choices.{when_true, when_false, false-not-true}
 use Rattle.model.proofs.Copies.{copies-named, copies-nothing}
-use Rattle.model.proofs.Text.{part_length}
 use Rattle.scan.specs.Lines.{ContentAt}
 use Rattle.state.specs.declared.State.{State}
 use Rattle.state.specs.State.{shared_of, state_of, Sound, with_written, with_input}
-use Rattle.call.specs.declared.Head.{Head}
-use Rattle.call.specs.Call.{laid, frame_of, Placed}
-use Rattle.call.specs.Params.{Lies}
-use Rattle.answer.specs.declared.Answer.{Answer}
-use Rattle.answer.specs.Answers.{number_of_end, is_left, goes_further, ends_with, settle, next_at, next_of, rooms_of}
-use Rattle.answer.specs.Kept.{Stays, ExtendsBoth, Comes}
+use Rattle.call.specs.declared.Call.{Call}
+use Rattle.call.specs.Call.{frame_of, Placed}
+use Rattle.call.specs.Params.{Reads}
+use Rattle.answer.specs.Answers.{settle, next_of, rooms_of}
+use Rattle.answer.specs.Kept.{Stays, ExtendsBoth}
 use Rattle.answer.proofs.Following.{extends_none, both_none, both_more, rooms_kept, stays_same}
-use Rattle.answer.proofs.Expansion.{unoffered_short}
-use Rattle.answer.proofs.Coming.{none-placed}
 use Rattle.write.specs.Output.{has_room_on, Writes}
 use Rattle.copying.specs.Copies.{ReadyToCopy, MeasuresLong, CopiesContent, CopiesLines, CopiesInput}
 
 -- ---- one content
 
-module _ {ch : Channel} {content : Bytes} {r : Answer} {o : Outputs} {b : Bool} (m : MeasuresLong ch (length content) b) where
+module _ {ch : Channel} {content : Bytes} {s : State} {o : Outputs} {b : Bool} (m : MeasuresLong ch (length content) b) where
   -- it is too long
-  pub content_long : {a : Answer} → b ≡ true → a ≡ ends_with (Some LongInput) r.state → CopiesContent ch content r o a o
-  content_long e f = record { long = λ _. (f, refl); writes = λ g. false-not-true (sym g ∙ sym (m.is content refl) ∙ e) }
+  pub content_long : b ≡ true → CopiesContent ch content s o (Err LongInput) s o
+  content_long e = record { long = λ _. (refl, refl, refl); writes = λ g. false-not-true (sym g ∙ sym (m.is content refl) ∙ e) }
 
   -- it is written, or there is no room
-  pub content_written : {a : Answer} {o' : Outputs} → b ≡ false → Writes ch content r o a o' → CopiesContent ch content r o a o'
+  pub content_written : {r : Result Unit RunFault} {s' : State} {o' : Outputs} → b ≡ false → Writes ch content s o r s' o' → CopiesContent ch content s o r s' o'
   content_written e w = record { long = λ g. false-not-true (sym e ∙ m.is content refl ∙ g); writes = λ _. w }
 
 -- ---- how far the state has moved
@@ -58,13 +55,12 @@ pub record Moved (text : Bytes) (s : State) (o : Outputs) (st : State) (o₁ : O
   pub extends : ExtendsBoth o s o₁ st
 
 module _ {text : Bytes} {s : State} {o : Outputs} {st : State} {o₁ : Outputs} (v : Moved text s o st o₁) where
-  moved_sound : (memory : Bytes) → Sound text s o memory → Sound text st o₁ memory
-  moved_sound memory h = subst (λ (x : State). Sound text x o₁ memory) (sym v.is) (record {
+  moved_sound : Sound text s o → Sound text st o₁
+  moved_sound h = subst (λ (x : State). Sound text x o₁) (sym v.is) (record {
     within = v.within;
     lines = v.lines;
     written = omega (arith, v.extends.first.long, v.extends.first.fits);
     second = omega (arith, v.extends.second.long, v.extends.second.fits);
-    kept = h.kept;
     symbols = h.symbols;
     calls = h.calls;
     total = h.total;
@@ -101,51 +97,33 @@ module _ {text : Bytes} {s : State} {o : Outputs} {st : State} {o₁ : Outputs} 
 
 -- lines are copied up to st: what is left comes to the same
 pub record Copied (m : Marks) (text : Bytes) (ch : Channel) (name : Bytes) (s : State) (o : Outputs) (st : State) (o₁ : Outputs) : Type 0 where
-  pub same : (frames : List Frame) (y : Tally) (memory : Bytes)
-      → copy_lines m (rooms_of o) ch name (lines (drop s.at text)) (state_of text none frames y s o memory)
-      ≡ copy_lines m (rooms_of o) ch name (lines (drop st.at text)) (state_of text none frames y st o₁ memory)
+  pub same : (frames : List Frame) (y : Tally) → copy_lines m (rooms_of o) ch name (lines (drop s.at text)) (state_of text none frames y s o) ≡ copy_lines m (rooms_of o) ch name (lines (drop st.at text)) (state_of text none frames y st o₁)
   pub moved : Moved text s o st o₁
 
 -- at first none is
 pub copied_none : {m : Marks} {text : Bytes} {ch : Channel} {name : Bytes} {s : State} {o : Outputs} → ReadyToCopy text s o → Copied m text ch name s o s o
 copied_none h = record {
-  same = λ frames y memory. refl;
+  same = λ frames y. refl;
   moved = record { is = refl; from = omega arith; within = h.within; lines = h.lines; extends = record { first = extends_none h.written; second = extends_none h.second } };
 }
 
-module _ {m : Marks} {text : Bytes} {ch : Channel} {c : Head} {name : Bytes} {s : State} {o : Outputs} {t : State} {o₂ : Outputs} {r : Answer} (v : Moved text s o t o₂) where
+module _ {m : Marks} {text : Bytes} {ch : Channel} {name : Bytes} {s : State} {o : Outputs} {t : State} {o₂ : Outputs} (v : Moved text s o t o₂) where
   -- the copy is over and the call goes on
-  goes_on : ((frames : List Frame) (y : Tally) (memory : Bytes) → copy_lines m (rooms_of o) ch name (lines (drop s.at text)) (state_of text none frames y s o memory) ≡ running (state_of text none frames y t o₂ memory))
-      → r ≡ goes_further c t → CopiesLines m text ch c name s o r o₂
-  unfolding settle next_at next_of
-  goes_on f e = subst (λ (x : Answer). CopiesLines m text ch c name s o x o₂) (sym e) (record {
-    same = λ fs y nums bytes b memory. ap settle (f (frame_of m text (laid c nums bytes) ∷ fs) y memory);
-    sound = moved_sound v;
-    placed = λ nums bytes q. q;
-    settled = refl;
-    stays = moved_stays v;
-    extends = v.extends;
-  })
+  copy_over : ((frames : List Frame) (y : Tally) → copy_lines m (rooms_of o) ch name (lines (drop s.at text)) (state_of text none frames y s o) ≡ running (state_of text none frames y t o₂)) → CopiesLines m text ch name s o (Ok tt) t o₂
+  unfolding settle next_of
+  copy_over f = record { same = λ fs y c b. ap settle (f (frame_of m text c ∷ fs) y); sound = moved_sound v; stays = moved_stays v; extends = v.extends }
 
   -- or the run ends
-  run_ends : {k : Option RunFault} → ((frames : List Frame) (y : Tally) (memory : Bytes) → copy_lines m (rooms_of o) ch name (lines (drop s.at text)) (state_of text none frames y s o memory) ≡ ended (number_of_end k) (state_of text none frames y t o₂ memory))
-      → r ≡ ends_with k t → CopiesLines m text ch c name s o r o₂
-  unfolding settle next_at next_of state_with
-  run_ends f e = subst (λ (x : Answer). CopiesLines m text ch c name s o x o₂) (sym e) (record {
-    same = λ fs y nums bytes b memory. ap settle (f (frame_of m text (laid c nums bytes) ∷ fs) y memory);
-    sound = moved_sound v;
-    placed = λ nums bytes q. none-placed q;
-    settled = refl;
-    stays = moved_stays v;
-    extends = v.extends;
-  })
+  copy_fails : {k : RunFault} → ((frames : List Frame) (y : Tally) → copy_lines m (rooms_of o) ch name (lines (drop s.at text)) (state_of text none frames y s o) ≡ ended (run_number k) (state_of text none frames y t o₂))
+      → CopiesLines m text ch name s o (Err k) t o₂
+  unfolding settle next_of state_with
+  copy_fails f = record { same = λ fs y c b. ap settle (f (frame_of m text c ∷ fs) y); sound = moved_sound v; stays = moved_stays v; extends = v.extends }
 
 module _ {m : Marks} {text : Bytes} {ch : Channel} {name : Bytes} {s : State} {o : Outputs} {st : State} {o₁ : Outputs} (v : Copied m text ch name s o st o₁) where
   -- the input ends
-  pub copied_all : {c : Head} {r : Answer} → length text ≤ st.at → r ≡ goes_further c st → CopiesLines m text ch c name s o r o₁
+  pub copied_all : length text ≤ st.at → CopiesLines m text ch name s o (Ok tt) st o₁
   unfolding copy_lines lines
-  copied_all h e = goes_on v.moved
-      (λ frames y memory. v.same frames y memory ∙ ap (λ (x : Bytes). copy_lines m (rooms_of o) ch name (lines x) (state_of text none frames y st o₁ memory)) (drop_of_length-le text h)) e
+  copied_all h = copy_over v.moved (λ frames y. v.same frames y ∙ ap (λ (x : Bytes). copy_lines m (rooms_of o) ch name (lines x) (state_of text none frames y st o₁)) (drop_of_length-le text h))
 
   module _ {end next : ℕ} {b : Bool} {t : State} (g : ContentAt text m.source st.at end next) (n : b ≡ begins name (part text st.at end)) (et : t ≡ with_input st next (st.line + 1)) where
     abbrev content : Bytes
@@ -155,115 +133,120 @@ module _ {m : Marks} {text : Bytes} {ch : Channel} {name : Bytes} {s : State} {o
     abbrev read : State
     read = with_input st next (st.line + 1)
 
-    past_is : (frames : List Frame) (y : Tally) (memory : Bytes) → past_line (lines (drop next text)) (state_of text none frames y st o₁ memory) ≡ state_of text none frames y read o₁ memory
+    past_is : (frames : List Frame) (y : Tally) → past_line (lines (drop next text)) (state_of text none frames y st o₁) ≡ state_of text none frames y read o₁
     unfolding past_line
-    past_is frames y memory =
-        ap (λ (k : ℕ). record { input = lines (drop next text); line = k; pending = none; frames = frames; calls = st.calls; shared = shared_of st o₁ memory; events = st.events; tally = y }) (sym (add-one st.line))
+    past_is frames y = ap (λ (k : ℕ). record { input = lines (drop next text); line = k; pending = none; frames = frames; calls = st.calls; shared = shared_of st o₁; events = st.events; tally = y }) (sym (add-one st.line))
 
     -- what is done with the next line: by what writing it comes to, by its length, and by its content
-    abbrev by_writing : List Frame → Tally → Bytes → Math.Option Shared → Next
-    by_writing frames y memory w = elim w as (λ _. Next) [
-      | none ↦ ended 13 (past_line (lines (drop next text)) (state_of text none frames y st o₁ memory))
-      | some w ↦ copy_lines m (rooms_of o) ch name (lines (drop next text)) (state_with (past_line (lines (drop next text)) (state_of text none frames y st o₁ memory)) none frames w)
+    abbrev by_writing : List Frame → Tally → Math.Option Shared → Next
+    by_writing frames y w = elim w as (λ _. Next) [
+      | none ↦ ended 13 (past_line (lines (drop next text)) (state_of text none frames y st o₁))
+      | some w ↦ copy_lines m (rooms_of o) ch name (lines (drop next text)) (state_with (past_line (lines (drop next text)) (state_of text none frames y st o₁)) none frames w)
     ]
 
-    abbrev by_length : List Frame → Tally → Bytes → Bytes → Next
-    by_length frames y memory l = elim (is_too_long ch l) as (λ _. Next) [
-      | true ↦ ended 11 (past_line (lines (drop next text)) (state_of text none frames y st o₁ memory))
-      | false ↦ by_writing frames y memory (wrote (rooms_of o) ch l (shared_of st o₁ memory))
+    abbrev by_length : List Frame → Tally → Bytes → Next
+    by_length frames y l = elim (is_too_long ch l) as (λ _. Next) [
+      | true ↦ ended 11 (past_line (lines (drop next text)) (state_of text none frames y st o₁))
+      | false ↦ by_writing frames y (wrote (rooms_of o) ch l (shared_of st o₁))
     ]
 
-    abbrev next_line : List Frame → Tally → Bytes → Bytes → Next
-    next_line frames y memory l = elim (begins name l) as (λ _. Next) [
-      | true ↦ running (past_line (lines (drop next text)) (state_of text none frames y st o₁ memory))
-      | false ↦ by_length frames y memory l
+    abbrev next_line : List Frame → Tally → Bytes → Next
+    next_line frames y l = elim (begins name l) as (λ _. Next) [
+      | true ↦ running (past_line (lines (drop next text)) (state_of text none frames y st o₁))
+      | false ↦ by_length frames y l
     ]
 
-    next_is : (frames : List Frame) (y : Tally) (memory : Bytes)
-        → copy_lines m (rooms_of o) ch name (lines (drop s.at text)) (state_of text none frames y s o memory) ≡ next_line frames y memory content
+    next_is : (frames : List Frame) (y : Tally) → copy_lines m (rooms_of o) ch name (lines (drop s.at text)) (state_of text none frames y s o) ≡ next_line frames y content
     unfolding copy_lines
-    next_is frames y memory =
-        v.same frames y memory
-        ∙ ap (λ (ls : List Bytes). copy_lines m (rooms_of o) ch name ls (state_of text none frames y st o₁ memory)) g.is
-        ∙ ap (next_line frames y memory) (sym g.content)
+    next_is frames y =
+        v.same frames y
+        ∙ ap (λ (ls : List Bytes). copy_lines m (rooms_of o) ch name ls (state_of text none frames y st o₁)) g.is
+        ∙ ap (next_line frames y) (sym g.content)
 
     -- what writing it asks
-    module _ {c : Head} {x : Answer} (ex : x ≡ goes_further c t) where
-      pub first_written : x.state.written ≤ length o₁.first
-      first_written = subst (λ (z : Answer). z.state.written ≤ length o₁.first) (sym (ex ∙ ap (goes_further c) et)) (omega (arith, v.moved.extends.first.long, v.moved.extends.first.fits))
+    pub first_written : t.written ≤ length o₁.first
+    first_written = subst (λ (z : State). z.written ≤ length o₁.first) (sym et) (omega (arith, v.moved.extends.first.long, v.moved.extends.first.fits))
 
-      pub second_written : x.state.second ≤ length o₁.second
-      second_written = subst (λ (z : Answer). z.state.second ≤ length o₁.second) (sym (ex ∙ ap (goes_further c) et)) (omega (arith, v.moved.extends.second.long, v.moved.extends.second.fits))
+    pub second_written : t.second ≤ length o₁.second
+    second_written = subst (λ (z : State). z.second ≤ length o₁.second) (sym et) (omega (arith, v.moved.extends.second.long, v.moved.extends.second.fits))
 
     -- it begins with the name
-    pub copied_stops : {c : Head} {r : Answer} → b ≡ true → r ≡ goes_further c t → CopiesLines m text ch c name s o r o₁
-    copied_stops {c} e er = goes_on (moved_read v.moved g)
-        (λ frames y memory. next_is frames y memory ∙ when_true _ _ (sym n ∙ e) ∙ ap (λ (x : Machine.State). running x) (past_is frames y memory)) (er ∙ ap (goes_further c) et)
+    pub copied_stops : b ≡ true → CopiesLines m text ch name s o (Ok tt) t o₁
+    copied_stops e = subst (λ (z : State). CopiesLines m text ch name s o (Ok tt) z o₁) (sym et)
+        (copy_over (moved_read v.moved g) (λ frames y. next_is frames y ∙ when_true _ _ (sym n ∙ e) ∙ ap (λ (x : Machine.State). running x) (past_is frames y)))
 
-    module _ {c : Head} {x a : Answer} {o₂ : Outputs} (e : b ≡ false) (ex : x ≡ goes_further c t) (y : CopiesContent ch content x o₁ a o₂) where
-      -- the answer before is that of the line read
-      at_read : CopiesContent ch content (goes_further c read) o₁ a o₂
-      at_read = subst (λ (z : Answer). CopiesContent ch content z o₁ a o₂) (ex ∙ ap (goes_further c) et) y
+    module _ {r : Result Unit RunFault} {s₂ : State} {o₂ : Outputs} (e : b ≡ false) (y : CopiesContent ch content t o₁ r s₂ o₂) where
+      -- the state before is that of the line read
+      at_read : CopiesContent ch content read o₁ r s₂ o₂
+      at_read = subst (λ (z : State). CopiesContent ch content z o₁ r s₂ o₂) et y
 
       moved_on : Moved text s o read o₁
       moved_on = moved_read v.moved g
 
-      not-begun : (frames : List Frame) (y : Tally) (memory : Bytes)
-          → copy_lines m (rooms_of o) ch name (lines (drop s.at text)) (state_of text none frames y s o memory) ≡ by_length frames y memory content
-      not-begun frames y memory = next_is frames y memory ∙ when_false _ _ (sym n ∙ e)
+      not-begun : (frames : List Frame) (y : Tally) → copy_lines m (rooms_of o) ch name (lines (drop s.at text)) (state_of text none frames y s o) ≡ by_length frames y content
+      not-begun frames y = next_is frames y ∙ when_false _ _ (sym n ∙ e)
 
-      writes_as : (memory : Bytes) {w : Math.Option Shared} → wrote (rooms_of o₁) ch content (shared_of read o₁ memory) ≡ w → wrote (rooms_of o) ch content (shared_of st o₁ memory) ≡ w
-      writes_as memory f = ap (λ (k : Rooms). wrote k ch content (shared_of st o₁ memory)) (sym (rooms_kept v.moved.extends)) ∙ f
+      writes_as : {w : Math.Option Shared} → wrote (rooms_of o₁) ch content (shared_of read o₁) ≡ w → wrote (rooms_of o) ch content (shared_of st o₁) ≡ w
+      writes_as f = ap (λ (k : Rooms). wrote k ch content (shared_of st o₁)) (sym (rooms_kept v.moved.extends)) ∙ f
 
       -- it is too long, or there is no room: the run ends
-      pub copied_ends : is_left a.turn ≡ true → CopiesLines m text ch c name s o a o₂
-      copied_ends left = by (is_too_long ch content) refl
+      pub copied_ends : {fault : RunFault} → r ≡ Err fault → CopiesLines m text ch name s o (Err fault) s₂ o₂
+      copied_ends {fault} left = by (is_too_long ch content) refl
         where
-          by_room : (k : Bool) → has_room_on ch content read o₁ ≡ k → is_too_long ch content ≡ false → Writes ch content (goes_further c read) o₁ a o₂ → CopiesLines m text ch c name s o a o₂
-          by_room true k q w = false-not-true (sym (ap (λ (z : Answer). is_left z.turn) (w.fits k).0) ∙ left)
-          by_room false k q w = subst (λ (z : Outputs). CopiesLines m text ch c name s o a z) (sym (w.full k).1) (run_ends moved_on
-              (λ frames y memory. not-begun frames y memory ∙ when_false _ _ q ∙ ap (by_writing frames y memory) (writes_as memory ((w.full k).2 memory)) ∙ ap (λ (z : Machine.State). ended 13 z) (past_is frames y memory)) (w.full k).0)
+          failed : {k : RunFault} → r ≡ Err k → s₂ ≡ read → o₂ ≡ o₁ → ((frames : List Frame) (y : Tally) → copy_lines m (rooms_of o) ch name (lines (drop s.at text)) (state_of text none frames y s o) ≡ ended (run_number k) (state_of text none frames y read o₁))
+              → CopiesLines m text ch name s o (Err fault) s₂ o₂
+          failed {k} a b c f =
+              let z : k ≡ fault = cc in
+              subst (λ (z : State). CopiesLines m text ch name s o (Err fault) z o₂) (sym b)
+              (subst (λ (z : Outputs). CopiesLines m text ch name s o (Err fault) read z) (sym c) (subst (λ (z : RunFault). CopiesLines m text ch name s o (Err z) read o₁) z (copy_fails moved_on f)))
 
-          by : (q : Bool) → is_too_long ch content ≡ q → CopiesLines m text ch c name s o a o₂
-          by true q = subst (λ (z : Outputs). CopiesLines m text ch c name s o a z) (sym (at_read.long q).1) (run_ends moved_on
-              (λ frames y memory. not-begun frames y memory ∙ when_true _ _ q ∙ ap (λ (z : Machine.State). ended 11 z) (past_is frames y memory)) (at_read.long q).0)
+          by_room : (k : Bool) → has_room_on ch content read o₁ ≡ k → is_too_long ch content ≡ false → Writes ch content read o₁ r s₂ o₂ → CopiesLines m text ch name s o (Err fault) s₂ o₂
+          by_room true k q w = absurd (let z = (w.fits k).0 in cc)
+          by_room false k q w =
+              let z = w.full k in
+              failed z.0 z.1 z.2 (λ frames y. not-begun frames y ∙ when_false _ _ q ∙ ap (by_writing frames y) (writes_as z.3) ∙ ap (λ (z : Machine.State). ended 13 z) (past_is frames y))
+
+          by : (q : Bool) → is_too_long ch content ≡ q → CopiesLines m text ch name s o (Err fault) s₂ o₂
+          by true q =
+              let z = at_read.long q in
+              failed z.0 z.1 z.2 (λ frames y. not-begun frames y ∙ when_true _ _ q ∙ ap (λ (z : Machine.State). ended 11 z) (past_is frames y))
           by false q = by_room (has_room_on ch content read o₁) refl q (at_read.writes q)
 
       -- it is copied
-      pub copied_more : is_left a.turn ≡ false → Copied m text ch name s o a.state o₂
+      pub copied_more : {u : Unit} → r ≡ Ok u → Copied m text ch name s o s₂ o₂
       unfolding state_with
       copied_more on = by (is_too_long ch content) refl
         where
-          by_room : (k : Bool) → has_room_on ch content read o₁ ≡ k → is_too_long ch content ≡ false → Writes ch content (goes_further c read) o₁ a o₂ → Copied m text ch name s o a.state o₂
+          by_room : (k : Bool) → has_room_on ch content read o₁ ≡ k → is_too_long ch content ≡ false → Writes ch content read o₁ r s₂ o₂ → Copied m text ch name s o s₂ o₂
           by_room true k q w =
-              let is : a.state ≡ with_written read a.state.written a.state.second = ap (λ (z : Answer). z.state) (w.fits k).0 in
+              let is : s₂ ≡ with_written read s₂.written s₂.second = (w.fits k).1 in
               record {
-                same = λ frames y memory.
-                    not-begun frames y memory ∙ when_false _ _ q ∙ ap (by_writing frames y memory) (writes_as memory ((w.fits k).1 memory))
-                    ∙ ap (λ (z : Machine.State). copy_lines m (rooms_of o) ch name (lines (drop next text)) (state_with z none frames (shared_of a.state o₂ memory))) (past_is frames y memory)
+                same = λ frames y.
+                    not-begun frames y ∙ when_false _ _ q ∙ ap (by_writing frames y) (writes_as (w.fits k).2)
+                    ∙ ap (λ (z : Machine.State). copy_lines m (rooms_of o) ch name (lines (drop next text)) (state_with z none frames (shared_of s₂ o₂))) (past_is frames y)
                     ∙ (λ i. copy_lines m (rooms_of o) ch name (lines (drop (sym is i).at text))
-                    (record { input = lines (drop (sym is i).at text); line = (sym is i).line; pending = none; frames = frames; calls = (sym is i).calls; shared = shared_of a.state o₂ memory; events = (sym is i).events; tally = y }));
+                    (record { input = lines (drop (sym is i).at text); line = (sym is i).line; pending = none; frames = frames; calls = (sym is i).calls; shared = shared_of s₂ o₂; events = (sym is i).events; tally = y }));
                 moved = moved_written moved_on is w.extends;
               }
-          by_room false k q w = false-not-true (sym on ∙ ap (λ (z : Answer). is_left z.turn) (w.full k).0)
+          by_room false k q w = absurd (let z = (w.full k).0 in cc)
 
-          by : (q : Bool) → is_too_long ch content ≡ q → Copied m text ch name s o a.state o₂
-          by true q = false-not-true (sym on ∙ ap (λ (z : Answer). is_left z.turn) (at_read.long q).0)
+          by : (q : Bool) → is_too_long ch content ≡ q → Copied m text ch name s o s₂ o₂
+          by true q = absurd (let z = (at_read.long q).0 in cc)
           by false q = by_room (has_room_on ch content read o₁) refl q (at_read.writes q)
 
       -- and less text is left
-      pub copied_falls : is_left a.turn ≡ false → length text - a.state.at < length text - st.at
+      pub copied_falls : {u : Unit} → r ≡ Ok u → length text - s₂.at < length text - st.at
       copied_falls on = by (is_too_long ch content) refl
         where
-          falls : a.state.at ≡ next → length text - a.state.at < length text - st.at
+          falls : s₂.at ≡ next → length text - s₂.at < length text - st.at
           falls k = omega (arith, k, g.ahead, g.within)
 
-          by_room : (k : Bool) → has_room_on ch content read o₁ ≡ k → Writes ch content (goes_further c read) o₁ a o₂ → length text - a.state.at < length text - st.at
-          by_room true k w = falls (ap (λ (z : Answer). z.state.at) (w.fits k).0)
-          by_room false k w = false-not-true (sym on ∙ ap (λ (z : Answer). is_left z.turn) (w.full k).0)
+          by_room : (k : Bool) → has_room_on ch content read o₁ ≡ k → Writes ch content read o₁ r s₂ o₂ → length text - s₂.at < length text - st.at
+          by_room true k w = falls (ap (λ (z : State). z.at) (w.fits k).1)
+          by_room false k w = absurd (let z = (w.full k).0 in cc)
 
-          by : (q : Bool) → is_too_long ch content ≡ q → length text - a.state.at < length text - st.at
-          by true q = false-not-true (sym on ∙ ap (λ (z : Answer). is_left z.turn) (at_read.long q).0)
+          by : (q : Bool) → is_too_long ch content ≡ q → length text - s₂.at < length text - st.at
+          by true q = absurd (let z = (at_read.long q).0 in cc)
           by false q = by_room (has_room_on ch content read o₁) refl (at_read.writes q)
 
 -- ---- F2
@@ -273,43 +256,28 @@ unnamed : (m : Marks) (room : Rooms) (ch : Channel) (name : Bytes) (x : Machine.
 unnamed m room ch [] x h = copies-nothing m room ch x
 unnamed m room ch (y ∷ name) x h = absurd (omega (arith, h))
 
-module _ {text : Bytes} {c : Head} {nums : List ℕ} {bytes : Bytes} {n : ℕ} (m : Marks) (q : Placed text (laid c nums bytes)) (l : Lies nums 1 n) where
-  named : param (frame_of m text (laid c nums bytes)) 1 ≡ part bytes 0 n
-  named =
-      let z : 0 + n ≡ n = omega arith in
-      l.is m text c bytes ∙ ap (λ (k : ℕ). part bytes 0 k) z
-
-  name_long : length (param (frame_of m text (laid c nums bytes)) 1) ≡ n
-  name_long =
-      let short = l.short in
-      let long = q.bytes in
-      let z : n - 0 ≡ n = omega arith in
-      ap (λ (x : Bytes). length x) named ∙ part_length bytes 0 n (omega arith) ∙ z
-
-module _ {m : Marks} {text : Bytes} {ch : Channel} {c : Head} {nums : List ℕ} {bytes : Bytes} {s : State} {o : Outputs} {n : ℕ} (q : Placed text (laid c nums bytes)) (l : Lies nums 1 n) where
+module _ {m : Marks} {text : Bytes} {ch : Channel} {c : Call} {s : State} {o : Outputs} {name : Bytes} (q : Placed text c) (l : Reads c 1 name) where
   -- with an empty parameter no line is read
-  pub copies-none : {r : Answer} → n ≡ 0 → r ≡ goes_further c s → CopiesInput m text ch (laid c nums bytes) s o r o
-  unfolding stepped state_with settle next_at next_of
-  copies-none {r} z e = record {
-    comes = λ memory b h. subst (λ (x : Answer). Comes m text (copies (rooms_of o) ch (frame_of m text (laid c nums bytes)) (shared_of s o memory)) s o b x nums bytes o memory) (sym e) (record {
-      same = λ fs y. ap settle (unnamed m (rooms_of o) ch (param (frame_of m text (laid c nums bytes)) 1) (state_of text none (frame_of m text (laid c nums bytes) ∷ fs) y s o memory) (name_long m q l ∙ z));
+  pub copies-none : length name ≡ 0 → CopiesInput m text ch c s o (Ok tt) s o
+  unfolding stepped state_with settle next_of
+  copies-none z = record {
+    comes = λ b h. record {
+      same = λ fs y. ap settle (unnamed m (rooms_of o) ch (param (frame_of m text c) 1) (state_of text none (frame_of m text c ∷ fs) y s o) (ap (λ (x : Bytes). length x) (l.is m text) ∙ z));
       sound = h;
       placed = q;
-      short = omega arith;
       stays = stays_same s;
       extends = both_none h;
-    });
+    };
   }
 
-  pub copies_input : {r : Answer} {o' : Outputs} → ¬ (n ≡ 0) → CopiesLines m text ch c (part bytes 0 n) s o r o' → CopiesInput m text ch (laid c nums bytes) s o r o'
+  pub copies_input : {r : Result Unit RunFault} {s' : State} {o' : Outputs} → ¬ (length name ≡ 0) → CopiesLines m text ch name s o r s' o' → CopiesInput m text ch c s o r s' o'
   unfolding stepped state_with
-  copies_input {r} {o'} z v = record {
-    comes = λ memory b h. record {
-      same = λ fs y. ap settle (copies-named m (rooms_of o) ch (param (frame_of m text (laid c nums bytes)) 1) (state_of text none (frame_of m text (laid c nums bytes) ∷ fs) y s o memory) (λ e. z (sym (name_long m q l) ∙ e))
-          ∙ ap (λ (x : Bytes). copy_lines m (rooms_of o) ch x (lines (drop s.at text)) (state_of text none (frame_of m text (laid c nums bytes) ∷ fs) y s o memory)) (named m q l)) ∙ v.same fs y nums bytes b memory;
-      sound = v.sound memory h;
-      placed = v.placed nums bytes q;
-      short = unoffered_short r.turn v.settled;
+  copies_input {r} {s'} {o'} z v = record {
+    comes = λ b h. record {
+      same = λ fs y. ap settle (copies-named m (rooms_of o) ch (param (frame_of m text c) 1) (state_of text none (frame_of m text c ∷ fs) y s o) (λ e. z (sym (ap (λ (x : Bytes). length x) (l.is m text)) ∙ e))
+          ∙ ap (λ (x : Bytes). copy_lines m (rooms_of o) ch x (lines (drop s.at text)) (state_of text none (frame_of m text c ∷ fs) y s o)) (l.is m text)) ∙ v.same fs y c b;
+      sound = v.sound h;
+      placed = q;
       stays = v.stays;
       extends = v.extends;
     };

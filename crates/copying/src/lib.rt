@@ -5,11 +5,10 @@
 ghost use Rattle.std.specs.Prelude.{◌≡◌, ◌≤◌, length};
 ghost use Rattle.model.specs.Load.{begins};
 ghost use Rattle.model.specs.Machine.{outputs};
-ghost use Rattle.call.specs.Call.{laid, Placed};
+ghost use Rattle.call.specs.Call.{Placed};
 ghost use Rattle.copying.specs.Copies.{MeasuresLong, CopiesContent, CopiesLines, CopiesInput, ReadyToCopy};
 
-use answer::{Answer, end_with, go_on};
-use call::{Head, param_len};
+use call::Call;
 use faults::RunFault;
 use model::{Channel, LINE_MOST, Marks};
 use scan::read_content;
@@ -33,53 +32,47 @@ fn is_too_long(ch: Channel, n: usize) -> bool
     }
 }
 
-// A content goes to a channel. The answer is r with the content written, or the run ends with 11 or 13.
+// A content goes to a channel, or the run ends with 11 or 13.
 fn copy_content(
     ch: Channel,
     content: &[u8],
     output: &mut [u8],
     second: &mut [u8],
-    r: Answer,
-) -> Answer
-    requires { (r.state.written ≤ length output.old) × (r.state.second ≤ length second.old) }
-    ensures { CopiesContent ch content.now r (outputs output.old second.old) result (outputs output.new second.new) }
+    s: &mut State,
+) -> Result<(), RunFault>
+    requires { (s.old.written ≤ length output.old) × (s.old.second ≤ length second.old) }
+    ensures { CopiesContent ch content.now s.old (outputs output.old second.old) result s.new (outputs output.new second.new) }
 {
     if is_too_long(ch, content.len()) {
-        return end_with(RunFault::LongInput, r.state);
+        return Err(RunFault::LongInput);
     }
-    write(ch, &Line { bytes: content }, output, second, r)
+    write(ch, &Line { bytes: content }, output, second, s)
 }
 
-// The lines up to one that begins with the name, or up to the input's end. The call then goes on.
+// The lines up to one that begins with the name, or up to the input's end.
 fn copy_lines(
     m: Marks,
     text: &[u8],
     ch: Channel,
-    call: Head,
     name: &[u8],
     output: &mut [u8],
     second: &mut [u8],
-    s: State,
-) -> Answer
-    requires { ReadyToCopy text.now s (outputs output.old second.old) }
-    ensures { CopiesLines m text.now ch call name.now s
-        (outputs output.old second.old) result (outputs output.new second.new) }
+    s: &mut State,
+) -> Result<(), RunFault>
+    requires { ReadyToCopy text.now s.old (outputs output.old second.old) }
+    ensures { CopiesLines m text.now ch name.now s.old
+        (outputs output.old second.old) result s.new (outputs output.new second.new) }
 {
-    let mut st = s;
-    while st.at < text.len() {
-        let line = read_content(text, m.source, st.at);
-        let content = &text[st.at..line.end];
-        let t = st.set_input(line.next, st.line + 1);
+    while s.at < text.len() {
+        let line = read_content(text, m.source, s.at);
+        let content = &text[s.at..line.end];
+        s.set_input(line.next, s.line + 1);
         if begins_name(content, name) {
-            return go_on(call, t);
+            return Ok(());
         }
-        let a = copy_content(ch, content, output, second, go_on(call, t));
-        if a.is_left() {
-            return a;
-        }
-        st = a.state;
+        copy_content(ch, content, output, second, s)?;
     }
-    go_on(call, st)
+    Ok(())
 }
 
 // F2 of a call. With an empty parameter 1 no line is read.
@@ -87,20 +80,18 @@ pub fn copy_input(
     m: Marks,
     text: &[u8],
     ch: Channel,
-    call: Head,
-    nums: &[usize],
-    params: &[u8],
+    call: &Call,
     output: &mut [u8],
     second: &mut [u8],
-    s: State,
-) -> Answer
-    requires { Placed text.now (laid call nums.now params.now) × ReadyToCopy text.now s (outputs output.old second.old) }
-    ensures { CopiesInput m text.now ch (laid call nums.now params.now) s
-        (outputs output.old second.old) result (outputs output.new second.new) }
+    s: &mut State,
+) -> Result<(), RunFault>
+    requires { Placed text.now call.now × ReadyToCopy text.now s.old (outputs output.old second.old) }
+    ensures { CopiesInput m text.now ch call.now s.old
+        (outputs output.old second.old) result s.new (outputs output.new second.new) }
 {
-    let n = param_len(nums, 1);
-    if n == 0 {
-        return go_on(call, s);
+    let name = call.param(1);
+    if name.is_empty() {
+        return Ok(());
     }
-    copy_lines(m, text, ch, call, &params[0..n], output, second, s)
+    copy_lines(m, text, ch, name, output, second, s)
 }

@@ -1,10 +1,17 @@
 -- copy_input looks for parameter 1, where it is not empty.
+use mathlib.Core.Path.{sym, ◌∙◌}
 use borrow.Author.Rules.{rules}
+use borrow.Author.Tests.{eqb-false}
+use lib.ListN.{length}
 use Rattle.copying.proofs.Lines.{copies-none, copies_input}
 use Rattle.copying.proofs.copy_input.Goals as goal
 
-pub returns-then-n-eq0 : goal.returns-then-n-eq0
-returns-then-n-eq0 c = search (copies-none, rules)
+pub returns-then-is_empty : goal.returns-then-is_empty
+returns-then-is_empty c =
+    let q = c.requires.0 in
+    search (copies-none, rules)
 
 pub returns : goal.returns
-returns c = search (copies_input, rules)
+returns c =
+    let some = eqb-false (length c.param-name.result.now) 0 (sym c.is_empty.ensures ∙ c.if-is_empty.false) in
+    copies_input c.requires.0 c.param-name.ensures some c.copy_lines.ensures
