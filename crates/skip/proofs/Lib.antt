@@ -1,3 +1,2 @@
 -- The laws of skips.
-pub mod Made
 pub mod Skipping
