@@ -1,5 +1,5 @@
 -- A whole code line, as the expansion carries it out, and its end.
-use Rattle.std.specs.Prelude.{◌≡◌, true, false, List, ◌∷◌, ℕ, ◌≤◌, ◌<◌, length, take}
+use Rattle.std.specs.Prelude.{◌≡◌, true, false, List, ◌∷◌, ℕ, ◌≤◌, ◌<◌, length}
 use Rattle.std.proofs.Math.Option.{none}
 use Rattle.model.specs.Limits.{line_most, nesting_most}
 use Rattle.model.specs.declared.Marks.{Marks}
@@ -13,40 +13,34 @@ use Rattle.code.specs.declared.Ending.{Ending}
 use Rattle.code.specs.Tokens.{ending_of, Ranged}
 use Rattle.state.specs.declared.State.{State}
 use Rattle.state.specs.State.{shared_of, state_of}
-use Rattle.call.specs.declared.Head.{Head}
-use Rattle.call.specs.Call.{Laid, laid, frame_of}
-use Rattle.answer.specs.declared.Answer.{Answer}
-use Rattle.answer.specs.Answers.{is_left, offered_length, next_of, comes_to, rooms_of}
+use Rattle.call.specs.declared.Call.{Call}
+use Rattle.call.specs.Call.{frame_of}
+use Rattle.answer.specs.Answers.{Answer, is_left, next_of, comes_to, rooms_of}
 use Rattle.answer.specs.Kept.{Open, Comes, Follows}
 
 -- what was read of a code line's end, and the line built: an iteration is opened only where it may be
-pub record ReadyToFinish (text : Bytes) (to : ℕ) (c : Head) (k : Ending) (line : Bytes) : Type 0 where
+pub record ReadyToFinish (text : Bytes) (to : ℕ) (c : Call) (k : Ending) (line : Bytes) : Type 0 where
   pub from : ℕ
   pub ranged : Ranged from to k
   pub within : to ≤ length text
   pub depth : effect_of (ending_of text to k) ≡ Opens → c.depth < nesting_most
   pub short : length line ≤ line_most
 
--- In the records below, c is the call before, s o memory are the state, outputs and memory before, and r nums bytes o' memory' the
--- answer, the call's numbers and bytes, outputs and memory after.
+-- In the records below c, s and o are the call, the state and the outputs before, and r is the answer; s', c' and o' are they after, with `line` built.
 
--- r is what is done at the end k of the code line that ends before place `to`, with `line` built to the front of a row of bytes
-pub record Finishes (m : Marks) (text : Bytes) (to : ℕ) (c : Laid) (k : Ending) (line : Bytes)
-    (s : State) (o : Outputs) (memory : Bytes) (r : Answer) (nums : List ℕ) (bytes : Bytes) (o' : Outputs) (memory' : Bytes) : Type 0 where
-  pub comes : (b : Bytes) → take (length line) b ≡ line → Comes m text (finish (rooms_of o) m (ending_of text to k) line (frame_of m text c) (shared_of s o memory)) s o b r nums bytes o' memory'
+-- r is what is done at the end k of the code line that ends before place `to`
+pub record Finishes (m : Marks) (text : Bytes) (to : ℕ) (c : Call) (k : Ending) (line : Bytes) (s : State) (o : Outputs) (r : Answer) (s' : State) (c' : Call) (o' : Outputs) : Type 0 where
+  pub comes : Comes m text (finish (rooms_of o) m (ending_of text to k) line (frame_of m text c) (shared_of s o)) s o line r s' c' o'
 
--- r is what the code line text[at..to] comes to in the call c, with `line` built
-pub record Carries (m : Marks) (text : Bytes) (at to : ℕ) (c : Laid)
-    (s : State) (o : Outputs) (memory line : Bytes) (r : Answer) (nums : List ℕ) (bytes : Bytes) (o' : Outputs) (memory' : Bytes) : Type 0 where
-  pub comes : Comes m text (carry_out (rooms_of o) m (parse m true (part text at to)) (frame_of m text c) (shared_of s o memory)) s o line r nums bytes o' memory'
+-- r is what the code line text[at..to] comes to in the call c
+pub record Carries (m : Marks) (text : Bytes) (at to : ℕ) (c : Call) (s : State) (o : Outputs) (line : Bytes) (r : Answer) (s' : State) (c' : Call) (o' : Outputs) : Type 0 where
+  pub comes : Comes m text (carry_out (rooms_of o) m (parse m true (part text at to)) (frame_of m text c) (shared_of s o)) s o line r s' c' o'
 
--- r is what the expansion comes to from the next code line of the call c on, whoever its callers are, with `built` built
-pub record Steps (m : Marks) (text : Bytes) (c : Laid)
-    (s : State) (o : Outputs) (memory built : Bytes) (r : Answer) (nums : List ℕ) (bytes : Bytes) (o' : Outputs) (memory' : Bytes) : Type 0 where
-  pub follows : Follows text s o r.state o' memory'
-  pub less : is_left r.turn ≡ false → r.state.fuel < s.fuel
-  pub stays : is_left r.turn ≡ false → Open m text (laid r.call nums bytes)
-  pub short : offered_length r.turn ≤ line_most
+-- r is what the expansion comes to from the next code line of the call c on, whoever its callers are
+pub record Steps (m : Marks) (text : Bytes) (c : Call) (s : State) (o : Outputs) (line : Bytes) (r : Answer) (s' : State) (c' : Call) (o' : Outputs) : Type 0 where
+  pub follows : Follows text s o s' o'
+  pub less : is_left r ≡ false → s'.fuel < s.fuel
+  pub stays : is_left r ≡ false → Open m text c'
+  pub short : length line ≤ line_most
   pub same : (t : Loaded) → t.marks ≡ m → (fs : List Frame) (y : Tally)
-      → comes_to s.fuel (rooms_of o) t (running (state_of text none (frame_of m text c ∷ fs) y s o memory))
-      ≡ comes_to r.state.fuel (rooms_of o) t (next_of m text fs y r nums bytes built o' memory')
+      → comes_to s.fuel (rooms_of o) t (running (state_of text none (frame_of m text c ∷ fs) y s o)) ≡ comes_to s'.fuel (rooms_of o) t (next_of m text fs y r c' s' line o')

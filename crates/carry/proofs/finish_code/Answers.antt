@@ -4,17 +4,21 @@ use Rattle.carry.proofs.Endings.{assign_parameter, iterate_parameter, iterate_wi
 use Rattle.carry.proofs.Endings.{ends_offer, ends_assign, ends_iterate, ends_stop, ends_write, ends_layout, ends_copy, ends_save, ends_skip, ends_text, ends_value, ends_repeat, ends_again, ends_leave, ends_malformed}
 use Rattle.carry.proofs.finish_code.Goals as goal
 
-pub assign-requires : goal.assign-requires
-assign-requires c = search (assign_parameter, rules)
+pub set_param-requires : goal.set_param-requires
+set_param-requires c =
+    let ready = c.requires.placed.1 in
+    let d = assign_parameter ready c.in-Assign.is in
+    (d.least, d.most, ready.short)
 
-pub begin_passes-requires : goal.begin_passes-requires
-begin_passes-requires c =
+pub start_pass-requires : goal.start_pass-requires
+start_pass-requires c =
     let ready = c.requires.placed.1 in
     let e = c.in-Iterate.is in
+    let d = iterate_parameter ready e in
     record {
-      placed = (c.requires.placed.0, iterate_depth ready e);
-      parameter = (iterate_parameter ready e, ready.short);
-      list_le_to = (iterate_within ready e, ready.within);
+      placed = c.requires.placed.0;
+      depth_lt_nesting_most = (iterate_depth ready e, (d.least, d.most));
+      line_len_bound = (ready.short, (iterate_within ready e, ready.within));
     }
 
 pub copy_input-requires : goal.copy_input-requires
@@ -25,11 +29,7 @@ copy_input-requires c =
 pub repeat-requires : goal.repeat-requires
 repeat-requires c =
     let pre = c.requires in
-    let placed = pre.placed.0 in
-    record {
-      next_in_bounds = (placed.next, placed.nums, repeat_depth pre.placed.1 (search rules));
-      kept = pre.sound.kept;
-    }
+    (pre.placed.0.next, repeat_depth pre.placed.1 c.in-Repeat.is)
 
 pub returns-in-Offer : goal.returns-in-Offer
 returns-in-Offer c = search (ends_offer, rules)
@@ -40,26 +40,30 @@ returns-in-Assign c = search (ends_assign, rules)
 pub returns-in-Iterate : goal.returns-in-Iterate
 returns-in-Iterate c =
     let pre = c.requires in
-    ends_iterate pre.sound pre.placed.0 c.in-Iterate.is c.begin_passes.ensures
+    ends_iterate pre.sound pre.placed.0 c.and.ensures c.in-Iterate.is c.start_pass.ensures
 
 pub returns-in-Stop : goal.returns-in-Stop
 returns-in-Stop c = search (ends_stop, rules)
 
 pub returns-in-Write : goal.returns-in-Write
-returns-in-Write c = search (ends_write, rules)
+returns-in-Write c =
+    let pre = c.requires in
+    ends_write pre.sound pre.placed.0 c.and-in-Write.ensures c.in-Write.is c.write.ensures
 
 pub returns-in-Layout : goal.returns-in-Layout
 returns-in-Layout c =
     let pre = c.requires in
-    ends_layout pre.sound pre.placed.0 c.in-Layout.is c.write_layout_line.ensures
+    ends_layout pre.sound pre.placed.0 c.and-in-Layout.ensures c.in-Layout.is c.write_layout_line.ensures
 
 pub returns-in-Copy : goal.returns-in-Copy
 returns-in-Copy c =
     let pre = c.requires in
-    ends_copy pre.sound pre.placed.0 c.in-Copy.is c.copy_input.ensures
+    ends_copy pre.sound pre.placed.0 c.and-in-Copy.ensures c.in-Copy.is c.copy_input.ensures
 
 pub returns-in-Save : goal.returns-in-Save
-returns-in-Save c = search (ends_save, rules)
+returns-in-Save c =
+    let pre = c.requires in
+    ends_save pre.sound pre.placed.0 c.and-in-Save.ensures c.in-Save.is c.save.ensures
 
 pub returns-in-Skip : goal.returns-in-Skip
 returns-in-Skip c = search (ends_skip, rules)
@@ -71,10 +75,14 @@ pub returns-in-SkipValue : goal.returns-in-SkipValue
 returns-in-SkipValue c = search (ends_value, rules)
 
 pub returns-in-Repeat : goal.returns-in-Repeat
-returns-in-Repeat c = search (ends_repeat, rules)
+returns-in-Repeat c =
+    let pre = c.requires in
+    ends_repeat pre.sound pre.placed.0 c.and-in-Repeat.ensures c.in-Repeat.is c.repeat.ensures
 
 pub returns-in-Again : goal.returns-in-Again
-returns-in-Again c = search (ends_again, rules)
+returns-in-Again c =
+    let pre = c.requires in
+    ends_again pre.sound pre.placed.0 c.and-in-Again.ensures c.in-Again.is c.end_pass.ensures
 
 pub returns-in-Leave : goal.returns-in-Leave
 returns-in-Leave c = search (ends_leave, rules)
