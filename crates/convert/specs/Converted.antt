@@ -9,17 +9,24 @@ use Rattle.model.specs.Text.{Bytes}
 use Rattle.model.specs.Utf8.{points}
 use Rattle.model.specs.Store.{Store, find}
 use Rattle.model.specs.Value.{value_of}
-use Rattle.model.specs.Machine.{Frame, param, add_symbol, add_value, add_length, add_code_point, add_converted}
+use Rattle.model.specs.Machine.{Frame, param, or_nothing, add_symbol, add_value, add_length, add_code_point, add_converted}
 use Rattle.pass.specs.Pass.{delimiter_bytes}
 use Rattle.state.specs.declared.State.{State}
 use Rattle.call.specs.declared.Text.{Text}
 use Rattle.call.specs.Call.{text_of}
+use Rattle.convert.specs.declared.Word.{Word}
+use Rattle.convert.specs.declared.Word.TheVariants.{Itself, Stored}
 use Rattle.convert.specs.Added.{Adds, Lengthens}
 
 -- the name is not stored, and the names are never too many to be counted
 pub record Missing (es : Store) (name : Bytes) : Type 0 where
   pub is : find name es ≡ none
   pub few : length es ≤ names_most
+
+-- the text that a word brings in, where the parameter is t
+abbrev pub word_of : Word → (t : Bytes) → Store → Bytes
+word_of Itself t es = t
+word_of Stored t es = or_nothing (find t es)
 
 -- In what follows x is the line that is built and s the state before the step, y and s' are those after it, and r is the answer.
 

@@ -3,13 +3,12 @@
 #![tactic(auto)]
 
 ghost use Rattle.std.specs.Prelude.{◌≡◌, [], ◌∷◌, ◌≤◌, ◌<◌, length};
-ghost use Rattle.model.specs.Store.{decimal, find};
+ghost use Rattle.model.specs.Store.{decimal};
 ghost use Rattle.model.specs.Value.{written};
-ghost use Rattle.model.specs.Machine.{or_nothing};
 ghost use Rattle.pass.specs.Pass.{delimiter_bytes};
 ghost use Rattle.call.specs.Line.{Appends};
 ghost use Rattle.store.specs.Names.{PutsText};
-ghost use Rattle.convert.specs.Converted.{Missing, AddsSymbol, AddsValue, AddsLength, AddsCodePoint, Converts};
+ghost use Rattle.convert.specs.Converted.{word_of, Missing, AddsSymbol, AddsValue, AddsLength, AddsCodePoint, Converts};
 
 use call::Text;
 use character::count_characters;
@@ -33,14 +32,33 @@ pub fn add_number(v: usize, line: &mut Text) -> Result<(), RunFault>
     line.append(digits.format(v).as_bytes())
 }
 
-// ed1: the text that is stored under the name, or nothing.
-fn add_stored(name: &[u8], store: &Store, line: &mut Text) -> Result<(), RunFault>
-    ensures { Appends line.old (or_nothing (find name.now store.now)) result line.new }
+// What brings in a text as it lies there: ed0 and ed1.
+#[derive(Clone, Copy)]
+enum Word {
+    // the parameter
+    Itself,
+    // what is stored under it, or nothing
+    Stored,
+}
+
+// The text that is brought in, which lies in the parameter or in the store.
+fn bring<'a>(word: Word, param: &'a [u8], store: &'a Store) -> &'a [u8]
+    ensures { result.now ≡ word_of word param.now store.now }
 {
-    match store.get(name) {
-        Some(text) => line.append(text),
-        None => line.append(&[]),
+    match word {
+        Word::Itself => param,
+        Word::Stored => match store.get(param) {
+            Some(text) => text,
+            None => &[],
+        },
     }
+}
+
+// It comes at the line's end.
+fn add_word(word: Word, param: &[u8], store: &Store, line: &mut Text) -> Result<(), RunFault>
+    ensures { Appends line.old (word_of word param.now store.now) result line.new }
+{
+    line.append(bring(word, param, store))
 }
 
 // A number is stored in decimal.
@@ -136,8 +154,8 @@ pub fn add_converted(
     ensures { Converts m c param.now delimiter line.old s.old result line.new s.new }
 {
     match c {
-        Conversion::Itself => line.append(param),
-        Conversion::StoredText => add_stored(param, &s.store, line),
+        Conversion::Itself => add_word(Word::Itself, param, &s.store, line),
+        Conversion::StoredText => add_word(Word::Stored, param, &s.store, line),
         Conversion::Symbol => add_symbol(param, line, s),
         Conversion::LatestDelimiter => add_delimiter(delimiter, line),
         Conversion::ExpressionValue => add_value(m, param, &s.store, line),
