@@ -95,7 +95,15 @@ fn carry(
 {
     let ending = build_line(m, text, at, to, call, line, s)?;
     finish_code(
-        m, text, to, call, ending, line.as_bytes(), output, second, s,
+        m,
+        text,
+        to,
+        call,
+        ending,
+        line.as_bytes(),
+        output,
+        second,
+        s,
     )
 }
 
