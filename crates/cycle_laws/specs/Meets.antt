@@ -1,6 +1,6 @@
 -- What the functions of the cycle ensure. It holds for every loaded text that the nodes and bodies are of, and for all callers.
--- In both records `row`, `count` and `bodies` are the nodes, how many the tree has and where the bodies start, `depth` is the number of callers, s o memory counts
--- are the state, outputs, memory and counts before, and o' memory' counts' those after.
+-- In both records `row`, `count` and `bodies` are the nodes, how many the tree has and where the bodies start, `depth` is the number of callers, s o counts
+-- are the state, outputs and counts before, and s' o' counts' those after.
 use Rattle.std.specs.Prelude.{◌≡◌, true, false, List, ◌∷◌, ◌++◌, ℕ, ◌<◌, length}
 use Rattle.std.proofs.Math.Option.{Option, none}
 use Rattle.model.specs.declared.Marks.{Marks}
@@ -10,33 +10,33 @@ use Rattle.model.specs.Machine.{Outputs, Frame, running}
 use Rattle.nodes.specs.declared.Node.{Node}
 use Rattle.state.specs.declared.State.{State}
 use Rattle.state.specs.State.{state_of}
-use Rattle.call.specs.Call.{Laid, laid, frame_of}
-use Rattle.answer.specs.declared.Answer.{Answer}
-use Rattle.answer.specs.Answers.{is_left, is_offer, next_of, rooms_of, comes_to}
+use Rattle.call.specs.declared.Call.{Call}
+use Rattle.call.specs.Call.{frame_of}
+use Rattle.answer.specs.Answers.{Answer, is_left, is_offer, next_of, rooms_of, comes_to}
 use Rattle.answer.specs.Kept.{Open, Follows}
 use Rattle.usage.specs.Counts.{Counts}
 use Rattle.matching.specs.Book.{Book, tally_in}
 
 -- r is what the expansion comes to, with a line `pending` that is perhaps to be offered, and the calls `own` above the callers: they are
--- all left, so that no numbers, bytes or built line matter
+-- all left, so that no call or built line matters
 pub record Meets (m : Marks) (text : Bytes) (row : List Node) (count : ℕ) (bodies : List ℕ) (pending : Option Bytes) (own : List Frame) (depth : ℕ)
-    (s : State) (o : Outputs) (memory : Bytes) (counts : List ℕ) (r : Answer) (o' : Outputs) (memory' : Bytes) (counts' : List ℕ) : Type 0 where
-  pub follows : Follows text s o r.state o' memory'
-  pub counted : Counts counts' r.state.fuel
-  pub left : is_left r.turn ≡ true
-  pub same : (t : Loaded) → Book m text row count bodies t → (fs : List Frame) → length fs ≡ depth → (nums : List ℕ) (bytes line : Bytes)
-      → comes_to s.fuel (rooms_of o) t (running (state_of text pending (own ++ fs) (tally_in t counts) s o memory))
-      ≡ comes_to r.state.fuel (rooms_of o) t (next_of m text fs (tally_in t counts') r nums bytes line o' memory')
+    (s : State) (o : Outputs) (counts : List ℕ) (r : Answer) (s' : State) (o' : Outputs) (counts' : List ℕ) : Type 0 where
+  pub follows : Follows text s o s' o'
+  pub counted : Counts counts' s'.fuel
+  pub left : is_left r ≡ true
+  pub same : (t : Loaded) → Book m text row count bodies t → (fs : List Frame) → length fs ≡ depth → (c : Call) (line : Bytes)
+      → comes_to s.fuel (rooms_of o) t (running (state_of text pending (own ++ fs) (tally_in t counts) s o))
+      ≡ comes_to s'.fuel (rooms_of o) t (next_of m text fs (tally_in t counts') r c s' line o')
 
 -- a is what the expansion comes to from the next code line of the call c on, up to the code line after it: what it offers is done with,
--- so that no built line matters. nums and bytes are the call's numbers and bytes after it
-pub record Advances (m : Marks) (text : Bytes) (row : List Node) (count : ℕ) (bodies : List ℕ) (c : Laid) (depth : ℕ)
-    (s : State) (o : Outputs) (memory : Bytes) (counts : List ℕ) (a : Answer) (nums : List ℕ) (bytes : Bytes) (o' : Outputs) (memory' : Bytes) (counts' : List ℕ) : Type 0 where
-  pub follows : Follows text s o a.state o' memory'
-  pub counted : Counts counts' a.state.fuel
-  pub settled : is_offer a.turn ≡ false
-  pub less : is_left a.turn ≡ false → a.state.fuel < s.fuel
-  pub stays : is_left a.turn ≡ false → Open m text (laid a.call nums bytes)
+-- so that no built line matters. c' is the call after it
+pub record Advances (m : Marks) (text : Bytes) (row : List Node) (count : ℕ) (bodies : List ℕ) (c : Call) (depth : ℕ)
+    (s : State) (o : Outputs) (counts : List ℕ) (a : Answer) (s' : State) (c' : Call) (o' : Outputs) (counts' : List ℕ) : Type 0 where
+  pub follows : Follows text s o s' o'
+  pub counted : Counts counts' s'.fuel
+  pub settled : is_offer a ≡ false
+  pub less : is_left a ≡ false → s'.fuel < s.fuel
+  pub stays : is_left a ≡ false → Open m text c'
   pub same : (t : Loaded) → Book m text row count bodies t → (fs : List Frame) → length fs ≡ depth → (line : Bytes)
-      → comes_to s.fuel (rooms_of o) t (running (state_of text none (frame_of m text c ∷ fs) (tally_in t counts) s o memory))
-      ≡ comes_to a.state.fuel (rooms_of o) t (next_of m text fs (tally_in t counts') a nums bytes line o' memory')
+      → comes_to s.fuel (rooms_of o) t (running (state_of text none (frame_of m text c ∷ fs) (tally_in t counts) s o))
+      ≡ comes_to s'.fuel (rooms_of o) t (next_of m text fs (tally_in t counts') a c' s' line o')

@@ -1,8 +1,14 @@
 -- Each way through an offer, a body and a code line, by its law.
-use Rattle.std.proofs.Common.{refl, sym, ◌∙◌, arith}
+use Rattle.std.proofs.Common.{refl, sym, ap, ◌∙◌, arith}
+use borrow.Author.Rules.{rules}
+use lib.ListN.{length}
+use Rattle.model.specs.Text.{Bytes}
 use Rattle.matching.proofs.Matching.{choice_opening}
 use Rattle.matching.proofs.Counting.{choice_below}
-use Rattle.cycle_laws.proofs.Ways.{offer_left, offer_opens, calls_small, called_sound, called_less, called_counts, called_begun, offer_enters, offer_placed, advance_takes, advance_offers, running_starts, running_on, body_left}
+use Rattle.cycle_laws.proofs.Ways.{offer_fails, offer_passes, offer_opens, called_sound, called_less, called_counts, called_open, offer_enters, offer_placed, offer_less, turns_else, advance_takes, advance_fails, advance_lands, running_starts, running_on, body_left}
+use Rattle.answer.specs.Answers.{is_offer}
+use Rattle.std.specs.Prelude.{Ok}
+use Rattle.usage.proofs.Counts.{counts_less}
 use Rattle.cycle.proofs.+calls.Goals as goal
 
 -- ---- a line is offered
@@ -10,57 +16,79 @@ use Rattle.cycle.proofs.+calls.Goals as goal
 pub offer-count_decided-requires : goal.offer-count_decided-requires
 offer-count_decided-requires t c = (c.requires.5, choice_below c.requires.0 c.first_reading-found.ensures)
 
-pub offer-returns-in-Ends : goal.offer-returns-in-Ends
-offer-returns-in-Ends t c = offer_left c.requires.1 c.requires.5 c.first_reading-found.ensures c.count_decided.ensures c.decide.ensures c.in-Ends.is
+pub offer-returns-in_err-decide : goal.offer-returns-in_err-decide
+offer-returns-in_err-decide t c = offer_fails c.requires.1 c.requires.5 c.first_reading-found.ensures c.count_decided.ensures c.decide.ensures c.in_err-decide.was (search rules)
 
-pub offer-add_call-called-requires : goal.offer-add_call-called-requires
-offer-add_call-called-requires t c = calls_small c.requires.1 (offer_opens c.decide.ensures c.in-Opens.is)
+pub offer-returns-in_default : goal.offer-returns-in_default
+offer-returns-in_default t c = offer_passes c.requires.1 c.requires.5 c.first_reading-found.ensures c.count_decided.ensures c.decide.ensures c.in_ok-decide.was c.in_default.is
 
 pub offer-open_reading-call-requires : goal.offer-open_reading-call-requires
-offer-open_reading-call-requires t c =
-    let opens = offer_opens c.decide.ensures c.in-Opens.is in
-    choice_opening c.first_reading-found.ensures opens.found c.requires.0 c.requires.2
+offer-open_reading-call-requires t c = choice_opening c.first_reading-found.ensures c.in-Some.is c.requires.0 c.requires.2
 
 pub offer-body-requires : goal.offer-body-requires
 offer-body-requires t c =
-    let opens = offer_opens c.decide.ensures c.in-Opens.is in
-    let called = c.add_call-called.ensures in (
+    let opens = offer_opens c.first_reading-found.result c.decide.ensures c.in_ok-decide.was c.in-Some.is in
+    let called = c.add_call.ensures in (
       omega (arith, called_less c.requires.1 opens called, c.decreases),
       (
         c.requires.0,
         called_sound c.requires.1 opens called,
-        called_begun c.requires.1 opens called c.first_reading-found.ensures opens.found c.open_reading-call.ensures c.requires.0,
+        called_open c.requires.1 opens called c.first_reading-found.ensures c.open_reading-call.ensures c.requires.0,
         omega (arith, c.requires.3, opens.shallow),
-        (refl, refl),
         omega (arith, c.requires.4, c.first_reading-found.auto.dead),
         called_counts c.requires.1 opens called c.requires.5 c.count_decided.ensures,
       ),
     )
 
-pub offer-returns-in-Opens : goal.offer-returns-in-Opens
-offer-returns-in-Opens t c =
-    let opens = offer_opens c.decide.ensures c.in-Opens.is in
-    offer_enters c.requires.1 opens c.add_call-called.ensures c.first_reading-found.ensures opens.found c.open_reading-call.ensures c.requires.3 c.count_decided.ensures c.body.ensures
+pub offer-returns : goal.offer-returns
+offer-returns t c =
+    let opens = offer_opens c.first_reading-found.result c.decide.ensures c.in_ok-decide.was c.in-Some.is in
+    offer_enters c.requires.1 opens c.add_call.ensures c.first_reading-found.ensures c.open_reading-call.ensures c.requires.3 c.count_decided.ensures c.body.ensures
 
 -- ---- a body
 
-pub body-loop-m-init : goal.body-loop-m-init
-body-loop-m-init t c = running_starts c.requires.1 c.requires.6 c.requires.2 c.lay_out-c.ensures c.go_on-a.ensures
+pub body-loop-turn-init : goal.body-loop-turn-init
+body-loop-turn-init t c = running_starts c.requires.1 c.requires.5 c.requires.2
+
+pub body-returns-in_err-turn : goal.body-returns-in_err-turn
+body-returns-in_err-turn t c = body_left c.loop-turn.invariant c.in_err-turn.ensures refl (search rules)
 
 pub body-returns-then-is_left : goal.body-returns-then-is_left
-body-returns-then-is_left t c = body_left c.loop-m.invariant c.advance-r.ensures (sym c.is_left.ensures ∙ c.if-is_left.true)
+body-returns-then-is_left t c = body_left c.loop-turn.invariant c.in_ok-turn.ensures (sym c.is_left.ensures ∙ c.if-is_left.true) refl
 
-pub body-loop-m-preserved : goal.body-loop-m-preserved
-body-loop-m-preserved t c = running_on c.loop-m.invariant c.advance-r.ensures (sym c.is_left.ensures ∙ c.if-is_left.false)
+pub body-loop-turn-preserved : goal.body-loop-turn-preserved
+body-loop-turn-preserved t c = running_on c.loop-turn.invariant c.in_ok-turn.ensures (sym c.is_left.ensures ∙ c.if-is_left.false)
 
 -- ---- a code line
 
-pub advance-returns-then-not-is_offer : goal.advance-returns-then-not-is_offer
-advance-returns-then-not-is_offer t c = advance_takes c.step-q.ensures c.requires.5 (sym c.is_offer.ensures ∙ c.if-not-is_offer.true)
+pub advance-returns-in_err-turn : goal.advance-returns-in_err-turn
+advance-returns-in_err-turn t c = advance_takes c.in_err-turn.ensures c.requires.5 refl (search rules)
+
+pub advance-returns-in_default : goal.advance-returns-in_default
+advance-returns-in_default t c = advance_takes c.in_ok-turn.ensures c.requires.5 (turns_else _ c.in_default.not-Offers) refl
+
+pub advance-offer-requires : goal.advance-offer-requires
+advance-offer-requires t c =
+    let offers = ap (λ z. is_offer (Ok z)) c.in-Offers.is in
+    let steps = c.in_ok-turn.ensures in (
+      omega (arith, offer_less steps offers, c.decreases),
+      (
+        c.requires.0,
+        steps.follows.sound,
+        omega (arith, ap (λ (l : Bytes). length l) c.as_bytes.ensures, steps.short),
+        omega (arith, c.requires.3),
+        c.requires.4,
+        counts_less c.requires.5 steps.follows.fuel,
+      ),
+    )
 
 pub advance-land-requires : goal.advance-land-requires
-advance-land-requires t c = offer_placed c.step-q.ensures (sym c.is_offer.ensures ∙ c.if-not-is_offer.false)
+advance-land-requires t c = offer_placed c.in_ok-turn.ensures (ap (λ z. is_offer (Ok z)) c.in-Offers.is)
+
+pub advance-returns-in_err-offered : goal.advance-returns-in_err-offered
+advance-returns-in_err-offered t c =
+    advance_fails c.in_ok-turn.ensures (ap (λ z. is_offer (Ok z)) c.in-Offers.is) c.as_bytes.ensures c.offer.ensures c.in_err-offered.was (search rules)
 
 pub advance-returns : goal.advance-returns
 advance-returns t c =
-    advance_offers c.step-q.ensures (sym c.is_offer.ensures ∙ c.if-not-is_offer.false) c.offered_length-n.ensures c.offer-r.ensures c.land.ensures
+    advance_lands c.in_ok-turn.ensures (ap (λ z. is_offer (Ok z)) c.in-Offers.is) c.as_bytes.ensures c.offer.ensures c.in_ok-offered.was c.land.ensures
