@@ -55,9 +55,9 @@ pub fn offer(
         return Ok(Turn::Back(0));
     };
     s.add_call();
-    let mut call = open_reading(bodies, line, reading, s.calls);
+    let call = open_reading(bodies, line, reading, s.calls);
     body(
-        m, text, nodes, count, dead, bodies, output, second, counts, &mut call, depth, s,
+        m, text, nodes, count, dead, bodies, output, second, counts, call, depth, s,
     )
 }
 
@@ -73,20 +73,20 @@ fn body(
     output: &mut [u8],
     second: &mut [u8],
     counts: &mut [usize],
-    call: &mut Call,
+    mut call: Call,
     depth: usize,
     s: &mut State,
 ) -> Result<Turn, RunFault>
     requires { Prepared m text.now nodes.now count bodies.now × Sound text.now s.old (outputs output.old second.old)
-        × Open m text.now call.old × (depth < calls_most) × (dead_least ≤ length dead.old)
+        × Open m text.now call × (depth < calls_most) × (dead_least ≤ length dead.old)
         × Counts counts.old s.old.fuel }
-    ensures { Meets m text.now nodes.now count bodies.now none (frame_of m text.now call.old ∷ [])
+    ensures { Meets m text.now nodes.now count bodies.now none (frame_of m text.now call ∷ [])
         depth s.old (outputs output.old second.old) counts.old result
         s.new (outputs output.new second.new) counts.new }
 {
     loop {
         let turn = advance(
-            m, text, nodes, count, dead, bodies, output, second, counts, call, depth, s,
+            m, text, nodes, count, dead, bodies, output, second, counts, &mut call, depth, s,
         )?;
         if turn.is_left() {
             return Ok(turn);
