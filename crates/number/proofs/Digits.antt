@@ -19,7 +19,7 @@ use Rattle.model.specs.Value.{number, only_digits, is_stored_number, stored_numb
 use Rattle.model.proofs.Choices.{and_left, and_right}
 use Rattle.model.proofs.Depth.{number_leaves}
 use Rattle.number.specs.Number.{end, Gives, Valued}
-use Rattle.number.specs.Run.{DigitRun, DigitsRead, Numerals, capped, with_sign, signed_number}
+use Rattle.number.specs.Run.{DigitRun, DigitsRead, Numerals, saturated, with_sign, signed_number}
 use Rattle.number.specs.declared.Run.{Run}
 use Rattle.std.specs.Prelude.{None}
 use Rattle.number.proofs.Signed.{checked_out, gives_value}
@@ -54,18 +54,18 @@ rest-same a b (x ∷ l) = go (is_digit x) refl (rest-same (a * 10 + (x - 48)) (b
     go false e ih = rw (number_other a x l e, number_other b x l e)
 
 -- the cap may be taken before or after
-cap_early : (a : ℕ) (l : List ℕ) → capped (number (capped a) l).0 ≡ capped (number a l).0
-cap_early a [] = rw (number-none (capped a), number-none a) (omega arith)
+cap_early : (a : ℕ) (l : List ℕ) → saturated (number (saturated a) l).0 ≡ saturated (number a l).0
+cap_early a [] = rw (number-none (saturated a), number-none a) (omega arith)
 cap_early a (x ∷ l) = go (is_digit x) refl (λ n. cap_early n l)
   where
-    inner : capped (capped a * 10 + (x - 48)) ≡ capped (a * 10 + (x - 48))
+    inner : saturated (saturated a * 10 + (x - 48)) ≡ saturated (a * 10 + (x - 48))
     inner = omega arith
 
-    go : (t : Bool) → is_digit x ≡ t → ((n : ℕ) → capped (number (capped n) l).0 ≡ capped (number n l).0) → capped (number (capped a) (x ∷ l)).0 ≡ capped (number a (x ∷ l)).0
+    go : (t : Bool) → is_digit x ≡ t → ((n : ℕ) → saturated (number (saturated n) l).0 ≡ saturated (number n l).0) → saturated (number (saturated a) (x ∷ l)).0 ≡ saturated (number a (x ∷ l)).0
     go true e ih =
-        rw (number-digit (capped a) x l e, number-digit a x l e)
-        (sym (ih (capped a * 10 + (x - 48))) ∙ ap (λ n. capped (number n l).0) inner ∙ ih (a * 10 + (x - 48)))
-    go false e ih = rw (number_other (capped a) x l e, number_other a x l e) (omega arith)
+        rw (number-digit (saturated a) x l e, number-digit a x l e)
+        (sym (ih (saturated a * 10 + (x - 48))) ∙ ap (λ n. saturated (number n l).0) inner ∙ ih (a * 10 + (x - 48)))
+    go false e ih = rw (number_other (saturated a) x l e, number_other a x l e) (omega arith)
 
 -- ---- the loop that reads digits
 
@@ -80,7 +80,7 @@ module _ {s : List ℕ} {at : ℕ} where
         let b = rw e at r.rest in
         record { amount = sym (sym a ∙ capped_small); rest = sym b; from = r.from; upto = r.upto }
       where
-        capped_small : capped amount ≡ amount
+        capped_small : saturated amount ≡ amount
         capped_small = omega (arith, r.small)
 
     pub reading_ended : i ≡ length s → DigitRun s at (record { amount = amount; end = length s })
@@ -93,11 +93,11 @@ module _ {s : List ℕ} {at : ℕ} where
       pub reading-digit : not q ≡ false → is_digit (get_or s i 0) ≡ true
       reading-digit e = sym tested ∙ not-false q e
 
-      pub reading-more : {a : ℕ} → not q ≡ false → a ≡ capped (amount * 10 + (get_or s i 0 - 48)) → DigitsRead s at a (i + 1)
+      pub reading-more : {a : ℕ} → not q ≡ false → a ≡ saturated (amount * 10 + (get_or s i 0 - 48)) → DigitsRead s at a (i + 1)
       reading-more e w =
           let step : number amount (drop i s) ≡ number (amount * 10 + (get_or s i 0 - 48)) (drop (suc i) s) = rw (drop-cons s i 0 inside) (number-digit amount _ _ (reading-digit e)) in
           rw (w, add-one i) (record {
-            amounts = cap_early (amount * 10 + (get_or s i 0 - 48)) (drop (suc i) s) ∙ ap (λ p. capped p.0) (sym step) ∙ r.amounts;
+            amounts = cap_early (amount * 10 + (get_or s i 0 - 48)) (drop (suc i) s) ∙ ap (λ p. saturated p.0) (sym step) ∙ r.amounts;
             rest = rest-same _ _ (drop (suc i) s) ∙ ap (λ p. p.1) (sym step) ∙ r.rest;
             from = omega (arith, r.from);
             upto = omega arith;
@@ -112,18 +112,18 @@ far false n h = omega arith
 far true zero h = absurd (omega arith)
 far true (suc n) h = omega arith
 
-pub cap_checked : (minus : Bool) (n : ℕ) → checked (with_sign minus (pos (capped n))) ≡ checked (with_sign minus (pos n))
-cap_checked minus n = go (leb n end) refl
+pub saturated_checked : (minus : Bool) (n : ℕ) → checked (with_sign minus (pos (saturated n))) ≡ checked (with_sign minus (pos n))
+saturated_checked minus n = go (leb n end) refl
   where
-    go : (t : Bool) → leb n end ≡ t → checked (with_sign minus (pos (capped n))) ≡ checked (with_sign minus (pos n))
-    go true e = let small : capped n ≡ n = omega (arith, leb-true n end e) in ap (λ k. checked (with_sign minus (pos k))) small
+    go : (t : Bool) → leb n end ≡ t → checked (with_sign minus (pos (saturated n))) ≡ checked (with_sign minus (pos n))
+    go true e = let small : saturated n ≡ n = omega (arith, leb-true n end e) in ap (λ k. checked (with_sign minus (pos k))) small
     go false e =
         let h = leb-false n end e in
-        checked_out _ (far minus (capped n) (omega arith)) ∙ sym (checked_out _ (far minus n h))
+        checked_out _ (far minus (saturated n) (omega arith)) ∙ sym (checked_out _ (far minus n h))
 
 pub numeral : {s : List ℕ} {at : ℕ} {r : Run} → DigitRun s at r → {v : Valued} → Gives v (checked (with_sign false (pos r.amount))) → Numerals s at (record { value = v; end = r.end })
 numeral {s} {at} {r} run g = record {
-  gives = rw (run.amount, cap_checked false (number 0 (drop at s)).0) at g;
+  gives = rw (run.amount, saturated_checked false (number 0 (drop at s)).0) at g;
   rest = run.rest;
   from = run.from;
   past = λ l d.
@@ -176,7 +176,7 @@ module _ (minus : Bool) (s : List ℕ) where
       stored = rw (good, signed_number)
 
       pub all_read : {v : Valued} → Gives v (checked (with_sign minus (pos r.amount))) → Gives v (signed_number minus s)
-      all_read g = rw stored (rw (run.amount, cap_checked minus (number 0 s).0) at g)
+      all_read g = rw stored (rw (run.amount, saturated_checked minus (number 0 s).0) at g)
 
 module _ (m : Marks) where
   pub stored-none : (s : List ℕ) → length s < 1 → Gives None (stored_number m s)

@@ -8,12 +8,12 @@ use Rattle.number.specs.declared.Run.{Run}
 use Rattle.number.specs.declared.Numeral.{Numeral}
 
 -- a number as far as 64 bits hold it: above `end` no sign brings it into range
-abbrev pub capped : ℕ → ℕ
-capped n = min n (2 ^ 64 - 1)
+abbrev pub saturated : ℕ → ℕ
+saturated n = min n (2 ^ 64 - 1)
 
 -- r is the run of digits of s from `at` on
 pub record DigitRun (s : List ℕ) (at : ℕ) (r : Run) : Type 0 where
-  pub amount : r.amount ≡ capped (number 0 (drop at s)).0
+  pub amount : r.amount ≡ saturated (number 0 (drop at s)).0
   pub rest : (number 0 (drop at s)).1 ≡ drop r.end s
   pub from : at ≤ r.end
   pub upto : r.end ≤ length s
@@ -28,7 +28,7 @@ signed_number minus s = elim (is_stored_number s) [ true ↦ checked (with_sign 
 
 -- the digits of s from `at` up to i write the amount so far
 pub record DigitsRead (s : List ℕ) (at amount i : ℕ) : Type 0 where
-  pub amounts : capped (number amount (drop i s)).0 ≡ capped (number 0 (drop at s)).0
+  pub amounts : saturated (number amount (drop i s)).0 ≡ saturated (number 0 (drop at s)).0
   pub rest : (number amount (drop i s)).1 ≡ (number 0 (drop at s)).1
   pub from : at ≤ i
   pub upto : i ≤ length s

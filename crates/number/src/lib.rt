@@ -6,7 +6,7 @@ ghost use Rattle.model.specs.Text.{is_digit};
 ghost use Rattle.model.specs.Value.{checked, stored_number};
 ghost use Rattle.model.specs.Machine.{compares};
 ghost use Rattle.number.specs.Number.{Gives, WritesValue, step_value};
-ghost use Rattle.number.specs.Run.{DigitRun, Numerals, capped, with_sign, signed_number};
+ghost use Rattle.number.specs.Run.{DigitRun, Numerals, saturated, with_sign, signed_number};
 
 use model::{Comparison, DIGITS_MOST, Integer, Marks};
 
@@ -68,7 +68,7 @@ pub fn is_digit(b: u8) -> bool
 // The amount with one more digit.
 fn add_digit(amount: u64, b: u8) -> u64
     requires { is_digit b ≡ true }
-    ensures { result ≡ capped (amount * 10 + (b - 48)) }
+    ensures { result ≡ saturated (amount * 10 + (b - 48)) }
 {
     amount
         .saturating_mul(10)
