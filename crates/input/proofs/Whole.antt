@@ -2,7 +2,7 @@
 use mathlib.Core.Path.{◌≡◌, refl, sym, ap, ◌∙◌, subst}
 use mathlib.Core.Bool.{true, false}
 use mathlib.Core.Option.{none, some}
-use Rattle.std.specs.Prelude.{Some, None}
+use Rattle.std.specs.Prelude.{Ok, Err}
 use Rattle.faults.specs.declared.RunFault.TheVariants.{LongInput}
 use mathlib.Core.List.{List, []}
 use Prim.Native.Nat.{ℕ, ◌+◌, ◌-◌, ◌≤◌, ◌<◌}
@@ -14,11 +14,14 @@ use Rattle.model.specs.Text.{Bytes, part, lines}
 use Rattle.model.specs.Load.{Loaded}
 use Rattle.model.specs.Machine.{Rooms, Outputs, running, skip_in}
 use Rattle.scan.specs.Lines.{line_at, ContentAt}
+use Rattle.model.proofs.Choices.{false-not-true}
 use Rattle.nodes.specs.declared.Node.{Node}
 use Rattle.state.specs.declared.State.{State}
 use Rattle.state.specs.State.{shared_of, state_of, Sound, with_input}
-use Rattle.answer.specs.declared.Answer.{Answer}
-use Rattle.answer.specs.Answers.{ends_with, is_end, lines_back, settle, next_of, rooms_of, comes_to}
+use Rattle.call.specs.declared.Call.{Call}
+use Rattle.answer.specs.declared.Turn.{Turn}
+use Rattle.answer.specs.declared.Turn.TheVariants.{Continues, Offers, Back, Ends}
+use Rattle.answer.specs.Answers.{Answer, is_left, is_end, lines_back, settle, next_of, rooms_of, comes_to}
 use Rattle.answer.specs.Kept.{ExtendsBoth}
 use Rattle.answer.proofs.Following.{both_none, extends_more, rooms_kept}
 use Rattle.answer.proofs.Expansion.{next_back, next_ends}
@@ -28,108 +31,119 @@ use Rattle.cycle_laws.specs.Meets.{Meets}
 use Rattle.input.specs.Expands.{DropsLines, Expands}
 use Rattle.input.proofs.Reading.{input_over, input_read, input_long}
 
+-- a call, where none matters
+no_call : Call
+no_call = record { number = 0; next = 0; params = []; iterations = []; depth = 0 }
+
+-- a line that is done with leaves a call, and ends the run or skips lines
+pub ends_else : (z : Turn) → is_left (Ok z) ≡ true → ((n : ℕ) → ¬ (z ≡ Back n)) → is_end (Ok z) ≡ true
+ends_else Continues e h = false-not-true e
+ends_else Offers e h = false-not-true e
+ends_else (Back n) e h = absurd (h n refl)
+ends_else Ends e h = refl
+
 -- what the expansion comes to from s₀ on, it comes to from s on
-pub record Expanding (m : Marks) (text : Bytes) (row : List Node) (count : ℕ) (bodies : List ℕ) (s₀ : State) (o₀ : Outputs) (w₀ : Bytes) (cs₀ : List ℕ)
-    (s : State) (o : Outputs) (w : Bytes) (cs : List ℕ) : Type 0 where
-  pub sound : Sound text s o w
+pub record Expanding (m : Marks) (text : Bytes) (row : List Node) (count : ℕ) (bodies : List ℕ) (s₀ : State) (o₀ : Outputs) (cs₀ : List ℕ)
+    (s : State) (o : Outputs) (cs : List ℕ) : Type 0 where
+  pub sound : Sound text s o
   pub counted : Counts cs s.fuel
   pub extends : ExtendsBoth o₀ s₀ o s
   pub same : (t : Loaded) → Book m text row count bodies t
-      → comes_to s₀.fuel (rooms_of o₀) t (running (state_of text none [] (tally_in t cs₀) s₀ o₀ w₀)) ≡ comes_to s.fuel (rooms_of o₀) t (running (state_of text none [] (tally_in t cs) s o w))
+      → comes_to s₀.fuel (rooms_of o₀) t (running (state_of text none [] (tally_in t cs₀) s₀ o₀)) ≡ comes_to s.fuel (rooms_of o₀) t (running (state_of text none [] (tally_in t cs) s o))
 
-pub expanding_starts : {m : Marks} {text : Bytes} {row : List Node} {count : ℕ} {bodies : List ℕ} {s : State} {o : Outputs} {w : Bytes} {cs : List ℕ} → Sound text s o w → Counts cs s.fuel
-    → Expanding m text row count bodies s o w cs s o w cs
+pub expanding_starts : {m : Marks} {text : Bytes} {row : List Node} {count : ℕ} {bodies : List ℕ} {s : State} {o : Outputs} {cs : List ℕ} → Sound text s o → Counts cs s.fuel
+    → Expanding m text row count bodies s o cs s o cs
 expanding_starts h kept = record { sound = h; counted = kept; extends = both_none h; same = λ t b. refl }
 
 -- the state with lines read, each with a byte at least, is sound
-moved_sound : {text : Bytes} {s : State} {at line : ℕ} {o : Outputs} {w : Bytes} → Sound text s o w → at ≤ length text → line + s.at ≤ s.line + at → Sound text (with_input s at line) o w
+moved_sound : {text : Bytes} {s : State} {at line : ℕ} {o : Outputs} → Sound text s o → at ≤ length text → line + s.at ≤ s.line + at → Sound text (with_input s at line) o
 moved_sound h k few = record {
   within = k;
   lines = omega (arith, h.lines);
   written = h.written;
   second = h.second;
-  kept = h.kept;
   symbols = h.symbols;
   calls = h.calls;
   total = h.total;
 }
 
 -- and with one
-pub read_sound : {text : Bytes} {s x : State} {mark end next : ℕ} {o : Outputs} {w : Bytes} → Sound text s o w → ContentAt text mark s.at end next → x ≡ with_input s next (s.line + 1) → Sound text x o w
+pub read_sound : {text : Bytes} {s x : State} {mark end next : ℕ} {o : Outputs} → Sound text s o → ContentAt text mark s.at end next → x ≡ with_input s next (s.line + 1) → Sound text x o
 read_sound h c e = rw e (moved_sound h c.within (omega (arith, c.ahead)))
 
-module _ {m : Marks} {text : Bytes} {row : List Node} {count : ℕ} {bodies : List ℕ} {s₀ : State} {o₀ : Outputs} {w₀ : Bytes} {cs₀ : List ℕ} {s : State} {o : Outputs} {w : Bytes} {cs : List ℕ}
-    (i : Expanding m text row count bodies s₀ o₀ w₀ cs₀ s o w cs) where
+module _ {m : Marks} {text : Bytes} {row : List Node} {count : ℕ} {bodies : List ℕ} {s₀ : State} {o₀ : Outputs} {cs₀ : List ℕ} {s : State} {o : Outputs} {cs : List ℕ}
+    (i : Expanding m text row count bodies s₀ o₀ cs₀ s o cs) where
   -- no input is left
-  pub expands_over : {r : Answer} → length text ≤ s.at → r ≡ ends_with None s → Expands m text row count bodies s₀ o₀ w₀ cs₀ r o w cs
+  pub expands_over : length text ≤ s.at → Expands m text row count bodies s₀ o₀ cs₀ (Ok Ends) s o cs
   unfolding lines
-  expands_over h er = subst (λ (y : Answer). Expands m text row count bodies s₀ o₀ w₀ cs₀ y o w cs) (sym er) record {
+  expands_over h = record {
     sound = i.sound;
     counted = i.counted;
     extends = i.extends;
-    same = λ t b. i.same t b ∙ input_over (rooms_of o₀) m text t (tally_in t cs) s o w (ap lines (drop_of_length-le text h));
+    same = λ t b. i.same t b ∙ input_over (rooms_of o₀) m text t (tally_in t cs) s o (ap lines (drop_of_length-le text h));
   }
 
   module _ {end next : ℕ} {x : State} (content : ContentAt text m.source s.at end next) (ex : x ≡ with_input s next (s.line + 1)) where
     -- the line's content has over 200 bytes
-    pub expands_long : {r : Answer} → 200 < length (part text s.at end) → r ≡ ends_with (Some LongInput) x → Expands m text row count bodies s₀ o₀ w₀ cs₀ r o w cs
-    expands_long h er = subst (λ (y : Answer). Expands m text row count bodies s₀ o₀ w₀ cs₀ y o w cs) (sym (er ∙ ap (ends_with (Some LongInput)) ex)) record {
+    pub expands_long : 200 < length (part text s.at end) → Expands m text row count bodies s₀ o₀ cs₀ (Err LongInput) x o cs
+    expands_long h = subst (λ (y : State). Expands m text row count bodies s₀ o₀ cs₀ (Err LongInput) y o cs) (sym ex) record {
       sound = read_sound i.sound content refl;
       counted = i.counted;
       extends = record { first = i.extends.first; second = i.extends.second };
       same = λ t b. i.same t b
-          ∙ input_long (rooms_of o₀) m text t (tally_in t cs) s o w b.marks (line_at text s.at) (part text s.at end) next content.is content.content (lt-leb (length (part text s.at end)) 200 h);
+          ∙ input_long (rooms_of o₀) m text t (tally_in t cs) s o b.marks (line_at text s.at) (part text s.at end) next content.is content.content (lt-leb (length (part text s.at end)) 200 h);
     }
 
-    module _ {r : Answer} {o' : Outputs} {w' : Bytes} {cs' : List ℕ} (short : length (part text s.at end) ≤ 200) (h : Meets m text row count bodies (some (part text s.at end)) [] 0 x o w cs r o' w' cs') where
-      k : Meets m text row count bodies (some (part text s.at end)) [] 0 (with_input s next (s.line + 1)) o w cs r o' w' cs'
-      k = subst (λ (y : State). Meets m text row count bodies (some (part text s.at end)) [] 0 y o w cs r o' w' cs') ex h
+    module _ {r : Answer} {s' : State} {o' : Outputs} {cs' : List ℕ} (short : length (part text s.at end) ≤ 200) (h : Meets m text row count bodies (some (part text s.at end)) [] 0 x o cs r s' o' cs') where
+      k : Meets m text row count bodies (some (part text s.at end)) [] 0 (with_input s next (s.line + 1)) o cs r s' o' cs'
+      k = subst (λ (y : State). Meets m text row count bodies (some (part text s.at end)) [] 0 y o cs r s' o' cs') ex h
 
       line_same : (t : Loaded) → Book m text row count bodies t
-          → comes_to s₀.fuel (rooms_of o₀) t (running (state_of text none [] (tally_in t cs₀) s₀ o₀ w₀)) ≡ comes_to r.state.fuel (rooms_of o₀) t (next_of m text [] (tally_in t cs') r [] [] [] o' w')
+          → comes_to s₀.fuel (rooms_of o₀) t (running (state_of text none [] (tally_in t cs₀) s₀ o₀)) ≡ comes_to s'.fuel (rooms_of o₀) t (next_of m text [] (tally_in t cs') r no_call s' [] o')
       line_same t b = i.same t b
-          ∙ input_read (rooms_of o₀) m text t (tally_in t cs) s o w b.marks (line_at text s.at) (part text s.at end) next content.is content.content (le-leb (length (part text s.at end)) 200 short)
-          ∙ subst (λ (room : Rooms). comes_to s.fuel room t (running (state_of text (some (part text s.at end)) [] (tally_in t cs) (with_input s next (s.line + 1)) o w))
-          ≡ comes_to r.state.fuel room t (next_of m text [] (tally_in t cs') r [] [] [] o' w'))
-          (rooms_kept i.extends) (k.same t b [] refl [] [] [])
+          ∙ input_read (rooms_of o₀) m text t (tally_in t cs) s o b.marks (line_at text s.at) (part text s.at end) next content.is content.content (le-leb (length (part text s.at end)) 200 short)
+          ∙ subst (λ (room : Rooms). comes_to s.fuel room t (running (state_of text (some (part text s.at end)) [] (tally_in t cs) (with_input s next (s.line + 1)) o))
+          ≡ comes_to s'.fuel room t (next_of m text [] (tally_in t cs') r no_call s' [] o'))
+          (rooms_kept i.extends) (k.same t b [] refl no_call [])
 
       -- what is written since s₀
-      written_on : (at line : ℕ) → ExtendsBoth o₀ s₀ o' (with_input r.state at line)
+      written_on : (at line : ℕ) → ExtendsBoth o₀ s₀ o' (with_input s' at line)
       written_on at line = record { first = extends_more i.extends.first k.follows.extends.first; second = extends_more i.extends.second k.follows.extends.second }
 
       -- the run has ended with this line
-      pub expands_ended : is_end r.turn ≡ true → Expands m text row count bodies s₀ o₀ w₀ cs₀ r o' w' cs'
-      expands_ended e = record {
+      pub expands_ended : {a : Answer} → is_end r ≡ true → a ≡ r → Expands m text row count bodies s₀ o₀ cs₀ a s' o' cs'
+      expands_ended e ea = subst (λ (y : Answer). Expands m text row count bodies s₀ o₀ cs₀ y s' o' cs') (sym ea) record {
         sound = k.follows.sound;
         counted = k.counted;
-        extends = written_on r.state.at r.state.line;
-        same = λ t b. line_same t b ∙ next_ends m text r [] (tally_in t cs') [] [] [] o' w' e r.state.fuel (rooms_of o₀) t;
+        extends = written_on s'.at s'.line;
+        same = λ t b. line_same t b ∙ next_ends m text r [] (tally_in t cs') no_call s' [] o' e s'.fuel (rooms_of o₀) t;
       }
 
-      module _ {n : ℕ} {z : State} (en : n ≡ lines_back r.turn) (d : DropsLines text n r.state z) where
-        drops : DropsLines text (lines_back r.turn) r.state z
-        drops = subst (λ (j : ℕ). DropsLines text j r.state z) en d
+      module _ {n : ℕ} {z : State} (er : r ≡ Ok (Back n)) (d : DropsLines text n s' z) where
+        drops : DropsLines text (lines_back r) s' z
+        drops = subst (λ (x : Answer). DropsLines text (lines_back x) s' z) (sym er) d
 
         pub input_less : length text - z.at < length text - s.at
         input_less = omega (arith, k.follows.from, content.ahead, content.within, drops.from)
 
         -- the run goes on in the input
-        pub expanding_on : is_end r.turn ≡ false → Expanding m text row count bodies s₀ o₀ w₀ cs₀ z o' w' cs'
+        pub expanding_on : Expanding m text row count bodies s₀ o₀ cs₀ z o' cs'
         unfolding settle skip_in
-        expanding_on e =
-            let u = with_input r.state z.at z.line in
-            subst (λ (y : State). Expanding m text row count bodies s₀ o₀ w₀ cs₀ y o' w' cs') (sym drops.is) record {
+        expanding_on =
+            let e : is_end r ≡ false = ap (λ (x : Answer). is_end x) er in
+            let u = with_input s' z.at z.line in
+            subst (λ (y : State). Expanding m text row count bodies s₀ o₀ cs₀ y o' cs') (sym drops.is) record {
               sound = moved_sound k.follows.sound drops.within drops.few;
               counted = k.counted;
               extends = written_on z.at z.line;
-              same = λ t b. line_same t b ∙ ap (comes_to r.state.fuel (rooms_of o₀) t) (next_back m text r [] (tally_in t cs') [] [] [] o' w' k.left e)
+              same = λ t b. line_same t b ∙ ap (comes_to s'.fuel (rooms_of o₀) t) (next_back m text r [] (tally_in t cs') no_call s' [] o' k.left e)
                   ∙ (λ j. comes_to u.fuel (rooms_of o₀) t (running (record {
                     input = sym drops.input j;
                     line = sym drops.line j;
                     pending = none;
                     frames = [];
                     calls = u.calls;
-                    shared = shared_of u o' w';
+                    shared = shared_of u o';
                     events = u.events;
                     tally = tally_in t cs';
                   })));

@@ -8,8 +8,7 @@ use Rattle.model.specs.Machine.{Outputs, running}
 use Rattle.nodes.specs.declared.Node.{Node}
 use Rattle.state.specs.declared.State.{State}
 use Rattle.state.specs.State.{Sound, state_of, with_input}
-use Rattle.answer.specs.declared.Answer.{Answer}
-use Rattle.answer.specs.Answers.{rooms_of, comes_to, result_after}
+use Rattle.answer.specs.Answers.{Answer, rooms_of, comes_to, result_after}
 use Rattle.answer.specs.Kept.{ExtendsBoth}
 use Rattle.usage.specs.Counts.{Counts}
 use Rattle.matching.specs.Book.{Book, tally_in}
@@ -23,12 +22,12 @@ pub record DropsLines (text : Bytes) (n : ℕ) (s s' : State) : Type 0 where
   pub within : s'.at ≤ length text
   pub few : s'.line + s.at ≤ s.line + s'.at
 
--- r ends the run with the expansion's result. `row`, `count` and `bodies` are the nodes, how many the tree has and where the bodies start, s o memory counts are the state,
--- outputs, memory and counts before, and o' memory' counts' those after
+-- r ends the run with the expansion's result. `row`, `count` and `bodies` are the nodes, how many the tree has and where the bodies start, s o counts are the state,
+-- outputs and counts before, and s' o' counts' those after
 pub record Expands (m : Marks) (text : Bytes) (row : List Node) (count : ℕ) (bodies : List ℕ)
-    (s : State) (o : Outputs) (memory : Bytes) (counts : List ℕ) (r : Answer) (o' : Outputs) (memory' : Bytes) (counts' : List ℕ) : Type 0 where
-  pub sound : Sound text r.state o' memory'
-  pub counted : Counts counts' r.state.fuel
-  pub extends : ExtendsBoth o s o' r.state
+    (s : State) (o : Outputs) (counts : List ℕ) (r : Answer) (s' : State) (o' : Outputs) (counts' : List ℕ) : Type 0 where
+  pub sound : Sound text s' o'
+  pub counted : Counts counts' s'.fuel
+  pub extends : ExtendsBoth o s o' s'
   pub same : (t : Loaded) → Book m text row count bodies t
-      → comes_to s.fuel (rooms_of o) t (running (state_of text none [] (tally_in t counts) s o memory)) ≡ result_after t (tally_in t counts') r o' memory'
+      → comes_to s.fuel (rooms_of o) t (running (state_of text none [] (tally_in t counts) s o)) ≡ result_after t (tally_in t counts') r s' o'

@@ -9,7 +9,7 @@ ghost use Rattle.matching.specs.Book.{Prepared};
 ghost use Rattle.input.specs.Expands.{DropsLines, Expands};
 ghost use Rattle.model.specs.Limits.{fuel_most, dead_least};
 
-use answer::{Answer, end_run, end_with};
+use answer::Turn;
 use cycle::offer;
 use faults::RunFault;
 use model::{LINE_MOST, Marks};
@@ -18,23 +18,24 @@ use scan::{read_content, read_line};
 use state::State;
 
 // Drops n input lines, or all that are left: they are read and not measured.
-fn drop_lines(text: &[u8], n: usize, s: State) -> State
-    requires { (s.at ≤ length text.now) × (s.line + length text.now ≤ fuel_most + s.at) }
-    ensures { DropsLines text.now n s result }
+fn drop_lines(text: &[u8], n: usize, s: &mut State)
+    requires { (s.old.at ≤ length text.now) × (s.old.line + length text.now ≤ fuel_most + s.old.at) }
+    ensures { DropsLines text.now n s.old s.new }
 {
     let mut at = s.at;
     let mut line = s.line;
     for dropped in 0..n {
         if at == text.len() {
-            return s.set_input(at, line);
+            s.set_input(at, line);
+            return;
         }
         at = read_line(text, at).next;
         line += 1;
     }
-    s.set_input(at, line)
+    s.set_input(at, line);
 }
 
-// Expands the input that is left, from the names in memory on.
+// Expands the input that is left, from the names that are stored on.
 pub fn expand_input(
     m: Marks,
     text: &[u8],
@@ -44,32 +45,29 @@ pub fn expand_input(
     bodies: &[usize],
     output: &mut [u8],
     second: &mut [u8],
-    memory: &mut [u8],
     counts: &mut [usize],
-    s: State,
-) -> Answer
-    requires { Prepared m text.now nodes.now count bodies.now × Sound text.now s (outputs output.old second.old) memory.old
-        × (dead_least ≤ length dead.old) × Counts counts.old s.fuel }
-    ensures { Expands m text.now nodes.now count bodies.now s
-        (outputs output.old second.old) memory.old counts.old result
-        (outputs output.new second.new) memory.new counts.new }
+    s: &mut State,
+) -> Result<Turn, RunFault>
+    requires { Prepared m text.now nodes.now count bodies.now × Sound text.now s.old (outputs output.old second.old)
+        × (dead_least ≤ length dead.old) × Counts counts.old s.old.fuel }
+    ensures { Expands m text.now nodes.now count bodies.now s.old
+        (outputs output.old second.old) counts.old result
+        s.new (outputs output.new second.new) counts.new }
 {
-    let mut st = s;
-    while st.at < text.len() {
-        let line = read_content(text, m.source, st.at);
-        let content = &text[st.at..line.end];
-        let t = st.set_input(line.next, st.line + 1);
+    while s.at < text.len() {
+        let line = read_content(text, m.source, s.at);
+        let content = &text[s.at..line.end];
+        s.set_input(line.next, s.line + 1);
         if LINE_MOST < content.len() {
-            return end_with(RunFault::LongInput, t);
+            return Err(RunFault::LongInput);
         }
-        let r = offer(
-            m, text, nodes, count, dead, bodies, output, second, memory, counts, content, 0, t,
-        );
-        if r.is_end() {
-            return r;
-        }
-        let n = r.lines_back();
-        st = drop_lines(text, n, r.state);
+        let turn = offer(
+            m, text, nodes, count, dead, bodies, output, second, counts, content, 0, s,
+        )?;
+        let Turn::Back(n) = turn else {
+            return Ok(turn);
+        };
+        drop_lines(text, n, s);
     }
-    end_run(st)
+    Ok(Turn::Ends)
 }

@@ -1,27 +1,24 @@
 -- Each way through a line of the input, by its law: its content is too long, the run ends with it, or the run goes on behind it.
-use Rattle.std.proofs.Common.{sym, ◌∙◌}
-use Rattle.input.proofs.Whole.{expanding_starts, expands_over, expands_long, expands_ended, input_less, expanding_on}
+use borrow.Author.Rules.{rules}
+use Rattle.std.proofs.Common.{refl}
+use Rattle.input.proofs.Whole.{expands_over, expands_long, expands_ended, ends_else, expanding_on}
 use Rattle.input.proofs.expand_input.Goals as goal
 
-pub loop-st-init : goal.loop-st-init
-loop-st-init c = expanding_starts c.requires.1 c.requires.3
-
 pub returns-then-content-gt-LINE_MOST : goal.returns-then-content-gt-LINE_MOST
-returns-then-content-gt-LINE_MOST c =
-    expands_long c.loop-st.invariant c.read_content-line.ensures c.set_input-t.ensures c.if-content-gt-LINE_MOST.true c.end_with.ensures
+returns-then-content-gt-LINE_MOST c = expands_long c.loop-s.invariant c.read_content-line.ensures c.set_input.ensures c.if-content-gt-LINE_MOST.true
 
-pub returns-then-is_end : goal.returns-then-is_end
-returns-then-is_end c =
-    expands_ended c.loop-st.invariant c.read_content-line.ensures c.set_input-t.ensures c.if-content-gt-LINE_MOST.false c.offer-r.ensures (sym c.is_end.ensures ∙ c.if-is_end.true)
+pub returns-in_err-turn : goal.returns-in_err-turn
+returns-in_err-turn c =
+    expands_ended c.loop-s.invariant c.read_content-line.ensures c.set_input.ensures c.if-content-gt-LINE_MOST.false c.in_err-turn.ensures refl (search rules)
 
-pub loop-st-smaller : goal.loop-st-smaller
-loop-st-smaller c =
-    input_less c.loop-st.invariant c.read_content-line.ensures c.set_input-t.ensures c.if-content-gt-LINE_MOST.false c.offer-r.ensures c.lines_back-n.ensures c.drop_lines-st.ensures
+pub returns-in_default : goal.returns-in_default
+returns-in_default c =
+    let h = c.in_ok-turn.ensures in
+    expands_ended c.loop-s.invariant c.read_content-line.ensures c.set_input.ensures c.if-content-gt-LINE_MOST.false h (ends_else _ h.left c.in_default.not-Back) refl
 
-pub loop-st-preserved : goal.loop-st-preserved
-loop-st-preserved c =
-    expanding_on c.loop-st.invariant c.read_content-line.ensures c.set_input-t.ensures c.if-content-gt-LINE_MOST.false c.offer-r.ensures c.lines_back-n.ensures c.drop_lines-st.ensures
-    (sym c.is_end.ensures ∙ c.if-is_end.false)
+pub loop-s-preserved : goal.loop-s-preserved
+loop-s-preserved c =
+    expanding_on c.loop-s.invariant c.read_content-line.ensures c.set_input.ensures c.if-content-gt-LINE_MOST.false c.offer.ensures (search rules) c.drop_lines.ensures
 
 pub returns : goal.returns
-returns c = expands_over c.loop-st.invariant c.loop-st-test.false c.end_run.ensures
+returns c = expands_over c.loop-s.invariant c.loop-s-test.false

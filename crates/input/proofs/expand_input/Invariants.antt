@@ -4,10 +4,10 @@ use Rattle.model.specs.Machine.{outputs}
 use Rattle.input.proofs.Whole.{Expanding}
 use Rattle.input.proofs.expand_input.Given as goal
 
-abbrev pub invariant-loop-st : goal.invariant-loop-st
-invariant-loop-st l =
-    Expanding l.m l.text l.nodes l.count l.bodies l.fn.s (outputs l.initial.output l.initial.second) l.initial.memory l.initial.counts
-    l.st (outputs l.output l.second) l.memory l.counts
+abbrev pub invariant-loop-s : goal.invariant-loop-s
+invariant-loop-s l =
+    Expanding l.m l.text l.nodes l.count l.bodies l.initial.s (outputs l.initial.output l.initial.second) l.initial.counts
+    l.s (outputs l.output l.second) l.counts
 
-abbrev pub decreases-loop-st : goal.decreases-loop-st
-decreases-loop-st l = length l.text - l.st.at
+abbrev pub decreases-loop-s : goal.decreases-loop-s
+decreases-loop-s l = length l.text - l.s.at
