@@ -18,9 +18,7 @@ use Rattle.model.proofs.Input.{macro_line}
 use Rattle.nodes.specs.declared.Node.{Node}
 use Rattle.buffer.specs.Written.{Written}
 use Rattle.buffer.proofs.Written.{written-length}
-use Rattle.store.specs.declared.Index.{Index}
-use Rattle.store.specs.Memory.{held, Holds}
-use Rattle.store.specs.List.{Lists}
+use Rattle.store.specs.Names.{ListsNames}
 use Rattle.state.specs.declared.State.{State}
 use Rattle.state.specs.State.{state_of, Sound}
 use Rattle.faults.specs.Numbers.{load_number}
@@ -37,8 +35,7 @@ use Rattle.matching.specs.Book as Book
 use Rattle.matching.specs.Book.{tally_in}
 use Rattle.prepare.specs.declared.Prepared.{Prepared}
 use Rattle.prepare.specs.Prepares.{IsPrepared, Prepares}
-use Rattle.answer.specs.declared.Answer.{Answer}
-use Rattle.answer.specs.Answers.{end_number, result_after}
+use Rattle.answer.specs.Answers.{Answer, end_number, result_after}
 use Rattle.answer.specs.Kept.{Extends}
 use Rattle.input.specs.Expands.{Expands}
 use Rattle.model.specs.Runs.{Runs}
@@ -114,13 +111,13 @@ ready {text} {row} {t} p b =
 -- ---- the expansion of a text that is ready
 
 -- the answer, once memory is listed
-pub ended_as : {q : Answer} {reported : ℕ} {memory store store' : Bytes} {a b c d e f g k n : ℕ} → Lists memory q.state.index store n store' → k ≡ end_number q.turn → a ≡ k
-    → b ≡ q.state.line → c ≡ q.state.events → d ≡ q.state.written → f ≡ q.state.second → e ≡ n → g ≡ reported
-    → EndsRun q reported memory store (record { number = a; line = b; events = c; output = d; second = f; store = e; report = g }) store'
-ended_as {q} {memory = memory} {store} {store'} {e = e} h z u v w x s y p =
+pub ended_as : {q : Answer} {reported : ℕ} {s : State} {store store' : Bytes} {a b c d e f g k n : ℕ} → ListsNames s.store store n store' → k ≡ end_number q → a ≡ k
+    → b ≡ s.line → c ≡ s.events → d ≡ s.written → f ≡ s.second → e ≡ n → g ≡ reported
+    → EndsRun q reported s store (record { number = a; line = b; events = c; output = d; second = f; store = e; report = g }) store'
+ended_as {q} {s = s} {store} {store'} {e = e} h z u v w x b y p =
     record {
-      is = λ i. record { number = (u ∙ z) i; line = v i; events = w i; output = x i; second = s i; store = e; report = p i };
-      lists = subst (λ (k : ℕ). Written store (listing (held q.state.index.count memory)) k store') (sym y) h.is;
+      is = λ i. record { number = (u ∙ z) i; line = v i; events = w i; output = x i; second = b i; store = e; report = p i };
+      lists = subst (λ (k : ℕ). Written store (listing s.store) k store') (sym y) h.is;
     }
 
 -- an output's first bytes are what was written, and the others are unchanged
@@ -147,16 +144,15 @@ module _ {text : Bytes} {row : List Node} {bodies : List ℕ} {t : Prepared} (y 
   pub report_ready : {counts : List ℕ} {fuel : ℕ} {report : Bytes} → Counts counts fuel → 2048 ≤ length report → ReadyToReport t.table l.count counts report
   report_ready h room = record { few = y.few; lines = y.lines; long = h.long; counted = counts_few h; room = room }
 
-  module _ {x : Index} {fuel : ℕ} {s : State} (is : s ≡ start_of l x fuel) {memory : Bytes} (h : Holds memory x []) where
-    pub starts_sound : {output second : Bytes} → fuel ≤ 1000000 → Sound text s (outputs output second) memory
+  module _ {fuel : ℕ} {s : State} (is : s ≡ start_of l fuel) where
+    pub starts_sound : {output second : Bytes} → fuel ≤ 1000000 → Sound text s (outputs output second)
     starts_sound {output} {second} f =
-        subst (λ (z : State). Sound text z (outputs output second) memory) (sym is)
+        subst (λ (z : State). Sound text z (outputs output second)) (sym is)
         (record {
           within = y.at;
           lines = omega (arith, y.line, y.book.short);
           written = omega arith;
           second = omega arith;
-          kept = h.kept;
           symbols = omega arith;
           calls = omega arith;
           total = omega arith;
@@ -165,9 +161,9 @@ module _ {text : Bytes} {row : List Node} {bodies : List ℕ} {t : Prepared} (y 
     pub starts_counted : fuel ≤ 1000000 → Counts (replicate 129 0) s.fuel
     starts_counted f = subst (λ (z : State). Counts (replicate 129 0) z.fuel) (sym is) (counts_start f)
 
-    module _ {output second : Bytes} {q : Answer} {output' second' memory' : Bytes} {counts' : List ℕ}
-        (e : Expands l.marks text row l.nodes bodies s (outputs output second) memory (replicate 129 0) q (outputs output' second') memory' counts') where
-      begins : ◌≡◌ {A = Next} (running (initial u)) (running (state_of text none [] (tally_in u (replicate 129 0)) (start_of l x fuel) (outputs output second) memory))
+    module _ {output second : Bytes} {q : Answer} {s' : State} {output' second' : Bytes} {counts' : List ℕ}
+        (e : Expands l.marks text row l.nodes bodies s (outputs output second) (replicate 129 0) q s' (outputs output' second') counts') where
+      begins : ◌≡◌ {A = Next} (running (initial u)) (running (state_of text none [] (tally_in u (replicate 129 0)) (start_of l fuel) (outputs output second)))
       unfolding initial no_output
       begins = λ i. running (record {
         input = u.input;
@@ -175,16 +171,16 @@ module _ {text : Bytes} {row : List Node} {bodies : List ℕ} {t : Prepared} (y 
         pending = none;
         frames = [];
         calls = 0;
-        shared = record { symbols = 0; store = sym h.is i; output = no_output };
+        shared = record { symbols = 0; store = []; output = no_output };
         events = 0;
         tally = sym (counts_none u.macros y.book.few) i;
       })
 
-      expands : Expands l.marks text row l.nodes bodies (start_of l x fuel) (outputs output second) memory (replicate 129 0) q (outputs output' second') memory' counts'
-      expands = subst (λ (z : State). Expands l.marks text row l.nodes bodies z (outputs output second) memory (replicate 129 0) q (outputs output' second') memory' counts') is e
+      expands : Expands l.marks text row l.nodes bodies (start_of l fuel) (outputs output second) (replicate 129 0) q s' (outputs output' second') counts'
+      expands = subst (λ (z : State). Expands l.marks text row l.nodes bodies z (outputs output second) (replicate 129 0) q s' (outputs output' second') counts') is e
 
       -- what the run of the loaded text comes to
-      whole : result_after u (tally_in u counts') q (outputs output' second') memory' ≡ run fuel (rooms (length output) (length second)) (load text)
+      whole : result_after u (tally_in u counts') q s' (outputs output' second') ≡ run fuel (rooms (length output) (length second)) (load text)
       unfolding run
       whole = sym (ap (run fuel (rooms (length output) (length second))) y.loads
           ∙ ap (λ (z : Next). outcome u (after fuel (rooms (length output) (length second)) u z)) begins ∙ expands.same u y.book)
@@ -195,21 +191,21 @@ module _ {text : Bytes} {row : List Node} {bodies : List ℕ} {t : Prepared} (y 
       whole_report {report} {n} {report'} p =
           subst (λ (k : ℕ). Written report (report_bytes (report_rows u.macros (tally_of k counts'))) n report') (sym macros-counted) (p.is l.marks text)
 
-      pub loaded_runs : {store report : Bytes} {r : Ran} {n : ℕ} {store' report' : Bytes} → PrintsReport t.table l.count counts' report n report' → EndsRun q n memory' store r store'
+      pub loaded_runs : {store report : Bytes} {r : Ran} {n : ℕ} {store' report' : Bytes} → PrintsReport t.table l.count counts' report n report' → EndsRun q n s' store r store'
           → Runs (run fuel (rooms (length output) (length second)) (load text)) output second store report r output' second' store' report'
       unfolding ran_as
       loaded_runs {store} {report} {r} {n} {store'} {report'} p d =
-          let w = length-take-le q.state.written output' e.sound.written in
-          let v = length-take-le q.state.second second' e.sound.second in
-          let f : r.output ≡ q.state.written = ap (λ (z : Ran). z.output) d.is in
-          let g : r.second ≡ q.state.second = ap (λ (z : Ran). z.second) d.is in
+          let w = length-take-le s'.written output' e.sound.written in
+          let v = length-take-le s'.second second' e.sound.second in
+          let f : r.output ≡ s'.written = ap (λ (z : Ran). z.output) d.is in
+          let g : r.second ≡ s'.second = ap (λ (z : Ran). z.second) d.is in
           let k : r.report ≡ n = ap (λ (z : Ran). z.report) d.is in
           let b = whole_report p in
           same_runs whole (record {
             is = d.is ∙ (λ i. record {
-              number = end_number q.turn;
-              line = q.state.line;
-              events = q.state.events;
+              number = end_number q;
+              line = s'.line;
+              events = s'.events;
               output = sym w i;
               second = sym v i;
               store = sym d.lists.long i;
@@ -217,7 +213,7 @@ module _ {text : Bytes} {row : List Node} {bodies : List ℕ} {t : Prepared} (y 
             });
             writes = extended e.extends.first;
             writes_second = extended e.extends.second;
-            lists = d.lists.is ∙ ap (λ (n : ℕ). listing (held q.state.index.count memory') ++ drop n store) (sym d.lists.long);
+            lists = d.lists.is ∙ ap (λ (n : ℕ). listing s'.store ++ drop n store) (sym d.lists.long);
             reports = b.is ∙ ap (λ (n : ℕ). report_bytes (report_rows u.macros (tally_in u counts')) ++ drop n report) (sym b.long);
             written = omega (arith, e.sound.written);
             written_second = omega (arith, e.sound.second);

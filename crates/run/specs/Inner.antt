@@ -1,5 +1,5 @@
 -- What the inner functions ask for and answer.
-use Rattle.std.specs.Prelude.{◌≡◌, List, ℕ, ◌≤◌, ◌<◌, length}
+use Rattle.std.specs.Prelude.{◌≡◌, List, [], ℕ, ◌≤◌, ◌<◌, length}
 use Rattle.model.specs.Limits.{text_most, macros_most}
 use Rattle.model.specs.declared.Ran.{Ran}
 use Rattle.model.specs.Text.{Bytes}
@@ -7,16 +7,13 @@ use Rattle.model.specs.Store.{listing}
 use Rattle.model.specs.Load.{loaded, load}
 use Rattle.buffer.specs.Written.{Written}
 use Rattle.nodes.specs.declared.Node.{Node}
-use Rattle.store.specs.declared.Index.{Index}
-use Rattle.store.specs.Memory.{held}
 use Rattle.state.specs.declared.State.{State}
 use Rattle.macros.specs.Table.{line_in}
 use Rattle.load.specs.declared.Loaded.{Loaded}
 use Rattle.load.specs.Answer.{loaded_of}
 use Rattle.prepare.specs.declared.Prepared.{Prepared}
 use Rattle.matching.specs.Book.{Book}
-use Rattle.answer.specs.declared.Answer.{Answer}
-use Rattle.answer.specs.Answers.{end_number}
+use Rattle.answer.specs.Answers.{Answer, end_number}
 
 -- a text is loaded into t: the tree of its templates stands in the row, and `bodies` says where their bodies start
 pub record ReadyToRun (text : Bytes) (row : List Node) (bodies : List ℕ) (t : Prepared) : Type 0 where
@@ -28,18 +25,18 @@ pub record ReadyToRun (text : Bytes) (row : List Node) (bodies : List ℕ) (t : 
   pub line : t.loaded.line ≤ text_most
 
 -- the state before the first input line
-abbrev pub start_of : Loaded → Index → ℕ → State
-start_of r x fuel = record { at = r.input; line = r.line; calls = 0; symbols = 0; index = x; written = 0; second = 0; events = 0; fuel = fuel }
+abbrev pub start_of : Loaded → ℕ → State
+start_of r fuel = record { at = r.input; line = r.line; calls = 0; symbols = 0; store = []; written = 0; second = 0; events = 0; fuel = fuel }
 
--- r is the answer of a run that ended with q, with a report of so many bytes, and what memory holds is listed in the store
-pub record EndsRun (q : Answer) (reported : ℕ) (memory store : Bytes) (r : Ran) (store' : Bytes) : Type 0 where
+-- r is the answer of a run that ended with q in the state s, with a report of so many bytes, and what s stores is listed in the store
+pub record EndsRun (q : Answer) (reported : ℕ) (s : State) (store : Bytes) (r : Ran) (store' : Bytes) : Type 0 where
   pub is : r ≡ record {
-    number = end_number q.turn;
-    line = q.state.line;
-    events = q.state.events;
-    output = q.state.written;
-    second = q.state.second;
+    number = end_number q;
+    line = s.line;
+    events = s.events;
+    output = s.written;
+    second = s.second;
     store = r.store;
     report = reported;
   }
-  pub lists : Written store (listing (held q.state.index.count memory)) r.store store'
+  pub lists : Written store (listing s.store) r.store store'

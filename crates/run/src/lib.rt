@@ -3,27 +3,28 @@
 // in the caller's report.
 #![tactic(auto)]
 
-ghost use Rattle.std.specs.Prelude.{◌≡◌, [], ◌≤◌, length};
+ghost use Rattle.std.specs.Prelude.{◌≡◌, ◌≤◌, length};
 ghost use Rattle.model.specs.Load as Load;
 ghost use Rattle.model.specs.Machine as Machine;
 ghost use Rattle.model.specs.Machine.{rooms};
 ghost use Rattle.model.specs.Machine.{no_run};
 ghost use Rattle.model.specs.Results.{ran_as};
-ghost use Rattle.store.specs.Memory.{Kept, Holds};
 ghost use Rattle.prepare.specs.Prepares.{Prepares};
 ghost use Rattle.model.specs.Runs.{Runs};
 ghost use Rattle.usage.specs.Counts.{ReadyToReport, PrintsReport};
+ghost use Rattle.answer.specs.Answers.{end_number};
 ghost use Rattle.run.specs.Inner.{ReadyToRun, start_of, EndsRun};
 ghost use Rattle.model.specs.Limits.{store_least, dead_least, report_least, fuel_most};
 
-use answer::Answer;
+use answer::Turn;
+use faults::RunFault;
 use input::expand_input;
 use load::{Loaded, Refused};
-use model::{Ran, STORE_LEAST};
+use model::Ran;
 use nodes::Node;
 use prepare::Prepared;
 use state::State;
-use store::{Index, empty, listing};
+use store::Store;
 use usage::{COUNTS_SIZE, print_report};
 
 // A number and a line; nothing is written.
@@ -41,16 +42,16 @@ pub fn refuse(number: usize, line: usize) -> Ran
     }
 }
 
-// The state before the first input line, with the names that memory has.
-fn start(loaded: Loaded, index: Index, fuel: usize) -> State
-    ensures { result ≡ start_of loaded index fuel }
+// The state before the first input line, with nothing stored.
+fn start(loaded: Loaded, fuel: usize) -> State
+    ensures { result ≡ start_of loaded fuel }
 {
     State {
         at: loaded.input,
         line: loaded.line,
         calls: 0,
         symbols: 0,
-        index,
+        store: Store::new(),
         written: 0,
         second: 0,
         events: 0,
@@ -58,15 +59,24 @@ fn start(loaded: Loaded, index: Index, fuel: usize) -> State
     }
 }
 
-// The end of a run whose report has so many bytes: what memory holds is listed in the store.
-fn end(q: Answer, reported: usize, memory: &[u8], store: &mut [u8]) -> Ran
-    requires { Kept memory.now q.state.index × (store_least ≤ length store.old) }
-    ensures { EndsRun q reported memory.now store.old result store.new }
+// The number of the fault that ended a run, or 0.
+fn number_end(ended: Result<Turn, RunFault>) -> usize
+    ensures { result ≡ end_number ended }
 {
-    let s = q.state;
-    let n = listing(memory, s.index, store);
+    match ended {
+        Ok(Turn::Continues | Turn::Offers | Turn::Back(_) | Turn::Ends) => 0,
+        Err(fault) => fault.into(),
+    }
+}
+
+// The end of a run whose report has so many bytes: what is stored is listed in the caller's store.
+fn end(ended: Result<Turn, RunFault>, reported: usize, s: &State, store: &mut [u8]) -> Ran
+    requires { store_least ≤ length store.old }
+    ensures { EndsRun ended reported s.now store.old result store.new }
+{
+    let n = s.store.list(store);
     Ran {
-        number: q.end_number() as u64,
+        number: number_end(ended) as u64,
         line: s.line as u64,
         events: s.events as u64,
         output: s.written as u64,
@@ -94,22 +104,20 @@ fn run_loaded(
     fuel: usize,
     output: &mut [u8],
     second: &mut [u8],
-    memory: &mut [u8],
-    index: Index,
     store: &mut [u8],
     report: &mut [u8],
 ) -> Ran
     requires { ReadyToRun text.now nodes.now bodies.now t.now
-        × Holds memory.old index [] × (fuel ≤ fuel_most) × (store_least ≤ length store.old) × (dead_least ≤ length dead.old)
+        × (fuel ≤ fuel_most) × (store_least ≤ length store.old) × (dead_least ≤ length dead.old)
         × (report_least ≤ length report.old) }
     ensures { Runs (Machine.run fuel (rooms (length output.old) (length second.old)) (Load.load text.now))
         output.old second.old store.old report.old result
         output.new second.new store.new report.new }
 {
     let loaded = t.loaded;
-    let s = start(loaded, index, fuel);
+    let mut s = start(loaded, fuel);
     let mut counts = [0usize; COUNTS_SIZE];
-    let q = expand_input(
+    let ended = expand_input(
         loaded.marks,
         text,
         nodes,
@@ -118,12 +126,11 @@ fn run_loaded(
         bodies,
         output,
         second,
-        memory,
         &mut counts,
-        s,
+        &mut s,
     );
     let reported = report_uses(t, &counts, report);
-    end(q, reported, memory, store)
+    end(ended, reported, &s, store)
 }
 
 // The run of a text that is prepared, or refused.
@@ -148,21 +155,8 @@ pub fn run_prepared(
         Err(refused) => refuse(refused.fault.into(), refused.line),
         Ok(prepared) => {
             let bodies = prepared.table.list_bodies();
-            let mut memory = [0u8; STORE_LEAST];
-            let index = empty(&memory);
             run_loaded(
-                text,
-                nodes,
-                dead,
-                &bodies,
-                prepared,
-                fuel,
-                output,
-                second,
-                &mut memory,
-                index,
-                store,
-                report,
+                text, nodes, dead, &bodies, prepared, fuel, output, second, store, report,
             )
         }
     }

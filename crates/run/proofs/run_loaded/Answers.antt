@@ -2,16 +2,15 @@
 use Rattle.run.proofs.Running.{prepared, starts_sound, starts_counted, report_ready, loaded_runs}
 use Rattle.run.proofs.run_loaded.Goals as goal
 
-pub expand_input-q-requires : goal.expand_input-q-requires
-expand_input-q-requires c =
+pub expand_input-ended-requires : goal.expand_input-ended-requires
+expand_input-ended-requires c =
     let ready = c.requires.0 in
     let begins = c.start-s.ensures in
-    let empty = c.requires.1 in
-    let few = c.requires.2 in
-    (prepared ready, starts_sound ready begins empty few, c.requires.4, starts_counted ready begins empty few)
+    let few = c.requires.1 in
+    (prepared ready, starts_sound ready begins few, c.requires.3, starts_counted ready begins few)
 
 pub report_uses-reported-requires : goal.report_uses-reported-requires
-report_uses-reported-requires c = report_ready c.requires.0 c.expand_input-q.ensures.counted c.requires.5
+report_uses-reported-requires c = report_ready c.requires.0 c.expand_input-ended.ensures.counted c.requires.4
 
 pub returns : goal.returns
-returns c = loaded_runs c.requires.0 c.start-s.ensures c.requires.1 c.expand_input-q.ensures c.report_uses-reported.ensures c.end.ensures
+returns c = loaded_runs c.requires.0 c.start-s.ensures c.expand_input-ended.ensures c.report_uses-reported.ensures c.end.ensures
