@@ -13,6 +13,7 @@ use model::{Checked, DEAD_LEAST, Fitted, NODES_MOST, Ran};
 use nodes::Node;
 
 // A node of zeroes; a row's contents are free.
+// Written out: Node derives no Default, and a row of nodes is made here alone.
 fn make_node() -> Node {
     Node {
         element: 0,
