@@ -8,10 +8,10 @@ import re
 PATH = r"(?:\./)?(?P<path>\S+?):(?P<line>\d+):(?P<column>\d+): "
 ERROR = re.compile(rf"^{PATH}error(?:\[[\w-]+\])?: (?:`(?P<name>[^`\s]+)`: )?(?P<message>.*(?:\n  .*)*)", re.M)
 NOTE = re.compile(rf"^note: {PATH}(?P<message>it is not proved that .*?) \(`(?P<name>[^`]+)`\)", re.M)
-# A term that does not have its type, sides that are not equal, or a goal that does not follow. All else, as a name out of scope, a hole, a term
+# A term that does not have its type (a log of `rt ci` cuts such a message off), sides that are not equal, or a goal that does not follow. All else, as a name out of scope, a hole, a term
 # that was not admitted or a rewriting that finds nothing, tells of a proof that no longer fits.
-NOT_HAD = re.compile("expected type .* but this has type|the two (?:types|values|sides) (?:first )?(?:differ|are)|≟ .* does not hold"
-                     "|`(?:omega|grind)`: the goal does not follow|`search`: no proof of|^it is not proved that")
+NOT_HAD = re.compile("expected type .* but this has type|^expected type |^computed as a goal is, one side reads|the two (?:types|values|sides) (?:first )?(?:differ|are)|≟ .* does not hold"
+                     "|`(?:omega|grind)`: the goal does not follow|`grind` found no proof|`search`: no proof of|^it is not proved that")
 WRITTEN = "-- Written by tools/walk with the facts of its answers."  # the second line of a walk
 FOLLOWS = re.compile("so this cannot be checked|was rejected, w(?:as|ere) not checked|was not admitted, w(?:as|ere) not checked")
 FUNCTION = re.compile(r"^ *(?:pub )?(?:extern \"C\" )?fn (\w+)", re.M)

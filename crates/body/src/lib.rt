@@ -81,6 +81,7 @@ pub fn past_loop(m: Marks, text: &[u8], at: usize) -> usize
     requires { at ≤ length text.now }
     ensures { Leaves m text.now at result }
 {
+    // where the next code line starts is what the step says, so that the places are no range
     let mut i = at;
     let mut depth: usize = 0;
     loop {

@@ -141,6 +141,7 @@ fn read_conversion(d: usize, b: u8, at: usize) -> Option<Token>
 }
 
 // The two bytes after an escape, and the rest of the line, which starts at `at`.
+#[inline(always)]
 fn read_form(m: Marks, first: bool, a: u8, b: u8, rest: &[u8], at: usize) -> Option<Token>
     ensures { (text : List ℕ) (to : ℕ) → at ≤ to → rest.now ≡ part text at to → Forms text at to (form m first a b rest.now) result }
 {
@@ -152,7 +153,9 @@ fn read_form(m: Marks, first: bool, a: u8, b: u8, rest: &[u8], at: usize) -> Opt
     }
 }
 
-// What stands at `at` of a code line that ends before `to`; `first`: it is the line's start.
+// What stands at `at` of a code line that ends before `to`; `first`: it is the line's start. It is compiled where it is called: most tokens are
+// one byte, and a call for each costs more than the byte that it reads.
+#[inline(always)]
 pub fn read_token(m: Marks, text: &[u8], at: usize, to: usize, first: bool) -> Token
     requires { (at ≤ to) × (to ≤ length text.now) }
     ensures { ReadsToken m text.now at to first result }
@@ -172,6 +175,7 @@ pub fn read_ending(m: Marks, text: &[u8], at: usize, to: usize) -> Ending
     requires { (at ≤ to) × (to ≤ length text.now) }
     ensures { ReadsEnding m text.now at to result }
 {
+    // where a token ends is found by reading it, so that the places are no range
     let mut i = at;
     loop {
         match read_token(m, text, i, to, i == at) {

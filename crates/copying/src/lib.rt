@@ -63,6 +63,7 @@ fn copy_lines(
     ensures { CopiesLines m text.now ch name.now s.old
         (outputs output.old second.old) result s.new (outputs output.new second.new) }
 {
+    // how far the text is read stands in the state, which each line moves on: no range
     while s.at < text.len() {
         let line = read_content(text, m.source, s.at);
         let content = &text[s.at..line.end];

@@ -84,6 +84,7 @@ fn body(
         depth s.old (outputs output.old second.old) counts.old result
         s.new (outputs output.new second.new) counts.new }
 {
+    // the turns are not counted: the last one is that after which the call is left
     loop {
         let turn = advance(
             m, text, nodes, count, dead, bodies, output, second, counts, &mut call, depth, s,

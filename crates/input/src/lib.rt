@@ -54,6 +54,7 @@ pub fn expand_input(
         (outputs output.old second.old) counts.old result
         s.new (outputs output.new second.new) counts.new }
 {
+    // how far the text is read stands in the state, which each line moves on, and a call may read on: no range
     while s.at < text.len() {
         let line = read_content(text, m.source, s.at);
         let content = &text[s.at..line.end];

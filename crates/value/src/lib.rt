@@ -195,6 +195,7 @@ impl Source<'_> {
         ensures { ReadsAbove (3 * (length self.now.text.now - at) + 3) at self.now.text.now result
             (λ n. expression n self.now.m self.now.store.now (drop at self.now.text.now)) }
     {
+        // the turns are not counted: how it goes on is read after each
         let mut sum: Integer = 0;
         let mut j = self.start(at);
         loop {
@@ -219,6 +220,7 @@ impl Source<'_> {
         ensures { ReadsAbove (3 * (length self.now.text.now - at) + 2) (at + 1) self.now.text.now result
             (λ n. product n self.now.m self.now.store.now (drop at self.now.text.now)) }
     {
+        // as in a sum, the turns are not counted
         let mut value: Integer = 0;
         let mut j = Join::Go(Step::First, at);
         loop {

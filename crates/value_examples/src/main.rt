@@ -3,12 +3,10 @@
 // them, and the ends of the range for each step and each kind of operand.
 #![tactic(auto)]
 
-ghost use Rattle.store.specs.Memory.{Kept};
-
-use model::{Integer, Marks, STORE_LEAST};
+use model::{Integer, Marks};
 use scan::find_byte;
 use std::io::{Read, Write};
-use store::Index;
+use store::Store;
 
 // The marks of document 01's session.
 const SESSION: Marks = Marks {
@@ -32,63 +30,43 @@ fn say_number(output: &mut impl Write, z: Integer) {
     let _ = output.write_all(&out[0..n]);
 }
 
-// The names that the lines store.
-#[derive(Drop)]
-struct Names {
-    memory: [u8; STORE_LEAST],
-    index: Index,
-    ghost kept: { Kept memory index },
+// The text is stored under the name, unless either is too long or there is no room.
+fn keep(store: &mut Store, name: &[u8], text: &[u8]) {
+    if name.len() <= 255 && text.len() <= 255 {
+        let _ = store.put(name, text);
+    }
 }
 
-impl Names {
-    // None is stored yet.
-    fn new() -> Names {
-        let memory = [0u8; STORE_LEAST];
-        let index = store::empty(&memory);
-        Names { memory, index }
-    }
-
-    // The text is stored under the name, unless either is too long or there is no room.
-    fn keep(&mut self, name: &[u8], text: &[u8]) {
-        if name.len() <= 255 && text.len() <= 255 {
-            if let Ok(index) = store::put(&mut self.memory, self.index, name, text) {
-                self.index = index;
-            }
+// The text and its value.
+fn say(output: &mut impl Write, store: &Store, text: &[u8]) {
+    let _ = output.write_all(text);
+    let _ = output.write_all(b": ");
+    match value::value(SESSION, store, text) {
+        Some(z) => {
+            say_number(output, z);
+        }
+        None => {
+            let _ = output.write_all(b"fault 15");
         }
     }
+    let _ = output.write_all(b"\n");
+}
 
-    // The text and its value.
-    fn say(&self, output: &mut impl Write, text: &[u8]) {
-        let _ = output.write_all(text);
-        let _ = output.write_all(b": ");
-        match value::value(SESSION, &self.memory, self.index, text) {
-            Some(z) => {
-                say_number(output, z);
-            }
-            None => {
-                let _ = output.write_all(b"fault 15");
-            }
-        }
-        let _ = output.write_all(b"\n");
-    }
-
-    // One line.
-    fn turn(&mut self, output: &mut impl Write, line: &[u8]) {
-        let e = find_byte(line, 0, line.len(), b'=');
-        if e < line.len() {
-            let from = e + 1;
-            self.keep(&line[0..e], &line[from..]);
-        } else {
-            self.say(output, line);
-        }
+// One line.
+fn turn(output: &mut impl Write, store: &mut Store, line: &[u8]) {
+    let e = find_byte(line, 0, line.len(), b'=');
+    if e < line.len() {
+        keep(store, &line[..e], &line[e + 1..]);
+    } else {
+        say(output, store, line);
     }
 }
 
 // Each line of the text, in order.
 fn run(output: &mut impl Write, text: &[u8]) {
-    let mut names = Names::new();
+    let mut store = Store::new();
     for line in text.split_inclusive(|b| *b == b'\n') {
-        names.turn(output, line.strip_suffix(b"\n").unwrap_or(line));
+        turn(output, &mut store, line.strip_suffix(b"\n").unwrap_or(line));
     }
 }
 

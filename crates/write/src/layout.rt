@@ -26,6 +26,7 @@ impl<'a> Content for Layout<'a> {
 
     fn add_to(&self, output: &mut [u8], w: usize) {
         let text = self.text;
+        // a turn adds a field or a byte, and says how long it is: no range
         let mut i = 0;
         while i < text.len() {
             i += add_part(self.m, &text[i..], self.call, output, w + i);

@@ -40,7 +40,11 @@ class Tells(unittest.TestCase):
 
     def test_no_fact(self):
         self.assertFalse(self.tells(PROOF, f"{SAID}./proofs/f/Answers.antt:7:13: error: `returns`: `e5` is not in scope"))
-        self.assertFalse(self.tells(PROOF, f"{SAID}./proofs/f/Answers.antt:7:13: error: `returns`: expected type `x ≡ y` but thi"))
+        self.assertFalse(self.tells(PROOF, f"{SAID}./proofs/f/Answers.antt:7:13: error: `returns`: `rw` found nothing to rewr"))
+
+    def test_a_message_that_is_cut(self):
+        self.assertTrue(self.tells(PROOF, f"{SAID}./proofs/f/Answers.antt:7:13: error: `returns`: expected type `x ≡ y` but thi"))
+        self.assertFalse(self.tells(SOURCE, f"{SAID}note: src/lib.rt:5:5: it is not proved that what the function ensures holds (`retu"))
 
     def test_not_refused_for_the_edit(self):
         for log in ("", "rt: must-fail c/e.edit: BAD EDIT: it changes nothing", "rt: must-fail c/e.edit: NOT REFUSED: the crate is still proved",
