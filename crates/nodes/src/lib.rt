@@ -15,7 +15,7 @@ pub const ROOT_KEY: u16 = 258;
 // A node: the key of its element, its first child and how many children stand from there on, the number of its template, how many
 // elements may follow it, and how many placeholders stand up to and with it.
 #[repr(C)]
-#[derive(Clone, Copy)]
+#[derive(Clone, Copy, Default)]
 pub struct Node {
     pub element: u16,
     pub first: u16,
