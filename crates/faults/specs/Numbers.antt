@@ -4,6 +4,8 @@ use Rattle.faults.specs.declared.LoadFault.{LoadFault}
 use Rattle.faults.specs.declared.LoadFault.TheVariants.{BadText, BadFlags, LongContent, ManyPlaceholders, MetTemplate, BadCode, OpenSection, OverLimit}
 use Rattle.faults.specs.declared.RunFault.{RunFault}
 use Rattle.faults.specs.declared.RunFault.TheVariants.{LongInput, LongLine, NoRoom, DeepCall, NoValue, NoCodePoint, NoAtom, BadSkip, FullStore, NoFuel, BadCharacter}
+use Rattle.faults.specs.declared.Fault.{Fault}
+use Rattle.faults.specs.declared.Fault.TheVariants.{Illegal, Load, Run}
 
 abbrev pub load_number : LoadFault → ℕ
 load_number BadText = 2
@@ -27,3 +29,8 @@ run_number BadSkip = 18
 run_number FullStore = 19
 run_number NoFuel = 20
 run_number BadCharacter = 21
+
+abbrev pub fault_number : Fault → ℕ
+fault_number Illegal = 1
+fault_number (Load cause) = load_number cause
+fault_number (Run cause) = run_number cause

@@ -1,8 +1,10 @@
-// Why a text is refused while it is loaded, and why a run breaks off: each has its number in document 01's table.
+// Why a text is refused while it is loaded, why a run breaks off, and why a public call does nothing: each has its number in document 01's
+// table.
 #![tactic(auto)]
 
 ghost use Rattle.std.specs.Prelude.{◌≡◌};
-ghost use Rattle.faults.specs.Numbers.{load_number, run_number};
+ghost use Rattle.faults.specs.declared.Fault.TheVariants.{Load, Run};
+ghost use Rattle.faults.specs.Numbers.{load_number, run_number, fault_number};
 
 // Why a text is refused.
 #[derive(Clone, Copy, PartialEq, Eq)]
@@ -52,6 +54,37 @@ pub enum RunFault {
     BadCharacter,
 }
 
+// Why a public call does nothing, or a run breaks off.
+#[derive(Clone, Copy, PartialEq, Eq)]
+pub enum Fault {
+    // 1: what is lent is too small, or the fuel isn't 1 to 1,000,000
+    Illegal,
+    // the text is refused
+    Load(LoadFault),
+    // the run breaks off
+    Run(RunFault),
+}
+
+impl From<LoadFault> for Fault {
+    ghost from_gives = { λ cause fault. fault ≡ Load cause };
+
+    fn from(cause: LoadFault) -> Fault
+        ensures { result ≡ Load cause }
+    {
+        Fault::Load(cause)
+    }
+}
+
+impl From<RunFault> for Fault {
+    ghost from_gives = { λ cause fault. fault ≡ Run cause };
+
+    fn from(cause: RunFault) -> Fault
+        ensures { result ≡ Run cause }
+    {
+        Fault::Run(cause)
+    }
+}
+
 impl From<LoadFault> for usize {
     ghost from_gives = { λ fault number. number ≡ load_number fault };
 
@@ -89,6 +122,20 @@ impl From<RunFault> for usize {
             RunFault::FullStore => 19,
             RunFault::NoFuel => 20,
             RunFault::BadCharacter => 21,
+        }
+    }
+}
+
+impl From<Fault> for usize {
+    ghost from_gives = { λ fault number. number ≡ fault_number fault };
+
+    fn from(fault: Fault) -> usize
+        ensures { result ≡ fault_number fault }
+    {
+        match fault {
+            Fault::Illegal => 1,
+            Fault::Load(refused) => refused.into(),
+            Fault::Run(broken) => broken.into(),
         }
     }
 }
