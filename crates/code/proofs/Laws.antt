@@ -28,27 +28,19 @@ pub ruleset chain = (le-leb, lt-leb, eq-eqb, ne_eqb)
 
 -- ---- what is read, where nothing is, and as the model says it
 
-module _ {text : Bytes} {at to : ℕ} where
-  pub says_none : {f : Code.Form} {r : Option Ending} → r ≡ None → f ≡ Code.ends Code.malformed → Says text at to f r
-  says_none {f} e g = subst (λ (x : Option Ending). Says text at to f x) (sym e) (record { is = g; ranged = tt })
+module _ {line : Bytes} where
+  pub says_none : {f : Code.Form} {r : Option Ending} → r ≡ None → f ≡ Code.ends Code.malformed → Says line f r
+  says_none {f} e g = subst (λ (x : Option Ending). Says line f x) (sym e) (record { is = g; ranged = tt })
 
-  pub says_as : {f f' : Code.Form} {r : Option Ending} → f ≡ f' → Says text at to f' r → Says text at to f r
-  says_as e s = record { is = e ∙ s.is; ranged = s.ranged }
+  module _ {at : ℕ} where
+    pub forms_none : {f : Code.Form} {r : Option Token} → r ≡ None → f ≡ Code.ends Code.malformed → Forms line at f r
+    forms_none {f} e g = subst (λ (x : Option Token). Forms line at f x) (sym e) (record { is = g; ranged = tt })
 
-  pub forms_none : {f : Code.Form} {r : Option Token} → r ≡ None → f ≡ Code.ends Code.malformed → Forms text at to f r
-  forms_none {f} e g = subst (λ (x : Option Token). Forms text at to f x) (sym e) (record { is = g; ranged = tt })
+    pub forms_as : {f f' : Code.Form} {r : Option Token} → f ≡ f' → Forms line at f' r → Forms line at f r
+    forms_as e s = record { is = e ∙ s.is; ranged = s.ranged }
 
-  pub forms_as : {f f' : Code.Form} {r : Option Token} → f ≡ f' → Forms text at to f' r → Forms text at to f r
-  forms_as e s = record { is = e ∙ s.is; ranged = s.ranged }
-
-  pub forms_ends : {f : Code.Form} {k : Ending} → Says text at to f (Some k) → Forms text at to f (Some (Ends k))
-  forms_ends s = record { is = s.is; ranged = s.ranged }
-
--- F1 with no channel
-pub writing-none : (first : Bool) → Code.writing first Math.none ≡ Code.malformed
-unfolding Code.writing
-writing-none true = refl
-writing-none false = refl
+    pub forms_ends : {f : Code.Form} {k : Ending} → Says line f (Some k) → Forms line at f (Some (Ends k))
+    forms_ends s = record { is = s.is; ranged = s.ranged }
 
 -- ---- the model's definitions, by their tests
 
@@ -100,21 +92,25 @@ value_by m s h =
     let x : ℕ = get_or s 0 0 in
     ap (Code.value_test m) (first_is s h) ∙ choice (eqb x 48) refl (choice (eqb x 49) refl (choice (eqb x m.minus) refl (choice (eqb x m.plus) refl refl)))
 
-pub line_by : (m : Marks) (b : ℕ) (s : Bytes)
-    → Code.line_function m b s
-    ≡ cond (eqb b 48) Code.stop (cond (eqb b 50) (Code.copying (Code.channel_of s)) (cond (eqb b 51) Code.save (cond (eqb b 52) Code.skip
-    (cond (eqb b 53) (Code.text_test s) (cond (eqb b 54) (Code.value_test m s) (cond (eqb b 56) Code.again (cond (eqb b 57) Code.leave Code.malformed)))))))
-unfolding Code.line_function
-line_by m b s =
-    choice (eqb b 48) refl (choice (eqb b 50) refl (choice (eqb b 51) refl (choice (eqb b 52) refl
-    (choice (eqb b 53) refl (choice (eqb b 54) refl (choice (eqb b 56) refl (choice (eqb b 57) refl refl)))))))
+ends_choice : (q : Bool) {x y : Code.Ending} {x' y' : Code.Form} → Code.ends x ≡ x' → Code.ends y ≡ y' → Code.ends (elim q as (λ _. Code.Ending) [ true ↦ x | false ↦ y ]) ≡ cond q x' y'
+ends_choice true e f = e
+ends_choice false e f = f
 
-pub function-by : (m : Marks) (first : Bool) (b : ℕ) (s : Bytes)
-    → Code.function m first b s
-    ≡ cond (eqb b 49) (Code.ends (Code.writing first (Code.channel_of s)))
-    (cond (eqb b 55) (Code.ends Code.repeat) (cond first (Code.ends (Code.line_function m b s)) (Code.ends Code.malformed)))
+pub first_by : (m : Marks) (b : ℕ) (s : Bytes)
+    → Code.function m true b s
+    ≡ cond (eqb b 49) (Code.ends (Code.writing true (Code.channel_of s))) (cond (eqb b 55) (Code.ends Code.repeat)
+    (cond (eqb b 48) (Code.ends Code.stop) (cond (eqb b 50) (Code.ends (Code.copying (Code.channel_of s))) (cond (eqb b 51) (Code.ends Code.save)
+    (cond (eqb b 52) (Code.ends Code.skip) (cond (eqb b 53) (Code.ends (Code.text_test s)) (cond (eqb b 54) (Code.ends (Code.value_test m s))
+    (cond (eqb b 56) (Code.ends Code.again) (cond (eqb b 57) (Code.ends Code.leave) (Code.ends Code.malformed))))))))))
+unfolding Code.function Code.line_function
+first_by m b s =
+    choice (eqb b 49) refl (choice (eqb b 55) refl (ends_choice (eqb b 48) refl (ends_choice (eqb b 50) refl (ends_choice (eqb b 51) refl
+    (ends_choice (eqb b 52) refl (ends_choice (eqb b 53) refl (ends_choice (eqb b 54) refl (ends_choice (eqb b 56) refl (ends_choice (eqb b 57) refl refl)))))))))
+
+pub later_by : (m : Marks) (b : ℕ) (s : Bytes)
+    → Code.function m false b s ≡ cond (eqb b 49) (Code.ends (Code.writing false (Code.channel_of s))) (cond (eqb b 55) (Code.ends Code.repeat) (Code.ends Code.malformed))
 unfolding Code.function
-function-by m first b s = choice (eqb b 49) refl (choice (eqb b 55) refl (choice first refl refl))
+later_by m b s = choice (eqb b 49) refl (choice (eqb b 55) refl refl)
 
 pub conversion-by : (d b : ℕ) (s : Bytes)
     → Code.conversion d b s ≡ cond (eqb b 54) (Code.ends (Code.assign d)) (cond (eqb b 55) (Code.ends (Code.iterate d s)) (Code.converting d (Code.conversion_of b)))

@@ -8,22 +8,21 @@ use borrow.Author.Tests.{eq-eqb, ne_eqb}
 use lib.Dec.{eqb}
 use lib.Seq.{drop-cons}
 use lib.ListN.{length, get_or, take, drop, length-drop}
-use Rattle.model.specs.Text.{Bytes, part}
+use Rattle.model.specs.Text.{Bytes}
 use Rattle.model.specs.Code as Code
 use Rattle.model.specs.declared.Marks.{Marks}
 use Rattle.model.specs.declared.Effect.{Effect}
 use Rattle.model.proofs.Choices.{when_true, when_false}
 use Rattle.std.specs.Prelude.{Option, Some, None, unwrap_or}
-use Rattle.std.proofs.lemmas.List.{take_rest}
-use Rattle.model.proofs.Text.{part_length, part-drop}
+use Rattle.std.proofs.lemmas.List.{take_rest, drop-drop}
 use Rattle.code.specs.declared.Part.{Part}
 use Rattle.code.specs.declared.Part.TheVariants.{Byte}
 use Rattle.code.specs.declared.Ending.{Ending}
-use Rattle.code.specs.declared.Ending.TheVariants.{Offer, Assign, Iterate, Stop, Write, Layout, Copy, Save, Skip, SkipText, SkipValue, Repeat, Again, Leave, Malformed}
+use Rattle.code.specs.declared.Ending.TheVariants.{Offer, Malformed}
 use Rattle.code.specs.declared.Token.{Token}
 use Rattle.code.specs.declared.Token.TheVariants.{Ends, Has}
 use Rattle.code.proofs.Laws.{empty, first_is}
-use Rattle.code.specs.Tokens.{ending_of, part_of, token_code, Ranged, RangedPart, RangedToken, Forms, ReadsToken, ReadsEnding, Affects}
+use Rattle.code.specs.Tokens.{ending_of, part_of, token_code, Ranged, RangedPart, RangedToken, said, Says, Forms, ReadsToken, ReadsEnding, Affects}
 
 -- ---- one token
 
@@ -48,32 +47,20 @@ module _ (m : Marks) (first : Bool) where
   unfolding Code.parse
   parse-form x a b s e = when_true _ _ e
 
--- what is read from a later place lies after an earlier one
-ranged_from : {a at : ℕ} (to : ℕ) (k : Ending) → at ≤ a → Ranged a to k → Ranged at to k
-ranged_from to Offer h g = tt
-ranged_from to (Assign d) h g = g
-ranged_from to (Iterate d p) h g = (g.0, (omega arith, g.1.1))
-ranged_from to Stop h g = tt
-ranged_from to (Write ch) h g = tt
-ranged_from to (Layout ch) h g = tt
-ranged_from to (Copy ch) h g = tt
-ranged_from to Save h g = tt
-ranged_from to Skip h g = tt
-ranged_from to (SkipText b) h g = tt
-ranged_from to (SkipValue o) h g = tt
-ranged_from to Repeat h g = tt
-ranged_from to Again h g = tt
-ranged_from to Leave h g = tt
-ranged_from to Malformed h g = tt
+-- the bytes of a line from `at` on, as the slice of it
+module _ (line : Bytes) (at : ℕ) where
+  abbrev pub here : Bytes
+  here = take (length line - at) (drop at line)
 
--- the bytes from `at` on up to `to`
-module _ (text : Bytes) (at to : ℕ) (within : to ≤ length text) where
-  pub long : {n : ℕ} → n ≤ length (part text at to) → 1 ≤ n → at + n ≤ to
-  long h k = omega (arith, part_length text at to within)
+  pub long : {n : ℕ} → n ≤ length here → 1 ≤ n → at + n ≤ length line
+  long h k = omega (arith, take_rest line at, length-drop at line, ap length (take_rest line at))
 
-  -- what follows the first three
-  pub after : take (length (part text at to) - 3) (drop 3 (part text at to)) ≡ part text (at + 3) to
-  after = take_rest (part text at to) 3 ∙ part-drop text at to 3
+  -- what follows the first ones
+  pub behind : (n : ℕ) → drop n here ≡ drop (at + n) line
+  behind n = ap (λ s. drop n s) (take_rest line at) ∙ drop-drop n at line
+
+  pub after : take (length here - 3) (drop 3 here) ≡ drop (at + 3) line
+  after = take_rest here 3 ∙ behind 3
 
 -- a list of three bytes or more
 three : (s : Bytes) → 3 ≤ length s → s ≡ get_or s 0 0 ∷ get_or s 1 0 ∷ get_or s 2 0 ∷ take (length s - 3) (drop 3 s)
@@ -82,116 +69,139 @@ three s h =
     let second = drop-cons s 1 0 (omega arith) ∙ ap (λ t. get_or s 1 0 ∷ t) third in
     first_is s (omega arith) ∙ ap (λ t. get_or s 0 0 ∷ t) second
 
-module _ {m : Marks} {text : Bytes} {at to : ℕ} {first : Bool} where
-  pub token_end : length (part text at to) < 1 → ReadsToken m text at to first (Ends Offer)
-  unfolding Code.parse
-  token_end h = record { is = ap (λ s. Code.parse m first s) (empty _ h); ranged = tt }
+-- what a line says from `at` on, by the slice's bytes
+parsed : (m : Marks) (line : Bytes) (at : ℕ) {s : Bytes} → here line at ≡ s → Code.parse m (eqb at 0) (drop at line) ≡ Code.parse m (eqb at 0) s
+parsed m line at e = ap (λ s. Code.parse m (eqb at 0) s) (sym (take_rest line at) ∙ e)
 
-  pub token_byte : to ≤ length text → 1 ≤ length (part text at to) → (get_or (part text at to) 0 0 ≡ m.escape → ⊥)
-      → ReadsToken m text at to first (Has (Byte (get_or (part text at to) 0 0)) (at + 1))
-  token_byte w h n =
-      let k = long text at to w h (omega arith) in
+module _ {m : Marks} {line : Bytes} {at : ℕ} where
+  pub token_end : length (here line at) < 1 → ReadsToken m line at (Ends Offer)
+  unfolding Code.parse
+  token_end h = record { is = parsed m line at (empty _ h); ranged = tt }
+
+  pub token_byte : 1 ≤ length (here line at) → (get_or (here line at) 0 0 ≡ m.escape → ⊥) → ReadsToken m line at (Has (Byte (get_or (here line at) 0 0)) (at + 1))
+  token_byte h n =
+      let k = long line at h (omega arith) in
       record {
-        is = ap (λ s. Code.parse m first s) (first_is _ h) ∙ parse_byte m first _ _ (ne_eqb _ _ n)
-            ∙ ap (λ s. Code.onto (Code.byte (get_or (part text at to) 0 0)) (Code.parse m false s)) (part-drop text at to 1);
+        is = parsed m line at (first_is _ h) ∙ parse_byte m (eqb at 0) _ _ (ne_eqb _ _ n)
+            ∙ ap (λ s. Code.onto (Code.byte (get_or (here line at) 0 0)) (Code.parse m false s)) (behind line at 1);
         ranged = (tt, (omega arith, omega arith));
       }
 
-  pub token_short : 1 ≤ length (part text at to) → get_or (part text at to) 0 0 ≡ m.escape → length (part text at to) < 3 → ReadsToken m text at to first (Ends Malformed)
+  pub token_short : 1 ≤ length (here line at) → get_or (here line at) 0 0 ≡ m.escape → length (here line at) < 3 → ReadsToken m line at (Ends Malformed)
   token_short h e l =
       record {
-        is = ap (λ s. Code.parse m first s) (first_is _ h) ∙ parse_short m first _ _ (eq-eqb _ _ e) (omega (arith, length-drop 1 (part text at to)));
+        is = parsed m line at (first_is _ h) ∙ parse_short m (eqb at 0) _ _ (eq-eqb _ _ e) (omega (arith, length-drop 1 (here line at)));
         ranged = tt;
       }
 
-module _ (m : Marks) (text : Bytes) (at to : ℕ) (first : Bool) (w : to ≤ length text) (l : 3 ≤ length (part text at to)) (e : get_or (part text at to) 0 0 ≡ m.escape) where
-  form_is : {f : Code.Form} → Code.form m first (get_or (part text at to) 1 0) (get_or (part text at to) 2 0) (take (length (part text at to) - 3) (drop 3 (part text at to))) ≡ f
-      → Code.parse m first (part text at to) ≡ formed m first f (part text (at + 3) to)
-  form_is {f} q =
-      ap (λ s. Code.parse m first s) (three (part text at to) l) ∙ parse-form m first _ _ _ _ (eq-eqb _ _ e) ∙ ap (λ g. formed m first g (take (length (part text at to) - 3) (drop 3 (part text at to)))) q
-      ∙ ap (λ s. formed m first f s) (after text at to w)
+-- what is read where nothing is
+said_is : (line : Bytes) (k : Option Ending) → said (ending_of line) k ≡ ending_of line (unwrap_or k Malformed)
+said_is line None = refl
+said_is line (Some k) = refl
 
-  token_formed : (f : Option Token)
-      → Forms text (at + 3) to (Code.form m first (get_or (part text at to) 1 0) (get_or (part text at to) 2 0) (take (length (part text at to) - 3) (drop 3 (part text at to)))) f
-      → ReadsToken m text at to first (unwrap_or f (Ends Malformed))
-  token_formed None g = record { is = form_is g.is; ranged = tt }
-  token_formed (Some (Ends k)) g = record { is = form_is g.is; ranged = ranged_from to k (omega arith) g.ranged }
-  token_formed (Some (Has p i)) g =
-      let k = long text at to w l (omega arith) in
-      record {
-        is = form_is g.is ∙ ap (λ j. Code.onto (part_of p) (Code.parse m false (part text j to))) (sym g.ranged.1);
-        ranged = (g.ranged.0, (omega (arith, g.ranged.1), omega (arith, g.ranged.1)));
-      }
+says_ranged : {line : Bytes} {f : Code.Form} (k : Option Ending) → Says line f k → Ranged line (unwrap_or k Malformed)
+says_ranged None s = tt
+says_ranged (Some k) s = s.ranged
 
-  pub token_form : {f : Option Token} {r : Token}
-      → Forms text (at + 3) to (Code.form m first (get_or (part text at to) 1 0) (get_or (part text at to) 2 0) (take (length (part text at to) - 3) (drop 3 (part text at to)))) f
-      → r ≡ unwrap_or f (Ends Malformed) → ReadsToken m text at to first r
-  token_form {f} g q = subst (λ (x : Token). ReadsToken m text at to first x) (sym q) (token_formed f g)
+-- the form after an escape, and the function where it is an F
+module _ (m : Marks) (line : Bytes) (at : ℕ) where
+  abbrev form_here : Code.Form
+  form_here = Code.form m (eqb at 0) (get_or (here line at) 1 0) (get_or (here line at) 2 0) (drop (at + 3) line)
+
+  abbrev function_here : Bool → Code.Form
+  function_here first = Code.function m first (get_or (here line at) 2 0) (take (length (here line at) - 3) (drop 3 (here line at)))
+
+  function_is : (first : Bool) → get_or (here line at) 1 0 ≡ 70 → eqb at 0 ≡ first → form_here ≡ function_here first
+  unfolding Code.form
+  function_is first w z =
+      when_true _ _ (eq-eqb _ _ w)
+      ∙ ap (λ x. Code.function m x (get_or (here line at) 2 0) (drop (at + 3) line)) z
+      ∙ ap (λ s. Code.function m first (get_or (here line at) 2 0) s) (sym (after line at))
+
+  module _ (l : 3 ≤ length (here line at)) (e : get_or (here line at) 0 0 ≡ m.escape) where
+    form_is : {f : Code.Form} → form_here ≡ f → Code.parse m (eqb at 0) (drop at line) ≡ formed m (eqb at 0) f (drop (at + 3) line)
+    form_is q =
+        parsed m line at (three (here line at) l) ∙ parse-form m (eqb at 0) _ _ _ _ (eq-eqb _ _ e)
+        ∙ ap (λ s. formed m (eqb at 0) (Code.form m (eqb at 0) (get_or (here line at) 1 0) (get_or (here line at) 2 0) s) s) (after line at)
+        ∙ ap (λ g. formed m (eqb at 0) g (drop (at + 3) line)) q
+
+    token_formed : (f : Option Token) → Forms line (at + 3) form_here f → ReadsToken m line at (unwrap_or f (Ends Malformed))
+    token_formed None g = record { is = form_is g.is; ranged = tt }
+    token_formed (Some (Ends k)) g = record { is = form_is g.is; ranged = g.ranged }
+    token_formed (Some (Has p i)) g =
+        let k = long line at l (omega arith) in
+        record {
+          is = form_is g.is ∙ ap (λ j. Code.onto (part_of p) (Code.parse m false (drop j line))) (sym g.ranged.1);
+          ranged = (g.ranged.0, (omega (arith, g.ranged.1), omega (arith, g.ranged.1)));
+        }
+
+    token_function : (first : Bool) → get_or (here line at) 1 0 ≡ 70 → eqb at 0 ≡ first → (f : Option Ending) {k : Ending} → Says line (function_here first) f → k ≡ unwrap_or f Malformed
+        → ReadsToken m line at (Ends k)
+    token_function first w z f s q =
+        subst (λ (x : Ending). ReadsToken m line at (Ends x)) (sym q) (record { is = form_is (function_is first w z ∙ s.is ∙ ap Code.ends (said_is line f)); ranged = says_ranged f s })
+
+module _ {m : Marks} {line : Bytes} {at : ℕ} (l : 3 ≤ length (here line at)) (e : get_or (here line at) 0 0 ≡ m.escape) where
+  pub token_form : {f : Option Token} {r : Token} → (at + 3 ≤ length line → Forms line (at + 3) (form_here m line at) f) → r ≡ unwrap_or f (Ends Malformed) → ReadsToken m line at r
+  token_form {f} g q = subst (λ (x : Token). ReadsToken m line at x) (sym q) (token_formed m line at l e f (g (long line at l (omega arith))))
+
+  pub token_first : {f : Option Ending} {k : Ending} → get_or (here line at) 1 0 ≡ 70 → at ≡ 0 → Says line (function_here m line at true) f → k ≡ unwrap_or f Malformed → ReadsToken m line at (Ends k)
+  token_first {f} w z s q = token_function m line at l e true w (eq-eqb _ _ z) f s q
+
+  pub token_later : {f : Option Ending} {k : Ending} → get_or (here line at) 1 0 ≡ 70 → (at ≡ 0 → ⊥) → Says line (function_here m line at false) f → k ≡ unwrap_or f Malformed → ReadsToken m line at (Ends k)
+  token_later {f} w z s q = token_function m line at l e false w (ne_eqb _ _ z) f s q
 
 -- ---- what callers take from a token
 
-module _ {m : Marks} {text : Bytes} {at to : ℕ} {first : Bool} {r : Token} (s : ReadsToken m text at to first r) where
-  has_ranged : {p : Part} {e : ℕ} → r ≡ Has p e → RangedPart p × ((at < e) × (e ≤ to))
-  has_ranged q = subst (λ (x : Token). RangedToken at to x) q s.ranged
+module _ {m : Marks} {line : Bytes} {at : ℕ} {r : Token} (s : ReadsToken m line at r) where
+  has_ranged : {p : Part} {e : ℕ} → r ≡ Has p e → RangedPart p × ((at < e) × (e ≤ length line))
+  has_ranged q = subst (λ (x : Token). RangedToken line at x) q s.ranged
 
-  ends_ranged : {k : Ending} → r ≡ Ends k → Ranged at to k
-  ends_ranged q = subst (λ (x : Token). RangedToken at to x) q s.ranged
+  ends_ranged : {k : Ending} → r ≡ Ends k → Ranged line k
+  ends_ranged q = subst (λ (x : Token). RangedToken line at x) q s.ranged
 
   -- the rest starts after the token, within the line
   pub has-after : {p : Part} {e : ℕ} → r ≡ Has p e → at < e
   has-after q = (has_ranged q).1.0
 
-  pub has_within : {p : Part} {e : ℕ} → r ≡ Has p e → e ≤ to
+  pub has_within : {p : Part} {e : ℕ} → r ≡ Has p e → e ≤ length line
   has_within q = (has_ranged q).1.1
 
-  pub has-less : {p : Part} {e : ℕ} → r ≡ Has p e → to - e < to - at
+  pub has-less : {p : Part} {e : ℕ} → r ≡ Has p e → length line - e < length line - at
   has-less q =
       let h = has-after q in
       let k = has_within q in
       omega arith
 
   -- what the line says: what the token does, and the rest
-  pub says_ends : {k : Ending} → r ≡ Ends k → Code.parse m first (part text at to) ≡ Code.only (ending_of text to k)
-  says_ends q = s.is ∙ ap (λ x. token_code m text to x) q
+  pub says_ends : {k : Ending} → r ≡ Ends k → Code.parse m (eqb at 0) (drop at line) ≡ Code.only (ending_of line k)
+  says_ends q = s.is ∙ ap (λ x. token_code m line x) q
 
-  pub says_has : {p : Part} {e : ℕ} → r ≡ Has p e → Code.parse m first (part text at to) ≡ Code.onto (part_of p) (Code.parse m false (part text e to))
-  says_has q = s.is ∙ ap (λ x. token_code m text to x) q
+  -- the rest is no line's start
+  pub says_has : {p : Part} {e : ℕ} → r ≡ Has p e → Code.parse m (eqb at 0) (drop at line) ≡ Code.onto (part_of p) (Code.parse m (eqb e 0) (drop e line))
+  says_has {p} {e} q =
+      let h = has-after q in
+      s.is ∙ ap (λ x. token_code m line x) q ∙ ap (λ b. Code.onto (part_of p) (Code.parse m b (drop e line))) (sym (ne_eqb e 0 (λ z. omega arith)))
 
 -- ---- reading to the end
 
--- the line from i on ends as the whole line does
-pub record Ahead (m : Marks) (text : Bytes) (at to i : ℕ) (first : Bool) : Type 0 where
-  pub is : (Code.parse m true (part text at to)).ending ≡ (Code.parse m first (part text i to)).ending
-  pub from : at ≤ i
-  pub upto : i ≤ to
+-- the line from `at` on ends as the whole line does
+pub record Ahead (m : Marks) (line : Bytes) (at : ℕ) : Type 0 where
+  pub is : (Code.parse m true line).ending ≡ (Code.parse m (eqb at 0) (drop at line)).ending
+  pub within : at ≤ length line
 
-pub ahead_starts : {m : Marks} {text : Bytes} {at to : ℕ} → at ≤ to → Ahead m text at to at true
-ahead_starts h = record { is = refl; from = omega arith; upto = h }
+pub ahead_starts : {m : Marks} {line : Bytes} → Ahead m line 0
+ahead_starts = record { is = refl; within = omega arith }
 
-module _ {m : Marks} {text : Bytes} {at to i : ℕ} {first : Bool} {r : Token} (a : Ahead m text at to i first) (s : ReadsToken m text i to first r) where
-  pub ahead_more : {p : Part} {e : ℕ} → r ≡ Has p e → Ahead m text at to e false
+module _ {m : Marks} {line : Bytes} {at : ℕ} {r : Token} (a : Ahead m line at) (s : ReadsToken m line at r) where
+  pub ahead_more : {p : Part} {e : ℕ} → r ≡ Has p e → Ahead m line e
   unfolding Code.onto
-  ahead_more q =
-      let h = has-after s q in
-      let k = has_within s q in
-      record { is = a.is ∙ ap (λ c. c.ending) (says_has s q); from = omega arith; upto = k }
+  ahead_more q = record { is = a.is ∙ ap (λ c. c.ending) (says_has s q); within = has_within s q }
 
-  pub ahead_ends : {k : Ending} → r ≡ Ends k → ReadsEnding m text at to k
+  pub ahead_ends : {k : Ending} → r ≡ Ends k → ReadsEnding m line k
   unfolding Code.only
-  ahead_ends {k} q = record { is = a.is ∙ ap (λ c. c.ending) (says_ends s q); ranged = ranged_from to k a.from (ends_ranged s q) }
-
--- where a place is the line's start as it is place `at`
-pub ahead-begun : {m : Marks} {text : Bytes} {at to : ℕ} → at ≤ to → Ahead m text at to at (eqb at at)
-ahead-begun {m} {text} {at} {to} h = subst (λ (b : Bool). Ahead m text at to at b) (sym (eq-eqb at at refl)) (ahead_starts h)
-
-pub ahead-on : {m : Marks} {text : Bytes} {at to i : ℕ} {r : Token} {p : Part} {e : ℕ} → Ahead m text at to i (eqb i at) → ReadsToken m text i to (eqb i at) r → r ≡ Has p e → Ahead m text at to e (eqb e at)
-ahead-on {m} {text} {at} {to} {i} {r} {p} {e} a s q =
-    let h = has-after s q in
-    let f = a.from in
-    subst (λ (b : Bool). Ahead m text at to e b) (sym (ne_eqb e at (λ z. omega arith))) (ahead_more a s q)
+  ahead_ends q = record { is = a.is ∙ ap (λ c. c.ending) (says_ends s q); ranged = ends_ranged s q }
 
 -- its effect is that of its ending
-pub effect_as : {m : Marks} {text : Bytes} {at to : ℕ} {k : Ending} {r : Effect} → ReadsEnding m text at to k
-    → ((s : Bytes) (i : ℕ) → r ≡ Code.effect_of (ending_of s i k)) → Affects m text at to r
+pub effect_as : {m : Marks} {line : Bytes} {k : Ending} {r : Effect} → ReadsEnding m line k → ((s : Bytes) → r ≡ Code.effect_of (ending_of s k)) → Affects m line r
 unfolding Code.effect
-effect_as {text = text} {to = to} s e = record { is = e text to ∙ ap Code.effect_of (sym s.is) }
+effect_as {line = line} s e = record { is = e line ∙ ap Code.effect_of (sym s.is) }

@@ -1,7 +1,7 @@
--- A token of a code line, as the model's values: places of a text stand for what follows them.
-use Rattle.std.specs.Prelude.{◌≡◌, Bool, true, false, ℕ, ◌≤◌, ◌<◌, Option, Some, None, IfSome}
+-- A token of a code line, as the model's values: a place of the line stands for what follows it.
+use Rattle.std.specs.Prelude.{◌≡◌, true, false, ℕ, ◌≤◌, ◌<◌, eqb, length, drop, Option, Some, None, IfSome}
 use Rattle.std.proofs.Math.Option as Math
-use Rattle.model.specs.Text.{Bytes, part}
+use Rattle.model.specs.Text.{Bytes}
 use Rattle.model.specs.Code as Code
 use Rattle.model.specs.declared.Marks.{Marks}
 use Rattle.model.specs.declared.Effect.{Effect}
@@ -12,23 +12,23 @@ use Rattle.code.specs.declared.Ending.TheVariants.{Offer, Assign, Iterate, Stop,
 use Rattle.code.specs.declared.Token.{Token}
 use Rattle.code.specs.declared.Token.TheVariants.{Ends, Has}
 
--- an ending of a code line that ends before place `to` of the text
-abbrev pub ending_of : Bytes → ℕ → Ending → Code.Ending
-ending_of text to Offer = Code.offer
-ending_of text to (Assign d) = Code.assign d
-ending_of text to (Iterate d at) = Code.iterate d (part text at to)
-ending_of text to Stop = Code.stop
-ending_of text to (Write ch) = Code.write ch
-ending_of text to (Layout ch) = Code.layout ch
-ending_of text to (Copy ch) = Code.copy ch
-ending_of text to Save = Code.save
-ending_of text to Skip = Code.skip
-ending_of text to (SkipText b) = Code.skip_text b
-ending_of text to (SkipValue o) = Code.skip_value o
-ending_of text to Repeat = Code.repeat
-ending_of text to Again = Code.again
-ending_of text to Leave = Code.leave
-ending_of text to Malformed = Code.malformed
+-- an ending of a code line
+abbrev pub ending_of : Bytes → Ending → Code.Ending
+ending_of line Offer = Code.offer
+ending_of line (Assign d) = Code.assign d
+ending_of line (Iterate d at) = Code.iterate d (drop at line)
+ending_of line Stop = Code.stop
+ending_of line (Write ch) = Code.write ch
+ending_of line (Layout ch) = Code.layout ch
+ending_of line (Copy ch) = Code.copy ch
+ending_of line Save = Code.save
+ending_of line Skip = Code.skip
+ending_of line (SkipText b) = Code.skip_text b
+ending_of line (SkipValue o) = Code.skip_value o
+ending_of line Repeat = Code.repeat
+ending_of line Again = Code.again
+ending_of line Leave = Code.leave
+ending_of line Malformed = Code.malformed
 
 abbrev pub part_of : Part → Code.Part
 part_of (Byte b) = Code.byte b
@@ -46,38 +46,38 @@ said f (Some x) = f x
 said f None = Code.malformed
 
 -- what stands after an escape
-abbrev pub form_of : Bytes → ℕ → Option Token → Code.Form
-form_of text to (Some (Ends k)) = Code.ends (ending_of text to k)
-form_of text to (Some (Has p e)) = Code.part (part_of p)
-form_of text to None = Code.ends Code.malformed
+abbrev pub form_of : Bytes → Option Token → Code.Form
+form_of line (Some (Ends k)) = Code.ends (ending_of line k)
+form_of line (Some (Has p e)) = Code.part (part_of p)
+form_of line None = Code.ends Code.malformed
 
 -- a token and what the rest of the line says
-abbrev pub token_code : Marks → Bytes → ℕ → Token → Code.Code
-token_code m text to (Ends k) = Code.only (ending_of text to k)
-token_code m text to (Has p e) = Code.onto (part_of p) (Code.parse m false (part text e to))
+abbrev pub token_code : Marks → Bytes → Token → Code.Code
+token_code m line (Ends k) = Code.only (ending_of line k)
+token_code m line (Has p e) = Code.onto (part_of p) (Code.parse m false (drop e line))
 
 -- the number of a parameter
 pub record Parameter (d : ℕ) : Type 0 where
   pub least : 1 ≤ d
   pub most : d ≤ 9
 
--- an ending read from place `at` on has its numbers in range
-abbrev pub Ranged : ℕ → ℕ → Ending → Type 0
-Ranged at to Offer = Unit {0}
-Ranged at to (Assign d) = Parameter d
-Ranged at to (Iterate d p) = Parameter d × ((at ≤ p) × (p ≤ to))
-Ranged at to Stop = Unit {0}
-Ranged at to (Write ch) = Unit {0}
-Ranged at to (Layout ch) = Unit {0}
-Ranged at to (Copy ch) = Unit {0}
-Ranged at to Save = Unit {0}
-Ranged at to Skip = Unit {0}
-Ranged at to (SkipText b) = Unit {0}
-Ranged at to (SkipValue o) = Unit {0}
-Ranged at to Repeat = Unit {0}
-Ranged at to Again = Unit {0}
-Ranged at to Leave = Unit {0}
-Ranged at to Malformed = Unit {0}
+-- an ending of the line has its numbers in range
+abbrev pub Ranged : Bytes → Ending → Type 0
+Ranged line Offer = Unit {0}
+Ranged line (Assign d) = Parameter d
+Ranged line (Iterate d p) = Parameter d × (p ≤ length line)
+Ranged line Stop = Unit {0}
+Ranged line (Write ch) = Unit {0}
+Ranged line (Layout ch) = Unit {0}
+Ranged line (Copy ch) = Unit {0}
+Ranged line Save = Unit {0}
+Ranged line Skip = Unit {0}
+Ranged line (SkipText b) = Unit {0}
+Ranged line (SkipValue o) = Unit {0}
+Ranged line Repeat = Unit {0}
+Ranged line Again = Unit {0}
+Ranged line Leave = Unit {0}
+Ranged line Malformed = Unit {0}
 
 abbrev pub RangedPart : Part → Type 0
 RangedPart (Byte b) = Unit {0}
@@ -85,36 +85,36 @@ RangedPart (Serial k) = k ≤ 9
 RangedPart (Convert d c) = Parameter d
 
 -- a form's rest starts at `at`
-abbrev pub RangedForm : ℕ → ℕ → Option Token → Type 0
-RangedForm at to (Some (Ends k)) = Ranged at to k
-RangedForm at to (Some (Has p e)) = RangedPart p × (e ≡ at)
-RangedForm at to None = Unit {0}
+abbrev pub RangedForm : Bytes → ℕ → Option Token → Type 0
+RangedForm line at (Some (Ends k)) = Ranged line k
+RangedForm line at (Some (Has p e)) = RangedPart p × (e ≡ at)
+RangedForm line at None = Unit {0}
 
 -- a token that starts at `at` ends after it
-abbrev pub RangedToken : ℕ → ℕ → Token → Type 0
-RangedToken at to (Ends k) = Ranged at to k
-RangedToken at to (Has p e) = RangedPart p × ((at < e) × (e ≤ to))
+abbrev pub RangedToken : Bytes → ℕ → Token → Type 0
+RangedToken line at (Ends k) = Ranged line k
+RangedToken line at (Has p e) = RangedPart p × ((at < e) × (e ≤ length line))
 
--- r is the ending that the form f is, read from `at` on
-pub record Says (text : Bytes) (at to : ℕ) (f : Code.Form) (r : Option Ending) : Type 0 where
-  pub is : f ≡ Code.ends (said (ending_of text to) r)
-  pub ranged : IfSome r (λ k. Ranged at to k)
+-- r is the ending that the form f is
+pub record Says (line : Bytes) (f : Code.Form) (r : Option Ending) : Type 0 where
+  pub is : f ≡ Code.ends (said (ending_of line) r)
+  pub ranged : IfSome r (λ k. Ranged line k)
 
 -- r is the form f, whose rest starts at `at`
-pub record Forms (text : Bytes) (at to : ℕ) (f : Code.Form) (r : Option Token) : Type 0 where
-  pub is : f ≡ form_of text to r
-  pub ranged : RangedForm at to r
+pub record Forms (line : Bytes) (at : ℕ) (f : Code.Form) (r : Option Token) : Type 0 where
+  pub is : f ≡ form_of line r
+  pub ranged : RangedForm line at r
 
--- r is what a code line says first between `at` and `to`
-pub record ReadsToken (m : Marks) (text : Bytes) (at to : ℕ) (first : Bool) (r : Token) : Type 0 where
-  pub is : Code.parse m first (part text at to) ≡ token_code m text to r
-  pub ranged : RangedToken at to r
+-- r is what a code line says first from `at` on; at 0 it is the line's start
+pub record ReadsToken (m : Marks) (line : Bytes) (at : ℕ) (r : Token) : Type 0 where
+  pub is : Code.parse m (eqb at 0) (drop at line) ≡ token_code m line r
+  pub ranged : RangedToken line at r
 
--- r is how the code line from `at` up to `to` ends
-pub record ReadsEnding (m : Marks) (text : Bytes) (at to : ℕ) (r : Ending) : Type 0 where
-  pub is : (Code.parse m true (part text at to)).ending ≡ ending_of text to r
-  pub ranged : Ranged at to r
+-- r is how a code line ends
+pub record ReadsEnding (m : Marks) (line : Bytes) (r : Ending) : Type 0 where
+  pub is : (Code.parse m true line).ending ≡ ending_of line r
+  pub ranged : Ranged line r
 
--- r is what that line does to the iterations around the lines after it
-pub record Affects (m : Marks) (text : Bytes) (at to : ℕ) (r : Effect) : Type 0 where
-  pub is : r ≡ Code.effect m (part text at to)
+-- r is what a code line does to the iterations around the lines after it
+pub record Affects (m : Marks) (line : Bytes) (r : Effect) : Type 0 where
+  pub is : r ≡ Code.effect m line

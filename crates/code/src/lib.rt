@@ -1,9 +1,9 @@
 // What a code line says, read token by token: bytes and conversions that build a line, then what is done at its end.
 #![tactic(auto)]
 
-ghost use Rattle.std.specs.Prelude.{◌≡◌, List, ℕ, ◌≤◌, length};
-ghost use Rattle.model.specs.Text.{part};
-ghost use Rattle.model.specs.Code.{effect_of, channel_of, conversion_of, text_test, value_test, line_function, function, conversion, form, skip_text, skip_value, ends};
+ghost use Rattle.std.specs.Prelude.{◌≡◌, ◌≢◌, Bool, true, false, List, ℕ, ◌≤◌, length, drop};
+ghost use Rattle.model.specs.declared.Marks.{Marks};
+ghost use Rattle.model.specs.Code.{effect_of, channel_of, conversion_of, text_test, value_test, function, conversion, form, skip_text, skip_value};
 ghost use Rattle.code.specs.Tokens.{ending_of, found, said, Parameter, Says, Forms, ReadsToken, ReadsEnding, Affects};
 
 use model::{Channel, Comparison, Conversion, Effect, Marks};
@@ -16,7 +16,7 @@ pub enum Part {
     Convert(usize, Conversion),
 }
 
-// What is done at the end of a code line. The delimiters of an iteration start at its second number.
+// What is done at the end of a code line. The delimiters of an iteration start at its second number, a place of the code line.
 #[derive(Clone, Copy)]
 pub enum Ending {
     Offer,
@@ -82,32 +82,32 @@ fn read_value_test(m: Marks, rest: &[u8]) -> Option<Comparison>
     }
 }
 
-// The functions that must begin their line.
-fn read_line_function(m: Marks, b: u8, rest: &[u8]) -> Option<Ending>
-    ensures { (text : List ℕ) (at to : ℕ) → Says text at to (ends (line_function m b rest.now)) result }
+// The function b at the line's start, where F1 owns a layout.
+fn read_first_function(m: Marks, b: u8, rest: &[u8]) -> Option<Ending>
+    ensures { (line : List ℕ) → Says line (function m true b rest.now) result }
 {
     Some(match b {
         b'0' => Ending::Stop,
+        b'1' => Ending::Layout(read_channel(rest)?),
         b'2' => Ending::Copy(read_channel(rest)?),
         b'3' => Ending::Save,
         b'4' => Ending::Skip,
         b'5' => Ending::SkipText(read_text_test(rest)?),
         b'6' => Ending::SkipValue(read_value_test(m, rest)?),
+        b'7' => Ending::Repeat,
         b'8' => Ending::Again,
         b'9' => Ending::Leave,
         _ => return None,
     })
 }
 
-// The function b: F1 and F7 may stand anywhere in a line. At the line's start F1 owns a layout.
-fn read_function(m: Marks, first: bool, b: u8, rest: &[u8]) -> Option<Ending>
-    ensures { (text : List ℕ) (at to : ℕ) → Says text at to (function m first b rest.now) result }
+// The function b after other code, where F1 and F7 alone may stand.
+fn read_later_function(b: u8, rest: &[u8]) -> Option<Ending>
+    ensures { (m : Marks) (line : List ℕ) → Says line (function m false b rest.now) result }
 {
     match b {
-        b'1' if first => Some(Ending::Layout(read_channel(rest)?)),
         b'1' => Some(Ending::Write(read_channel(rest)?)),
         b'7' => Some(Ending::Repeat),
-        _ if first => read_line_function(m, b, rest),
         _ => None,
     }
 }
@@ -131,7 +131,7 @@ fn name_conversion(b: u8) -> Option<Conversion>
 // ed and the byte b; what follows them starts at `at`.
 fn read_conversion(d: usize, b: u8, at: usize) -> Option<Token>
     requires { Parameter d }
-    ensures { (text : List ℕ) (to : ℕ) → at ≤ to → Forms text at to (conversion d b (part text at to)) result }
+    ensures { (line : List ℕ) → at ≤ length line → Forms line at (conversion d b (drop at line)) result }
 {
     Some(match b {
         b'6' => Token::Ends(Ending::Assign(d)),
@@ -140,54 +140,56 @@ fn read_conversion(d: usize, b: u8, at: usize) -> Option<Token>
     })
 }
 
-// The two bytes after an escape, and the rest of the line, which starts at `at`.
+// The two bytes after an escape, of which the first is no F; what follows them starts at `at`.
 #[inline(always)]
-fn read_form(m: Marks, first: bool, a: u8, b: u8, rest: &[u8], at: usize) -> Option<Token>
-    ensures { (text : List ℕ) (to : ℕ) → at ≤ to → rest.now ≡ part text at to → Forms text at to (form m first a b rest.now) result }
+fn read_form(a: u8, b: u8, at: usize) -> Option<Token>
+    ensures { (m : Marks) (first : Bool) (line : List ℕ) → a ≢ 70 → at ≤ length line → Forms line at (form m first a b (drop at line)) result }
 {
     match (a, b) {
-        (b'F', _) => Some(Token::Ends(read_function(m, first, b, rest)?)),
         (b'0', b'0'..=b'9') => Some(Token::Has(Part::Serial(usize::from(b - b'0')), at)),
         (b'1'..=b'9', _) => read_conversion(usize::from(a - b'0'), b, at),
         _ => None,
     }
 }
 
-// What stands at `at` of a code line that ends before `to`; `first`: it is the line's start. It is compiled where it is called: most tokens are
-// one byte, and a call for each costs more than the byte that it reads.
+// What stands at `at` of a code line; at 0 it is the line's start. It is compiled where it is called: most tokens are one byte, and a call
+// for each costs more than the byte that it reads.
 #[inline(always)]
-pub fn read_token(m: Marks, text: &[u8], at: usize, to: usize, first: bool) -> Token
-    requires { (at ≤ to) × (to ≤ length text.now) }
-    ensures { ReadsToken m text.now at to first result }
+pub fn read_token(m: Marks, line: &[u8], at: usize) -> Token
+    requires { at ≤ length line.now }
+    ensures { ReadsToken m line.now at result }
 {
-    match &text[at..to] {
+    match &line[at..] {
         [] => Token::Ends(Ending::Offer),
         [x, ..] if *x != m.escape => Token::Has(Part::Byte(*x), at + 1),
-        [_, a, b, rest @ ..] => {
-            read_form(m, first, *a, *b, rest, at + 3).unwrap_or(Token::Ends(Ending::Malformed))
+        [_, b'F', b, rest @ ..] if at == 0 => {
+            Token::Ends(read_first_function(m, *b, rest).unwrap_or(Ending::Malformed))
         }
+        [_, b'F', b, rest @ ..] => {
+            Token::Ends(read_later_function(*b, rest).unwrap_or(Ending::Malformed))
+        }
+        [_, a, b, ..] => read_form(*a, *b, at + 3).unwrap_or(Token::Ends(Ending::Malformed)),
         _ => Token::Ends(Ending::Malformed),
     }
 }
 
-// What is done at the end of the code line from `at` up to `to`.
-pub fn read_ending(m: Marks, text: &[u8], at: usize, to: usize) -> Ending
-    requires { (at ≤ to) × (to ≤ length text.now) }
-    ensures { ReadsEnding m text.now at to result }
+// What is done at the end of a code line.
+pub fn read_ending(m: Marks, line: &[u8]) -> Ending
+    ensures { ReadsEnding m line.now result }
 {
     // where a token ends is found by reading it, so that the places are no range
-    let mut i = at;
+    let mut at = 0;
     loop {
-        match read_token(m, text, i, to, i == at) {
+        match read_token(m, line, at) {
             Token::Ends(k) => return k,
-            Token::Has(_, e) => i = e,
+            Token::Has(_, e) => at = e,
         }
     }
 }
 
 // What an ending does to the iterations around the lines after it.
 fn effect_of(k: Ending) -> Effect
-    ensures { (text : List ℕ) (to : ℕ) → result ≡ effect_of (ending_of text to k) }
+    ensures { (line : List ℕ) → result ≡ effect_of (ending_of line k) }
 {
     match k {
         Ending::Iterate(_, _) | Ending::Repeat => Effect::Opens,
@@ -207,10 +209,9 @@ fn effect_of(k: Ending) -> Effect
     }
 }
 
-// What the code line from `at` up to `to` does to the iterations around the lines after it.
-pub fn read_effect(m: Marks, text: &[u8], at: usize, to: usize) -> Effect
-    requires { (at ≤ to) × (to ≤ length text.now) }
-    ensures { Affects m text.now at to result }
+// What a code line does to the iterations around the lines after it.
+pub fn read_effect(m: Marks, line: &[u8]) -> Effect
+    ensures { Affects m line.now result }
 {
-    effect_of(read_ending(m, text, at, to))
+    effect_of(read_ending(m, line))
 }
