@@ -3,7 +3,7 @@ use mathlib.Core.Path.{◌≡◌, refl, sym, ◌∙◌, ap}
 use mathlib.Core.Bool.{Bool, true, false}
 use mathlib.Core.List.{[], ◌∷◌}
 use mathlib.Core.Logic.{◌⊎◌, inl, inr, ⊎_elim}
-use Prim.Native.Nat.{ℕ, zero, suc, ◌+◌, ◌-◌, ◌≤◌, ◌<◌}
+use Prim.Native.Nat.{ℕ, zero, suc, ◌+◌, ◌≤◌, ◌<◌}
 use native.Mathlib.Omega.{arith}
 use native.Mathlib.Numerals.{add-one}
 use native.Mathlib.Nat.{eq-or-lt_of_le}
@@ -12,7 +12,7 @@ use lib.ListN.{length, get_or}
 use borrow.Author.Tests.{eqb-true, eqb-false, eq-eqb, ne_eqb, ltb-true, ltb-false}
 use Rattle.model.specs.Text.{Bytes}
 use Rattle.model.specs.Load.{count}
-use Rattle.templates.specs.Keys.{AllBytes, pick, byte_key, key_of, Share, one, cnt, Key}
+use Rattle.templates.specs.Keys.{AllBytes, byte_key, key_of, Share, one, cnt, Key}
 
 -- numbers are equal or not, and one is less or not
 pub eq_or : (a b : ℕ) → (a ≡ b) ⊎ (a ≡ b → ⊥)
@@ -102,35 +102,6 @@ pub cnt-same : (p q : ℕ → Bool) (d : ℕ) → ((x : ℕ) → x < d → p x �
 unfolding cnt
 cnt-same p q zero h = refl
 cnt-same p q (suc d) h = rw (cnt-same p q d (λ x u. h x (omega arith)), h d (omega arith)) refl
-
--- no more pigeons than holes
-abbrev squeeze : ℕ → ℕ → ℕ
-squeeze v x = pick (ltb v x) (x - 1) x
-
-squeeze_lt : (v x s : ℕ) → (x ≡ v → ⊥) → x < suc s → v < suc s → squeeze v x < s
-squeeze_lt v x s ne a b = go (ltb v x) refl
-  where
-    go : (t : Bool) → ltb v x ≡ t → pick t (x - 1) x < s
-    go true e = omega (arith, ltb-true v x e)
-    go false e = omega (arith, ltb-false v x e)
-
-squeeze_inj : (v x y : ℕ) → (x ≡ v → ⊥) → (y ≡ v → ⊥) → squeeze v x ≡ squeeze v y → x ≡ y
-squeeze_inj v x y n m = go (ltb v x) refl (ltb v y) refl
-  where
-    go : (t : Bool) → ltb v x ≡ t → (u : Bool) → ltb v y ≡ u → pick t (x - 1) x ≡ pick u (y - 1) y → x ≡ y
-    go true e true g h = omega (arith, ltb-true v x e, ltb-true v y g)
-    go true e false g h = absurd (m (omega (arith, ltb-true v x e, ltb-false v y g)))
-    go false e true g h = absurd (n (omega (arith, ltb-false v x e, ltb-true v y g)))
-    go false e false g h = h
-
-pub pigeon : (n s : ℕ) (g : ℕ → ℕ) → ((i : ℕ) → i < n → g i < s) → ((i j : ℕ) → i < j → j < n → g i ≡ g j → ⊥) → n ≤ s
-pigeon zero s g b d = omega arith
-pigeon (suc n) zero g b d = absurd (omega (arith, b n (omega arith)))
-pigeon (suc n) (suc s) g b d =
-    let ne : (i : ℕ) → i < n → g i ≡ g n → ⊥ = λ i u. d i n u (omega arith) in
-    let h = pigeon n s (λ i. squeeze (g n) (g i)) (λ i u. squeeze_lt (g n) (g i) s (ne i u) (b i (omega arith)) (b n (omega arith)))
-    (λ i j u v e. d i j u (omega arith) (squeeze_inj (g n) (g i) (g j) (ne i (omega arith)) (ne j v) e)) in
-    omega (arith, h)
 
 -- placeholders in the first x elements of a template, at most those of all
 cnt_shift : (g : ℕ → Bool) (x : ℕ) → cnt g (suc x) ≡ one (g 0) + cnt (λ y. g (suc y)) x

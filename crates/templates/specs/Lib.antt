@@ -2,3 +2,4 @@
 pub mod Count
 pub mod Keys
 pub mod Order
+pub mod Unique

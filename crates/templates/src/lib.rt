@@ -8,6 +8,7 @@ ghost use Rattle.macros.specs.Table.{templates_in, order_in, Entries};
 ghost use Rattle.templates.specs.Count.{common};
 ghost use Rattle.templates.specs.Keys.{keys, one, Key};
 ghost use Rattle.templates.specs.Order.{InOrder, Compared, FindsPlace, TakesRun};
+ghost use Rattle.templates.specs.Unique.{ordered_prop};
 
 use macros::Table;
 use model::{END_KEY, PLACEHOLDER_KEY};
@@ -53,45 +54,6 @@ pub struct Found {
     pub new: usize,
 }
 
-// Where a template goes in the order of the first k of the table, or nothing where it is one of them. Of all of these, its neighbours there
-// have the most in common with it: the places are halved by hand, since no search of the library says how much that is.
-pub fn find_place(mark: u8, text: &[u8], table: &Table, k: usize, template: &[u8]) -> Option<Found>
-    requires { Entries text.now table.now k × InOrder mark (templates_in text.now table.now k) (order_in table.now) }
-    ensures { FindsPlace mark (templates_in text.now table.now k) (order_in table.now) template.now result }
-{
-    let mut low = 0;
-    let mut high = k;
-    let mut below = 0;
-    let mut above = 0;
-    while low < high {
-        let mid = (low + high) / 2;
-        let other = table.template(text, table.macro_at(mid));
-        let both = match_both(template, other);
-        if template.len() < both {
-            return None;
-        }
-        if stands_before(mark, template, other, both) {
-            high = mid;
-            above = both;
-        } else {
-            low = mid + 1;
-            below = both;
-        }
-    }
-    Some(Found {
-        place: low,
-        new: (template.len() + 1) - below.max(above),
-    })
-}
-
-// The key at place d of the template at a place of the order.
-fn key_in_order(mark: u8, text: &[u8], table: &Table, n: usize, place: usize, d: usize) -> u16
-    requires { Entries text.now table.now n × (place < n) × (order_in table.now place < n) }
-    ensures { (result ≡ keys mark (templates_in text.now table.now n) (order_in table.now place) d) × (result ≤ placeholder_key) }
-{
-    key_at(mark, table.template(text, table.macro_at(place)), d)
-}
-
 // Templates that stand next to each other in the order and have one key at a place: their key, the first of them in the text, and their
 // places in the order.
 #[derive(Clone, Copy)]
@@ -102,32 +64,75 @@ pub struct Pick {
     pub end: usize,
 }
 
-// The run of those that have the key of the first at place d, from a place of the order on, before another.
-pub fn take_run(
-    mark: u8,
-    text: &[u8],
-    table: &Table,
-    n: usize,
-    from: usize,
-    to: usize,
-    d: usize,
-) -> Pick
-    requires { Entries text.now table.now n × (from < to) × (to ≤ n) × InOrder mark (templates_in text.now table.now n) (order_in table.now) }
-    ensures { (result.from ≡ from) × TakesRun (keys mark (templates_in text.now table.now n)) (order_in table.now) from to d result.key result.template result.end }
-{
-    let key = key_in_order(mark, text, table, n, from, d);
-    let mut template = table.macro_at(from);
-    let mut end = from + 1;
-    // no range: it stops at the first other key, and the run's end is what is asked for
-    while end < to && key_in_order(mark, text, table, n, end, d) == key {
-        template = template.min(table.macro_at(end));
-        end += 1;
+// The templates of a table in their order: the placeholder's mark, the text, and the table, which has n of them.
+#[derive(Clone, Copy)]
+pub struct Ordered<'a> {
+    pub mark: u8,
+    pub text: &'a [u8],
+    pub table: &'a Table,
+    pub n: usize,
+    pub ghost in_order: { Entries text.now table.now n × InOrder mark (templates_in text.now table.now n) (order_in table.now) } by { ordered_prop },
+}
+
+impl Ordered<'_> {
+    // Where a template goes, or nothing where it is one of them. Of all of these, its neighbours there have the most in common with it: the
+    // places are halved by hand, since no search of the library says how much that is.
+    pub fn find_place(&self, template: &[u8]) -> Option<Found>
+        ensures { FindsPlace self.now.mark (templates_in self.now.text.now self.now.table.now self.now.n) (order_in self.now.table.now) template.now result }
+    {
+        let mut low = 0;
+        let mut high = self.n;
+        let mut below = 0;
+        let mut above = 0;
+        while low < high {
+            let mid = (low + high) / 2;
+            let other = self.table.template(self.text, self.table.macro_at(mid));
+            let both = match_both(template, other);
+            if template.len() < both {
+                return None;
+            }
+            if stands_before(self.mark, template, other, both) {
+                high = mid;
+                above = both;
+            } else {
+                low = mid + 1;
+                below = both;
+            }
+        }
+        Some(Found {
+            place: low,
+            new: (template.len() + 1) - below.max(above),
+        })
     }
-    Pick {
-        key,
-        template,
-        from,
-        end,
+
+    // The key at place d of the template at a place of the order.
+    fn key_in_order(&self, place: usize, d: usize) -> u16
+        requires { place < self.now.n }
+        ensures { (result ≡ keys self.now.mark (templates_in self.now.text.now self.now.table.now self.now.n) (order_in self.now.table.now place) d) × (result ≤ placeholder_key) }
+    {
+        let template = self.table.template(self.text, self.table.macro_at(place));
+        key_at(self.mark, template, d)
+    }
+
+    // The run of those that have the key of the first at place d, from a place of the order on, before another.
+    pub fn take_run(&self, from: usize, to: usize, d: usize) -> Pick
+        requires { (from < to) × (to ≤ self.now.n) }
+        ensures { (result.from ≡ from) × TakesRun (keys self.now.mark (templates_in self.now.text.now self.now.table.now self.now.n)) (order_in self.now.table.now) from to d result.key result.template result.end }
+    {
+        let key = self.key_in_order(from, d);
+        let mut template = self.table.macro_at(from);
+        let mut end = from + 1;
+        // no range: it stops at the first other key, and the run's end is what is asked for
+        while end < to && self.key_in_order(end, d) == key {
+            template = template.min(self.table.macro_at(end));
+            end += 1;
+        }
+        Pick {
+            key,
+            template,
+            from,
+            end,
+        }
     }
 }
 

@@ -2,10 +2,10 @@
 -- in the text. The measure: the places left.
 use Prim.Native.Nat.{◌-◌}
 use Rattle.templates.proofs.Runs.{Running}
-use Rattle.templates.proofs.take_run.Given as goal
+use Rattle.templates.proofs.Ordered.take_run.Given as goal
 
 abbrev pub invariant-loop-end : goal.invariant-loop-end
-invariant-loop-end l = Running l.mark l.text l.table l.n l.from l.to l.d l.key l.end l.template
+invariant-loop-end l = Running l.self.mark l.self.text.now l.self.table.now l.self.n l.from l.to l.d l.key l.end l.template
 
 abbrev pub decreases-loop-end : goal.decreases-loop-end
 decreases-loop-end l = l.to - l.end
