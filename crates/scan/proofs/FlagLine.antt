@@ -3,16 +3,15 @@ use mathlib.Core.Path.{◌≡◌, refl, ap, sym, subst, ◌∙◌}
 use mathlib.Core.Bool.{Bool, true, false, not, ◌&&◌}
 use mathlib.Core.Option as Math
 use mathlib.Core.List.{[], ◌∷◌}
-use Prim.Native.Nat.{ℕ, ◌-◌, ◌≤◌, ◌<◌}
+use Prim.Native.Nat.{◌-◌, ◌≤◌, ◌<◌}
 use native.Mathlib.Omega.{arith}
 use borrow.Author.Tests.{le-leb, lt-leb, ne_eqb}
 use lib.Dec.{eqb}
 use lib.ListN.{length, length-drop, get_or, drop, take}
 use lib.Seq.{drop-cons}
 use Rattle.model.specs.declared.Marks.{Marks}
-use Rattle.model.specs.Text.{Bytes, part, has, plain, all_plain, distinct, apart, legal_marks, others, legal_flags, marks_fault, marks_of}
+use Rattle.model.specs.Text.{Bytes, has, plain, all_plain, distinct, apart, legal_marks, others, legal_flags, marks_fault, marks_of}
 use Rattle.model.specs.Legal.{operators}
-use Rattle.model.proofs.Text.{part_front}
 use Rattle.std.specs.Bool.{then_some}
 use Rattle.std.specs.List.{list_all}
 use Rattle.std.proofs.lemmas.List.{take_rest}
@@ -93,35 +92,35 @@ flags-fault (Some m) = refl
 flags-fault None = refl
 
 -- the answer for what legal_flags says of the line
-answer : (text : Bytes) (end : ℕ) (b : Bool) → legal_flags (take end text) ≡ b → MarksAt text end (then_some b (marks_in (take end text)))
+answer : (s : Bytes) (b : Bool) → legal_flags s ≡ b → MarksAt s (then_some b (marks_in s))
 unfolding marks_of
-answer text end b e = record { is = by b e; number = flags-fault (then_some b (marks_in (take end text))) ∙ ap marks_fault (by b e) }
+answer s b e = record { is = by b e; number = flags-fault (then_some b (marks_in s)) ∙ ap marks_fault (by b e) }
   where
-    by : (b : Bool) → legal_flags (take end text) ≡ b → flags_of (then_some b (marks_in (take end text))) ≡ marks_of (part text 0 end)
-    by true e = sym (ap marks_of (part_front text end) ∙ rw (e, marks_of) refl)
-    by false e = sym (ap marks_of (part_front text end) ∙ rw (e, marks_of) refl)
+    by : (b : Bool) → legal_flags s ≡ b → flags_of (then_some b (marks_in s)) ≡ marks_of s
+    by true e = rw (e, marks_of) refl
+    by false e = rw (e, marks_of) refl
 
-pub fault_short : {text : Bytes} {end : ℕ} → length (take end text) < 12 → MarksAt text end None
+pub fault_short : {s : Bytes} → length s < 12 → MarksAt s None
 unfolding legal_flags
-fault_short {text} {end} k = answer text end false (rw (lt-leb 12 (length (take end text)) k))
+fault_short {s} k = answer s false (rw (lt-leb 12 (length s) k))
 
-pub fault_fifth : {text : Bytes} {end : ℕ} → 12 ≤ length (take end text) → ¬ (get_or (take end text) 4 0 ≡ 48) → MarksAt text end None
+pub fault_fifth : {s : Bytes} → 12 ≤ length s → ¬ (get_or s 4 0 ≡ 48) → MarksAt s None
 unfolding legal_flags legal_marks
-fault_fifth {text} {end} k f = answer text end false (rw (le-leb 12 (length (take end text)) k, ne_eqb (get_or (take end text) 4 0) 48 f))
+fault_fifth {s} k f = answer s false (rw (le-leb 12 (length s) k, ne_eqb (get_or s 4 0) 48 f))
 
 -- a line of 12 bytes or more with the byte `0` in its place is legal as its marks are
 legal_as : (s : Bytes) (r : Bool) → 12 ≤ length s → get_or s 4 0 ≡ 48 → LegalMarks (marks_in s) r → legal_flags s ≡ r
 unfolding legal_flags others
 legal_as s r k e h = rw (le-leb 12 (length s) k, e) (sym h.is)
 
-pub marks_tested : {text : Bytes} {end : ℕ} {b : Bool} {r : Option Marks} → 12 ≤ length (take end text) → get_or (take end text) 4 0 ≡ 48 → LegalMarks (marks_in (take end text)) b
-    → r ≡ then_some b (marks_in (take end text)) → MarksAt text end r
-marks_tested {text} {end} {b} k e h q = subst (λ (x : Option Marks). MarksAt text end x) (sym q) (answer text end b (legal_as (take end text) b k e h))
+pub marks_tested : {s : Bytes} {b : Bool} {r : Option Marks} → 12 ≤ length s → get_or s 4 0 ≡ 48 → LegalMarks (marks_in s) b
+    → r ≡ then_some b (marks_in s) → MarksAt s r
+marks_tested {s} {b} k e h q = subst (λ (x : Option Marks). MarksAt s x) (sym q) (answer s b (legal_as s b k e h))
 
 -- ---- for callers of read_marks
 
-pub marks_legal : {text : Bytes} {end : ℕ} {r : Option Marks} {m : Marks} → MarksAt text end r → r ≡ Some m → marks_of (part text 0 end) ≡ Math.some m
+pub marks_legal : {s : Bytes} {r : Option Marks} {m : Marks} → MarksAt s r → r ≡ Some m → marks_of s ≡ Math.some m
 marks_legal h e = sym h.is ∙ ap flags_of e
 
-pub marks-fault : {text : Bytes} {end : ℕ} {r : Option Marks} → MarksAt text end r → r ≡ None → marks_of (part text 0 end) ≡ Math.none
+pub marks-fault : {s : Bytes} {r : Option Marks} → MarksAt s r → r ≡ None → marks_of s ≡ Math.none
 marks-fault h e = sym h.is ∙ ap flags_of e

@@ -88,10 +88,10 @@ starts-with b (x ∷ s) = by (eqb b x) refl
     by true e = rw e (sym (eq-eqb x b (sym (eqb-true b x e))))
     by false e = rw e (sym (ne_eqb x b (λ z. eqb-false b x e (sym z))))
 
--- what begins with a byte has one
-pub begins_inside : {text : Bytes} {at end b : ℕ} {r : Bool} → Begins text at end b r → r ≡ true → at + 1 ≤ end
+-- a part that begins with a byte has one
+pub begins_inside : (text : Bytes) (at end : ℕ) {b : ℕ} {r : Bool} → Begins (part text at end) b r → r ≡ true → at + 1 ≤ end
 unfolding starts_with
-begins_inside {text} {at} {end} {b} h e = by (ltb at end) refl
+begins_inside text at end {b} h e = by (ltb at end) refl
   where
     by : (c : Bool) → ltb at end ≡ c → at + 1 ≤ end
     by true t = omega (arith, ltb-true at end t)

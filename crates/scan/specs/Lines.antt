@@ -21,9 +21,9 @@ pub record FindsByte (s : Bytes) (from to b r : ℕ) : Type 0 where
 pub record Has (s : Bytes) (b : ℕ) (r : Bool) : Type 0 where
   pub is : r ≡ has b s
 
--- whether text[at..end] begins with b
-pub record Begins (text : Bytes) (at end b : ℕ) (r : Bool) : Type 0 where
-  pub is : r ≡ starts_with b (part text at end)
+-- whether s begins with b
+pub record Begins (s : Bytes) (b : ℕ) (r : Bool) : Type 0 where
+  pub is : r ≡ starts_with b s
 
 -- the line at `at` is text[at..end], and the next one starts at `next`
 pub record LineAt (text : Bytes) (at end next : ℕ) : Type 0 where
@@ -89,7 +89,7 @@ abbrev pub flags_fault : Option Marks → ℕ
 flags_fault (Some m) = 0
 flags_fault None = 3
 
--- the flag line text[0..end] is answered
-pub record MarksAt (text : Bytes) (end : ℕ) (r : Option Marks) : Type 0 where
-  pub is : flags_of r ≡ marks_of (part text 0 end)
-  pub number : flags_fault r ≡ marks_fault (marks_of (part text 0 end))
+-- the flag line s is answered
+pub record MarksAt (s : Bytes) (r : Option Marks) : Type 0 where
+  pub is : flags_of r ≡ marks_of s
+  pub number : flags_fault r ≡ marks_fault (marks_of s)

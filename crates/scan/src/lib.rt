@@ -1,4 +1,5 @@
 // The bytes, lines and marks of a text, as places in the lent text.
+// A place is where reading goes on, and the answer says where it ends: a slice in its stead would say less.
 #![tactic(auto)]
 
 ghost use Rattle.std.specs.Prelude.{◌≡◌, ◌∷◌, ◌+◌, ◌≤◌, ◌<◌, length, min};
@@ -14,8 +15,9 @@ pub struct Line {
     pub next: usize,
 }
 
-// The place of the first b in s[from..to], or `to` where there is none. A `for` costs nothing; std's `position` takes 4 to 14 % more in a
-// walk over lines, the more the shorter they are. A call for the rest of every code line would cost more than the bytes that it reads.
+// The place of the first b in s[from..to], or `to` where there is none.
+// It is no Option, since every caller goes on at `to`. A `for` costs nothing; std's `position` takes 4 to 14 % more in a walk over lines,
+// the more the shorter they are. A call for the rest of every code line would cost more than the bytes that it reads.
 #[inline(always)]
 pub fn find_byte(s: &[u8], from: usize, to: usize, b: u8) -> usize
     requires { (from ≤ to) × (to ≤ length s.now) }
@@ -36,12 +38,11 @@ pub fn has_byte(s: &[u8], b: u8) -> bool
     s.contains(&b)
 }
 
-// Whether text[at..end] begins with b.
-pub fn begins_with(text: &[u8], at: usize, end: usize, b: u8) -> bool
-    requires { (at ≤ end) × (end ≤ length text.now) }
-    ensures { Begins text.now at end b result }
+// Whether s begins with b.
+pub fn begins_with(s: &[u8], b: u8) -> bool
+    ensures { Begins s.now b result }
 {
-    text[at..end].starts_with(&[b])
+    s.starts_with(&[b])
 }
 
 // The place after the byte 10 at `stop`, or the end of the text. std's `min` says the same, and takes 2 to 7 % more in a walk over lines.
@@ -86,7 +87,7 @@ fn find_end(text: &[u8], at: usize, mark: u8) -> usize
 }
 
 // The content of the line at a place: what precedes the mark, or all of it. Each byte is read once, but the one where the content ends.
-pub fn read_content(text: &[u8], mark: u8, at: usize) -> Line
+fn read_content(text: &[u8], mark: u8, at: usize) -> Line
     requires { at < length text.now }
     ensures { ContentAt text.now mark at result.end result.next }
 {
@@ -105,18 +106,36 @@ fn begins_marked(b: u8, mark: u8) -> bool
     (b == mark) & (b != b'\n')
 }
 
-// The code line at a place of a body, unless the body ends there.
-pub fn read_code(text: &[u8], m: Marks, at: usize) -> Option<Line>
-    requires { at ≤ length text.now }
-    ensures { CodeAt m text.now at result }
-{
-    if at == text.len() {
-        return None;
+// A text with the marks of its flag line.
+#[derive(Clone, Copy)]
+pub struct Marked<'a> {
+    pub marks: Marks,
+    pub text: &'a [u8],
+}
+
+impl<'a> Marked<'a> {
+    // The code line at a place of a body, unless the body ends there.
+    pub fn read_code(&self, at: usize) -> Option<Line>
+        requires { at ≤ length self.now.text.now }
+        ensures { CodeAt self.now.marks self.now.text.now at result }
+    {
+        if at == self.text.len() {
+            return None;
+        }
+        let mark = self.marks.code;
+        if begins_marked(self.text[at], mark) {
+            return None;
+        }
+        Some(read_content(self.text, mark, at))
     }
-    if begins_marked(text[at], m.code) {
-        return None;
+
+    // The content of the input line at a place.
+    pub fn read_input(&self, at: usize) -> Line
+        requires { at < length self.now.text.now }
+        ensures { ContentAt self.now.text.now self.now.marks.source at result.end result.next }
+    {
+        read_content(self.text, self.marks.source, at)
     }
-    Some(read_content(text, m.code, at))
 }
 
 // Whether a byte may be a mark: it is no digit, not F and not byte 0.
@@ -180,10 +199,9 @@ fn are_legal(m: Marks) -> bool
     all_plain(&marks) & (sources & (codes & crossed))
 }
 
-// The marks of the flag line text[0..end], if it is legal.
-pub fn read_marks(text: &[u8], end: usize) -> Option<Marks>
-    requires { end ≤ length text.now }
-    ensures { MarksAt text.now end result }
+// The marks of a flag line, if it is legal.
+pub fn read_marks(line: &[u8]) -> Option<Marks>
+    ensures { MarksAt line.now result }
 {
     let &[
         source,
@@ -199,7 +217,7 @@ pub fn read_marks(text: &[u8], end: usize) -> Option<Marks>
         divide,
         right,
         ..
-    ] = &text[..end]
+    ] = line
     else {
         return None;
     };
