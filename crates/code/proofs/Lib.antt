@@ -1,3 +1,2 @@
--- The laws that the proofs cite: of the tests, of tokens, and of whole lines.
-pub mod Laws
+-- The laws that the proofs cite: of tokens, and of whole lines.
 pub mod Lines

@@ -14,17 +14,20 @@ use Rattle.model.specs.declared.Marks.{Marks}
 use Rattle.model.specs.declared.Effect.{Effect}
 use Rattle.model.proofs.Choices.{when_true, when_false}
 use Rattle.std.specs.Prelude.{Option, Some, None, unwrap_or}
-use Rattle.std.proofs.lemmas.List.{take_rest, drop-drop}
+use Rattle.std.proofs.lemmas.List.{nil_from_length, take_rest, drop-drop}
 use Rattle.code.specs.declared.Part.{Part}
 use Rattle.code.specs.declared.Part.TheVariants.{Byte}
 use Rattle.code.specs.declared.Ending.{Ending}
 use Rattle.code.specs.declared.Ending.TheVariants.{Offer, Malformed}
 use Rattle.code.specs.declared.Token.{Token}
 use Rattle.code.specs.declared.Token.TheVariants.{Ends, Has}
-use Rattle.code.proofs.Laws.{empty, first_is}
 use Rattle.code.specs.Tokens.{ending_of, part_of, token_code, Ranged, RangedPart, RangedToken, said, Says, Forms, ReadsToken, ReadsEnding, Affects}
 
 -- ---- one token
+
+-- a list whose first byte is known
+first_is : (s : Bytes) → 1 ≤ length s → s ≡ get_or s 0 0 ∷ drop 1 s
+first_is s h = drop-cons s 0 0 (omega arith)
 
 module _ (m : Marks) (first : Bool) where
   parse_byte : (x : ℕ) (s : Bytes) → eqb x m.escape ≡ false → Code.parse m first (x ∷ s) ≡ Code.onto (Code.byte x) (Code.parse m false s)
@@ -53,7 +56,7 @@ module _ (line : Bytes) (at : ℕ) where
   here = take (length line - at) (drop at line)
 
   pub long : {n : ℕ} → n ≤ length here → 1 ≤ n → at + n ≤ length line
-  long h k = omega (arith, take_rest line at, length-drop at line, ap length (take_rest line at))
+  long h k = omega (arith, length-drop at line, ap length (take_rest line at))
 
   -- what follows the first ones
   pub behind : (n : ℕ) → drop n here ≡ drop (at + n) line
@@ -76,7 +79,7 @@ parsed m line at e = ap (λ s. Code.parse m (eqb at 0) s) (sym (take_rest line a
 module _ {m : Marks} {line : Bytes} {at : ℕ} where
   pub token_end : length (here line at) < 1 → ReadsToken m line at (Ends Offer)
   unfolding Code.parse
-  token_end h = record { is = parsed m line at (empty _ h); ranged = tt }
+  token_end h = record { is = parsed m line at (nil_from_length _ (omega arith)); ranged = tt }
 
   pub token_byte : 1 ≤ length (here line at) → (get_or (here line at) 0 0 ≡ m.escape → ⊥) → ReadsToken m line at (Has (Byte (get_or (here line at) 0 0)) (at + 1))
   token_byte h n =
@@ -160,17 +163,11 @@ module _ {m : Marks} {line : Bytes} {at : ℕ} {r : Token} (s : ReadsToken m lin
   ends_ranged q = subst (λ (x : Token). RangedToken line at x) q s.ranged
 
   -- the rest starts after the token, within the line
-  pub has-after : {p : Part} {e : ℕ} → r ≡ Has p e → at < e
-  has-after q = (has_ranged q).1.0
+  pub has_after : {p : Part} {e : ℕ} → r ≡ Has p e → at < e
+  has_after q = (has_ranged q).1.0
 
   pub has_within : {p : Part} {e : ℕ} → r ≡ Has p e → e ≤ length line
   has_within q = (has_ranged q).1.1
-
-  pub has-less : {p : Part} {e : ℕ} → r ≡ Has p e → length line - e < length line - at
-  has-less q =
-      let h = has-after q in
-      let k = has_within q in
-      omega arith
 
   -- what the line says: what the token does, and the rest
   pub says_ends : {k : Ending} → r ≡ Ends k → Code.parse m (eqb at 0) (drop at line) ≡ Code.only (ending_of line k)
@@ -179,7 +176,7 @@ module _ {m : Marks} {line : Bytes} {at : ℕ} {r : Token} (s : ReadsToken m lin
   -- the rest is no line's start
   pub says_has : {p : Part} {e : ℕ} → r ≡ Has p e → Code.parse m (eqb at 0) (drop at line) ≡ Code.onto (part_of p) (Code.parse m (eqb e 0) (drop e line))
   says_has {p} {e} q =
-      let h = has-after q in
+      let h = has_after q in
       s.is ∙ ap (λ x. token_code m line x) q ∙ ap (λ b. Code.onto (part_of p) (Code.parse m b (drop e line))) (sym (ne_eqb e 0 (λ z. omega arith)))
 
 -- ---- reading to the end

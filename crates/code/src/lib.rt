@@ -46,6 +46,7 @@ pub enum Token {
 // ---- what follows an escape; where it says nothing, the line is malformed
 
 // The channel of F1 and F2: 3 if 3 or no digit follows, 0 if 0, 4 if 4.
+#[tactic(auto, unfolding(model::specs::Code::channel_of, model::specs::Text::is_digit))]
 fn read_channel(rest: &[u8]) -> Option<Channel>
     ensures { found result ≡ channel_of rest.now }
 {
@@ -59,6 +60,7 @@ fn read_channel(rest: &[u8]) -> Option<Channel>
 }
 
 // The test of F5: 0 for equal texts, 1 for unequal ones.
+#[tactic(auto, unfolding(model::specs::Code::text_test))]
 fn read_text_test(rest: &[u8]) -> Option<bool>
     ensures { said skip_text result ≡ text_test rest.now }
 {
@@ -70,6 +72,7 @@ fn read_text_test(rest: &[u8]) -> Option<bool>
 }
 
 // The test of F6: 0 for equal values, 1 for unequal ones, a minus for less, a plus for greater.
+#[tactic(auto, unfolding(model::specs::Code::value_test))]
 fn read_value_test(m: Marks, rest: &[u8]) -> Option<Comparison>
     ensures { said skip_value result ≡ value_test m rest.now }
 {
@@ -83,6 +86,7 @@ fn read_value_test(m: Marks, rest: &[u8]) -> Option<Comparison>
 }
 
 // The function b at the line's start, where F1 owns a layout.
+#[tactic(auto, unfolding(model::specs::Code::function, model::specs::Code::line_function, model::specs::Code::writing, model::specs::Code::copying))]
 fn read_first_function(m: Marks, b: u8, rest: &[u8]) -> Option<Ending>
     ensures { (line : List ℕ) → Says line (function m true b rest.now) result }
 {
@@ -102,6 +106,7 @@ fn read_first_function(m: Marks, b: u8, rest: &[u8]) -> Option<Ending>
 }
 
 // The function b after other code, where F1 and F7 alone may stand.
+#[tactic(auto, unfolding(model::specs::Code::function, model::specs::Code::writing))]
 fn read_later_function(b: u8, rest: &[u8]) -> Option<Ending>
     ensures { (m : Marks) (line : List ℕ) → Says line (function m false b rest.now) result }
 {
@@ -113,6 +118,7 @@ fn read_later_function(b: u8, rest: &[u8]) -> Option<Ending>
 }
 
 // The conversion that the byte b names.
+#[tactic(auto, unfolding(model::specs::Code::conversion_of, model::specs::Code::first_named, model::specs::Code::conversions, model::specs::Code::digit_of))]
 fn name_conversion(b: u8) -> Option<Conversion>
     ensures { found result ≡ conversion_of b }
 {
@@ -129,6 +135,7 @@ fn name_conversion(b: u8) -> Option<Conversion>
 }
 
 // ed and the byte b; what follows them starts at `at`.
+#[tactic(auto, unfolding(model::specs::Code::conversion, model::specs::Code::converting))]
 fn read_conversion(d: usize, b: u8, at: usize) -> Option<Token>
     requires { Parameter d }
     ensures { (line : List ℕ) → at ≤ length line → Forms line at (conversion d b (drop at line)) result }
@@ -142,6 +149,7 @@ fn read_conversion(d: usize, b: u8, at: usize) -> Option<Token>
 
 // The two bytes after an escape, of which the first is no F; what follows them starts at `at`.
 #[inline(always)]
+#[tactic(auto, unfolding(model::specs::Code::form, model::specs::Text::is_digit))]
 fn read_form(a: u8, b: u8, at: usize) -> Option<Token>
     ensures { (m : Marks) (first : Bool) (line : List ℕ) → a ≢ 70 → at ≤ length line → Forms line at (form m first a b (drop at line)) result }
 {
@@ -188,6 +196,7 @@ pub fn read_ending(m: Marks, line: &[u8]) -> Ending
 }
 
 // What an ending does to the iterations around the lines after it.
+#[tactic(auto, unfolding(model::specs::Code::effect_of))]
 fn effect_of(k: Ending) -> Effect
     ensures { (line : List ℕ) → result ≡ effect_of (ending_of line k) }
 {
