@@ -46,7 +46,7 @@ rest_of x = drop x.from (text_of x.line)
 
 -- its list of delimiters
 abbrev pub list_of : Bytes → Pieces → Bytes
-list_of text x = part text x.list x.end
+list_of text x = part text x.list.start x.list.end
 
 abbrev pub loop_by : Bytes → List Bytes → Kind → Loop
 loop_by text after (Kinds.Count left) = by_count left after
@@ -75,8 +75,8 @@ frame_of m text c = record {
 pub record PlacedPieces (text : Bytes) (x : Pieces) : Type 0 where
   pub some : 1 ≤ x.param
   pub param : x.param ≤ 9
-  pub list : x.list ≤ x.end
-  pub end : x.end ≤ length text
+  pub list : x.list.start ≤ x.list.end
+  pub end : x.list.end ≤ length text
   pub from : x.from ≤ length (text_of x.line)
 
 abbrev pub PlacedKind : Bytes → Kind → Type 0

@@ -13,6 +13,7 @@ use faults::RunFault;
 use model::{LINE_MOST, NESTING_MOST, PLACEHOLDERS_MOST};
 
 // A text of at most 200 bytes.
+// Its length stands beside its bytes, since the library has no heap.
 #[derive(Clone, Copy)]
 pub struct Text {
     pub len: usize,
@@ -92,14 +93,20 @@ impl Param {
     }
 }
 
+// A part of the text, by its places: a call borrows nothing.
+#[derive(Clone, Copy)]
+pub struct Span {
+    pub start: usize,
+    pub end: usize,
+}
+
 // The passes of an ed7 over a line.
 #[derive(Clone, Copy)]
 pub struct Pieces {
     // the number of the parameter that each pass sets
     pub param: usize,
-    // the list of delimiters is text[list..end]
-    pub list: usize,
-    pub end: usize,
+    // the list of delimiters
+    pub list: Span,
     // where the rest of the line starts
     pub from: usize,
     pub line: Text,
@@ -108,6 +115,7 @@ pub struct Pieces {
 }
 
 // How an iteration goes on: an eF7's by the passes left, an ed7's by its pieces.
+// It is no Option: an iteration of either kind goes on.
 #[derive(Clone, Copy)]
 pub enum Kind {
     Count(usize),
@@ -133,17 +141,19 @@ impl Iteration {
 // An open call.
 #[derive(Clone, Copy)]
 pub struct Call {
+    // which of the run's calls it is, as e0k writes it: no code for a refusal
     pub number: usize,
     // where its next code line starts
     pub next: usize,
     pub params: [Param; PLACEHOLDERS_MOST],
     pub iterations: [Iteration; NESTING_MOST],
-    // how many iterations are open, the innermost last
+    // how many iterations are open, the innermost last; beside their row, since the library has no heap
     pub depth: usize,
 }
 
 impl Call {
     // A call with pieces of a line as its parameters: no pass was made yet, and no iteration is open.
+    // starts and lens are two rows, as a reading has them, which the C interface answers so.
     pub fn open(
         number: usize,
         next: usize,
@@ -196,7 +206,8 @@ impl Call {
         requires { (1 ≤ d) × (d ≤ 9) }
         ensures { Delimits self.old d delimiter self.new }
     {
-        self.params[d - 1].delimiter = delimiter;
+        let param = &mut self.params[d - 1];
+        param.delimiter = delimiter;
     }
 
     // The call goes on at another code line.
