@@ -9,7 +9,7 @@ use native.Mathlib.Omega.{arith}
 use borrow.Author.Tests.{eq-eqb, ne_eqb}
 use lib.Dec.{eqb}
 use lib.ListN.{length, drop}
-use Rattle.model.specs.Text.{Bytes}
+use Rattle.model.specs.Text.{Bytes, part}
 use Rattle.model.specs.Load.{body_at}
 use Rattle.model.specs.Code.{effect}
 use Rattle.model.specs.Machine as Machine
@@ -130,7 +130,7 @@ module _ {m : Marks} {text : Bytes} {at : ℕ} {r : Option Line} (k : CodeAt m t
   pub step_ended : {depth : ℕ} → r ≡ None → StepsOver m text at depth Ended
   step_ended e = record { is = code_over k e }
 
-  module _ {l : Line} (there : r ≡ Some l) {e : Effect} (a : Affects m text at l.end e) where
+  module _ {l : Line} (there : r ≡ Some l) {e : Effect} (a : Affects m (part text at l.end) e) where
     skips : (n d : ℕ) {x : Effect} → e ≡ x → Machine.pass_over m (suc n) d (body_at m text at) ≡ pass_by m n d (body_at m text l.next) x
     skips n d q =
         ap (λ cs. Machine.pass_over m (suc n) d cs) (code_line k there).is ∙ pass-by m n d _ _

@@ -5,7 +5,8 @@ ghost use Rattle.std.specs.Prelude.{◌≤◌, length};
 ghost use Rattle.body.specs.Steps.{DropsFirst, StepsOver, PassesOver, Leaves};
 
 use faults::RunFault;
-use model::{Effect, Marks};
+use model::Effect;
+use scan::Marked;
 
 // What a skip of code lines comes to: the place of the line landed on, or the lines left at the body's end.
 #[derive(Clone, Copy)]
@@ -24,46 +25,46 @@ enum Stepped {
 }
 
 // The place after the line at `at`, if there is one there.
-pub fn skip_layout(m: Marks, text: &[u8], at: usize) -> usize
-    requires { at ≤ length text.now }
-    ensures { DropsFirst m text.now at result }
+pub fn skip_layout(marked: &Marked, at: usize) -> usize
+    requires { at ≤ length marked.now.text.now }
+    ensures { DropsFirst marked.now.marks marked.now.text.now at result }
 {
-    match scan::read_code(text, m, at) {
+    match marked.read_code(at) {
         Some(line) => line.next,
         None => at,
     }
 }
 
 // Passes over the code line at `at`, a layout with its owner; `depth` iterations were opened on the way there.
-fn step_over(m: Marks, text: &[u8], at: usize, depth: usize) -> Stepped
-    requires { (at ≤ length text.now) × (depth ≤ at) }
-    ensures { StepsOver m text.now at depth result }
+fn step_over(marked: &Marked, at: usize, depth: usize) -> Stepped
+    requires { (at ≤ length marked.now.text.now) × (depth ≤ at) }
+    ensures { StepsOver marked.now.marks marked.now.text.now at depth result }
 {
-    let Some(line) = scan::read_code(text, m, at) else {
+    let Some(line) = marked.read_code(at) else {
         return Stepped::Ended;
     };
     let next = line.next;
-    match code::read_effect(m, text, at, line.end) {
+    match code::read_effect(marked.marks, &marked.text[at..line.end]) {
         Effect::Malformed | Effect::Plain => Stepped::On(next, depth),
         Effect::Opens => Stepped::On(next, depth + 1),
         Effect::Closes => match depth.checked_sub(1) {
             Some(outer) => Stepped::On(next, outer),
             None => Stepped::Closed(next),
         },
-        Effect::Owns => Stepped::On(skip_layout(m, text, next), depth),
+        Effect::Owns => Stepped::On(skip_layout(marked, next), depth),
     }
 }
 
 // Passes over n code lines from `at` on. The line landed on must lie in the iterations of the line skipped from, and a body's end
 // lies in none: else the skip is bad.
-pub fn pass_over(m: Marks, text: &[u8], at: usize, n: usize) -> Result<Passed, RunFault>
-    requires { at ≤ length text.now }
-    ensures { PassesOver m text.now at n result }
+pub fn pass_over(marked: &Marked, at: usize, n: usize) -> Result<Passed, RunFault>
+    requires { at ≤ length marked.now.text.now }
+    ensures { PassesOver marked.now.marks marked.now.text.now at n result }
 {
     let mut i = at;
     let mut depth: usize = 0;
     for passed in 0..n {
-        match step_over(m, text, i, depth) {
+        match step_over(marked, i, depth) {
             Stepped::Ended if depth == 0 => return Ok(Passed::Beyond(n - passed)),
             Stepped::Ended | Stepped::Closed(_) => return Err(RunFault::BadSkip),
             Stepped::On(p, d) => (i, depth) = (p, d),
@@ -77,15 +78,15 @@ pub fn pass_over(m: Marks, text: &[u8], at: usize, n: usize) -> Result<Passed, R
 }
 
 // The place past the end of the iteration whose first code line is at `at`.
-pub fn past_loop(m: Marks, text: &[u8], at: usize) -> usize
-    requires { at ≤ length text.now }
-    ensures { Leaves m text.now at result }
+pub fn past_loop(marked: &Marked, at: usize) -> usize
+    requires { at ≤ length marked.now.text.now }
+    ensures { Leaves marked.now.marks marked.now.text.now at result }
 {
     // where the next code line starts is what the step says, so that the places are no range
     let mut i = at;
     let mut depth: usize = 0;
     loop {
-        match step_over(m, text, i, depth) {
+        match step_over(marked, i, depth) {
             Stepped::Ended => return i,
             Stepped::Closed(p) => return p,
             Stepped::On(p, d) => (i, depth) = (p, d),

@@ -3,4 +3,4 @@ use Rattle.body.proofs.Laws.{Passing}
 use Rattle.body.proofs.pass_over.Given as goal
 
 abbrev pub invariant-loop-passed : goal.invariant-loop-passed
-invariant-loop-passed l = Passing l.m l.text l.at l.n l.i l.depth l.passed
+invariant-loop-passed l = Passing l.marked.marks l.marked.text.now l.at l.n l.i l.depth l.passed

@@ -5,7 +5,7 @@ use Rattle.body.proofs.Laws.{Leaving}
 use Rattle.body.proofs.past_loop.Given as goal
 
 abbrev pub invariant-loop-p : goal.invariant-loop-p
-invariant-loop-p l = Leaving l.m l.text l.at l.i l.depth
+invariant-loop-p l = Leaving l.marked.marks l.marked.text.now l.at l.i l.depth
 
 abbrev pub decreases-loop-p : goal.decreases-loop-p
-decreases-loop-p l = length l.text - l.i
+decreases-loop-p l = length l.marked.text.now - l.i
