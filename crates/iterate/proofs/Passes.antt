@@ -30,7 +30,7 @@ use Rattle.iterate.specs.Iterate.{pass_step, Has, again_step, taken_step, TakesP
 -- ---- take_pass
 
 module _ {m : Marks} {text : Bytes} {x : Pieces} {line : Bytes} {r : Result Taken RunFault} (p : PlacedPieces text x) (l : line ≡ text_of x.line)
-    (k : Takes m line x.from (part text x.list x.end) r) where
+    (k : Takes m line x.from (part text x.list.start x.list.end) r) where
   taken : pass_of m (list_of text x) (rest_of x) ≡ piece_at (text_of x.line) x.from r
   taken = ap (λ (s : Bytes). pass_of m (list_of text x) (drop x.from s)) (sym l) ∙ k.is ∙ ap (λ (s : Bytes). piece_at s x.from r) l
 
@@ -213,7 +213,7 @@ module _ {m : Marks} {text : Bytes} {c : Call} (p : Placed text c) where
 
 module _ {m : Marks} {text : Bytes} {c : Call} {d : ℕ} {line : Bytes} {list end : ℕ} {l : Text} {r : Result Unit RunFault} {x : Pieces} {ps : List Param}
     (p : Placed text c) (k : Holds line l)
-    (t : TakesPass m text (record { param = d; list = list; end = end; from = 0; line = l; before = (get_or c.params (d - 1) no_param).text }) c.params r x ps) where
+    (t : TakesPass m text (record { param = d; list = record { start = list; end = end }; from = 0; line = l; before = (get_or c.params (d - 1) no_param).text }) c.params r x ps) where
   begun : (w : Shared)
       → take_pass d (pass_of m (part text list end) line) (part text list end) (param (frame_of m text c) d) (frame_of m text c).next (frame_of m text c).loops (frame_of m text c) w
       ≡ taken_step text r x ps (frame_of m text c).next (frame_of m text c).loops (frame_of m text c) w

@@ -9,10 +9,11 @@ ghost use Rattle.iterate.specs.Iterate.{TakesPass, GoesOn, StartsPass, EndsPass,
 ghost use Rattle.model.specs.Limits.{line_most, nesting_most};
 
 use body::past_loop;
-use call::{Call, Iteration, Kind, Param, Pieces, Text};
+use call::{Call, Iteration, Kind, Param, Pieces, Span, Text};
 use faults::RunFault;
-use model::{Integer, Marks};
+use model::Integer;
 use pass::take_piece;
+use scan::Marked;
 
 // A parameter becomes a piece that this byte ended.
 fn set_piece(param: &mut Param, piece: &[u8], delimiter: Option<u8>)
@@ -25,18 +26,14 @@ fn set_piece(param: &mut Param, piece: &[u8], delimiter: Option<u8>)
 }
 
 // An ed7 makes a pass over the rest of its line.
-fn take_pass(
-    m: Marks,
-    text: &[u8],
-    pieces: &mut Pieces,
-    params: &mut [Param; 9],
-) -> Result<(), RunFault>
-    requires { PlacedPieces text.now pieces.old }
-    ensures { TakesPass m text.now pieces.old params.old result pieces.new params.new }
+fn take_pass(marked: &Marked, pieces: &mut Pieces, params: &mut [Param; 9]) -> Result<(), RunFault>
+    requires { PlacedPieces marked.now.text.now pieces.old }
+    ensures { TakesPass marked.now.marks marked.now.text.now pieces.old params.old result pieces.new params.new }
 {
     let line = pieces.line.as_bytes();
     let from = pieces.from;
-    let taken = take_piece(m, line, from, &text[pieces.list..pieces.end])?;
+    let list = &marked.text[pieces.list.start..pieces.list.end];
+    let taken = take_piece(marked.marks, line, from, list)?;
     set_piece(
         &mut params[pieces.param - 1],
         &line[from..taken.end],
@@ -46,49 +43,45 @@ fn take_pass(
     Ok(())
 }
 
-// ed7: the first pass over the line, with the delimiters text[list..end].
+// ed7: the first pass over the line, with a list of delimiters.
 pub fn start_pass(
-    m: Marks,
-    text: &[u8],
+    marked: &Marked,
     call: &mut Call,
     d: usize,
     line: &[u8],
-    list: usize,
-    end: usize,
+    list: Span,
 ) -> Result<(), RunFault>
-    requires placed { Placed text.now call.old }
+    requires placed { Placed marked.now.text.now call.old }
     requires depth_lt_nesting_most { (call.old.depth < nesting_most) × ((1 ≤ d) × (d ≤ 9)) }
-    requires line_len_bound { (length line.now ≤ line_most) × ((list ≤ end) × (end ≤ length text.now)) }
-    ensures { StartsPass m text.now call.old d line.now list end result call.new }
+    requires line_len_bound { (length line.now ≤ line_most) × ((list.start ≤ list.end) × (list.end ≤ length marked.now.text.now)) }
+    ensures { StartsPass marked.now.marks marked.now.text.now call.old d line.now list.start list.end result call.new }
 {
     let mut pieces = Pieces {
         param: d,
         list,
-        end,
         from: 0,
         line: Text::new(line),
         before: call.params[d - 1].text,
     };
-    take_pass(m, text, &mut pieces, &mut call.params)?;
+    take_pass(marked, &mut pieces, &mut call.params)?;
     call.enter(Kind::Pieces(pieces));
     Ok(())
 }
 
 // Where the call goes on if an iteration makes another pass. Where an ed7 makes none, its parameter regains its old value.
 fn pass_again(
-    m: Marks,
-    text: &[u8],
+    marked: &Marked,
     iteration: &mut Iteration,
     params: &mut [Param; 9],
 ) -> Result<Option<usize>, RunFault>
-    requires { PlacedLoop text.now iteration.old }
-    ensures { GoesOn m text.now iteration.old params.old result iteration.new params.new }
+    requires { PlacedLoop marked.now.text.now iteration.old }
+    ensures { GoesOn marked.now.marks marked.now.text.now iteration.old params.old result iteration.new params.new }
 {
     match &mut iteration.kind {
         Kind::Count(0) => return Ok(None),
         Kind::Count(left) => *left -= 1,
         Kind::Pieces(pieces) if pieces.from < pieces.line.as_bytes().len() => {
-            take_pass(m, text, pieces, params)?
+            take_pass(marked, pieces, params)?
         }
         Kind::Pieces(pieces) => {
             params[pieces.param - 1].set(pieces.before.as_bytes());
@@ -99,14 +92,14 @@ fn pass_again(
 }
 
 // eF8: the innermost iteration's next pass, or its end.
-pub fn end_pass(m: Marks, text: &[u8], call: &mut Call) -> Result<(), RunFault>
-    requires { Placed text.now call.old }
-    ensures { EndsPass m text.now call.old result call.new }
+pub fn end_pass(marked: &Marked, call: &mut Call) -> Result<(), RunFault>
+    requires { Placed marked.now.text.now call.old }
+    ensures { EndsPass marked.now.marks marked.now.text.now call.old result call.new }
 {
     let Some(i) = call.depth.checked_sub(1) else {
         return Ok(());
     };
-    match pass_again(m, text, &mut call.iterations[i], &mut call.params)? {
+    match pass_again(marked, &mut call.iterations[i], &mut call.params)? {
         Some(after) => call.next = after,
         None => call.depth = i,
     }
@@ -121,13 +114,13 @@ fn count_passes(v: Integer) -> usize
 }
 
 // eF7: so many passes; 0 or less skips past the matching eF8.
-pub fn start_repeat(m: Marks, text: &[u8], call: &mut Call, v: Integer)
-    requires next_in_bounds { call.old.next ≤ length text.now }
+pub fn start_repeat(marked: &Marked, call: &mut Call, v: Integer)
+    requires next_in_bounds { call.old.next ≤ length marked.now.text.now }
     requires depth_lt_nesting_most { call.old.depth < nesting_most }
-    ensures { StartsRepeat m text.now call.old v call.new }
+    ensures { StartsRepeat marked.now.marks marked.now.text.now call.old v call.new }
 {
     match count_passes(v).checked_sub(1) {
-        None => call.move_to(past_loop(m, text, call.next)),
+        None => call.move_to(past_loop(marked, call.next)),
         Some(left) => call.enter(Kind::Count(left)),
     }
 }

@@ -8,14 +8,14 @@ use answer::Turn;
 use body::{Passed, pass_over};
 use call::Call;
 use faults::RunFault;
-use model::Marks;
+use scan::Marked;
 
 // Skips n code lines of a call, and those past its end in its caller.
-pub fn land_skip(m: Marks, text: &[u8], call: &mut Call, n: usize) -> Result<Turn, RunFault>
-    requires { call.old.next ≤ length text.now }
-    ensures { LandsSkip m text.now call.old n result call.new }
+pub fn land_skip(marked: &Marked, call: &mut Call, n: usize) -> Result<Turn, RunFault>
+    requires { call.old.next ≤ length marked.now.text.now }
+    ensures { LandsSkip marked.now.marks marked.now.text.now call.old n result call.new }
 {
-    match pass_over(m, text, call.next, n)? {
+    match pass_over(marked, call.next, n)? {
         Passed::Landed(next) => {
             call.move_to(next);
             Ok(Turn::Continues)
@@ -25,12 +25,12 @@ pub fn land_skip(m: Marks, text: &[u8], call: &mut Call, n: usize) -> Result<Tur
 }
 
 // What a turn to a line that a call offered comes to in that call.
-pub fn land(m: Marks, text: &[u8], call: &mut Call, turn: Turn) -> Result<Turn, RunFault>
-    requires { call.old.next ≤ length text.now }
-    ensures { LandsTurn m text.now call.old turn result call.new }
+pub fn land(marked: &Marked, call: &mut Call, turn: Turn) -> Result<Turn, RunFault>
+    requires { call.old.next ≤ length marked.now.text.now }
+    ensures { LandsTurn marked.now.marks marked.now.text.now call.old turn result call.new }
 {
     match turn {
-        Turn::Back(n) => land_skip(m, text, call, n),
+        Turn::Back(n) => land_skip(marked, call, n),
         Turn::Continues | Turn::Offers | Turn::Ends => Ok(turn),
     }
 }

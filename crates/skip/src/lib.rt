@@ -12,19 +12,20 @@ use faults::RunFault;
 use landing::land_skip;
 use model::{Comparison, Integer, Marks};
 use number::compare;
+use scan::Marked;
 use state::State;
 use store::Store;
 use value::value;
 
 // Skips v code lines; a negative skip ends the run with 18.
-fn skip_lines(m: Marks, text: &[u8], call: &mut Call, v: Integer) -> Result<Turn, RunFault>
-    requires { call.old.next ≤ length text.now }
-    ensures { SkipsLines m text.now call.old v result call.new }
+fn skip_lines(marked: &Marked, call: &mut Call, v: Integer) -> Result<Turn, RunFault>
+    requires { call.old.next ≤ length marked.now.text.now }
+    ensures { SkipsLines marked.now.marks marked.now.text.now call.old v result call.new }
 {
     let Ok(n) = usize::try_from(v) else {
         return Err(RunFault::BadSkip);
     };
-    land_skip(m, text, call, n)
+    land_skip(marked, call, n)
 }
 
 // The value of parameter d, or 15.
@@ -44,26 +45,25 @@ fn params_agree(call: &Call) -> bool
 
 // F4 by parameter d.
 pub fn skip_by(
-    m: Marks,
-    text: &[u8],
+    marked: &Marked,
     call: &mut Call,
     d: usize,
     s: &State,
 ) -> Result<Turn, RunFault>
-    requires { Parameter d × (call.old.next ≤ length text.now) }
-    ensures { SkipsBy m text.now call.old d s.now result call.new }
+    requires { Parameter d × (call.old.next ≤ length marked.now.text.now) }
+    ensures { SkipsBy marked.now.marks marked.now.text.now call.old d s.now result call.new }
 {
-    let v = param_value(m, call, d, &s.store)?;
-    skip_lines(m, text, call, v)
+    let v = param_value(marked.marks, call, d, &s.store)?;
+    skip_lines(marked, call, v)
 }
 
 // Where a test holds, a skip by parameter 3.
-fn skip_if(m: Marks, text: &[u8], call: &mut Call, holds: bool, s: &State) -> Result<Turn, RunFault>
-    requires { call.old.next ≤ length text.now }
-    ensures { SkipsIf m text.now holds call.old s.now result call.new }
+fn skip_if(marked: &Marked, call: &mut Call, holds: bool, s: &State) -> Result<Turn, RunFault>
+    requires { call.old.next ≤ length marked.now.text.now }
+    ensures { SkipsIf marked.now.marks marked.now.text.now holds call.old s.now result call.new }
 {
     if holds {
-        skip_by(m, text, call, 3, s)
+        skip_by(marked, call, 3, s)
     } else {
         Ok(Turn::Continues)
     }
@@ -71,31 +71,29 @@ fn skip_if(m: Marks, text: &[u8], call: &mut Call, holds: bool, s: &State) -> Re
 
 // F5: F50 wants equal texts, F51 unequal ones.
 pub fn skip_text(
-    m: Marks,
-    text: &[u8],
+    marked: &Marked,
     call: &mut Call,
     equal: bool,
     s: &State,
 ) -> Result<Turn, RunFault>
-    requires { call.old.next ≤ length text.now }
-    ensures { SkipsText m text.now equal call.old s.now result call.new }
+    requires { call.old.next ≤ length marked.now.text.now }
+    ensures { SkipsText marked.now.marks marked.now.text.now equal call.old s.now result call.new }
 {
     let agree = params_agree(call);
-    skip_if(m, text, call, agree == equal, s)
+    skip_if(marked, call, agree == equal, s)
 }
 
 // F6.
 pub fn skip_value(
-    m: Marks,
-    text: &[u8],
+    marked: &Marked,
     call: &mut Call,
     how: Comparison,
     s: &State,
 ) -> Result<Turn, RunFault>
-    requires { call.old.next ≤ length text.now }
-    ensures { SkipsValue m text.now how call.old s.now result call.new }
+    requires { call.old.next ≤ length marked.now.text.now }
+    ensures { SkipsValue marked.now.marks marked.now.text.now how call.old s.now result call.new }
 {
-    let a = param_value(m, call, 1, &s.store)?;
-    let b = param_value(m, call, 2, &s.store)?;
-    skip_if(m, text, call, compare(how, a, b), s)
+    let a = param_value(marked.marks, call, 1, &s.store)?;
+    let b = param_value(marked.marks, call, 2, &s.store)?;
+    skip_if(marked, call, compare(how, a, b), s)
 }
