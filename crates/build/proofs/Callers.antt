@@ -1,13 +1,12 @@
 -- What callers take from the contract of `build_line`.
 use mathlib.Core.Path.{◌≡◌, ap, subst, ◌∙◌}
 use mathlib.Core.Bool.{true}
-use Prim.Native.Nat.{ℕ}
 use native.Mathlib.Omega.{arith}
 use Rattle.std.specs.Prelude.{Result, Ok, Err, IfOk}
 use Rattle.faults.specs.declared.RunFault.{RunFault}
 use Rattle.faults.specs.Numbers.{run_number}
 use Rattle.model.specs.declared.Marks.{Marks}
-use Rattle.model.specs.Text.{Bytes, part}
+use Rattle.model.specs.Text.{Bytes}
 use Rattle.model.specs.Code.{parse, effect, effect_of}
 use Rattle.model.specs.Machine.{halts, finish, carry_out, Outputs, Rooms}
 use Rattle.state.specs.declared.State.{State}
@@ -19,8 +18,8 @@ use Rattle.call.specs.declared.Call.{Call}
 use Rattle.call.specs.Call.{text_of, frame_of}
 use Rattle.build.specs.Built.{built_step, Builds}
 
-module _ {m : Marks} {text : Bytes} {at to : ℕ} {c : Call} {s : State} {line : Text} {r : Result Ending RunFault} {s' : State} (b : Builds m text at to c s line r s') where
-  pub builds_sound : {o : Outputs} → Sound text s o → Sound text s' o
+module _ {m : Marks} {code : Bytes} {c : Call} {s : State} {line : Text} {r : Result Ending RunFault} {s' : State} (b : Builds m code c s line r s') where
+  pub builds_sound : {text : Bytes} {o : Outputs} → Sound text s o → Sound text s' o
   builds_sound h =
       let k = b.keeps in
       record {
@@ -35,19 +34,19 @@ module _ {m : Marks} {text : Bytes} {at to : ℕ} {c : Call} {s : State} {line :
 
   -- a line is built: the ending is done with it
   module _ {k : Ending} (e : r ≡ Ok k) where
-    pub builds_finish : (room : Rooms) (o : Outputs) → carry_out room m (parse m true (part text at to)) (frame_of m text c) (shared_of s o)
-        ≡ finish room m (ending_of text to k) (text_of line) (frame_of m text c) (shared_of s' o)
+    pub builds_finish : (text : Bytes) (room : Rooms) (o : Outputs) → carry_out room m (parse m true code) (frame_of m text c) (shared_of s o)
+        ≡ finish room m (ending_of code k) (text_of line) (frame_of m text c) (shared_of s' o)
     unfolding built_step
-    builds_finish room o = b.same room o ∙ ap (λ (x : Result Ending RunFault). built_step room m text to (frame_of m text c) line x s' o) e
+    builds_finish text room o = b.same text room o ∙ ap (λ (x : Result Ending RunFault). built_step room m code (frame_of m text c) line x s' o) e
 
-    pub built_ranged : Ranged at to k
-    built_ranged = subst (λ (x : Result Ending RunFault). IfOk x (λ z. Ranged at to z)) e b.ranged
+    pub built_ranged : Ranged code k
+    built_ranged = subst (λ (x : Result Ending RunFault). IfOk x (λ z. Ranged code z)) e b.ranged
 
-    pub built-effect : effect m (part text at to) ≡ effect_of (ending_of text to k)
-    built-effect = subst (λ (x : Result Ending RunFault). IfOk x (λ z. effect m (part text at to) ≡ effect_of (ending_of text to z))) e b.effect
+    pub built-effect : effect m code ≡ effect_of (ending_of code k)
+    built-effect = subst (λ (x : Result Ending RunFault). IfOk x (λ z. effect m code ≡ effect_of (ending_of code z))) e b.effect
 
   -- a fault ends the run
-  pub builds_halts : {f : RunFault} → r ≡ Err f → (room : Rooms) (o : Outputs)
-      → carry_out room m (parse m true (part text at to)) (frame_of m text c) (shared_of s o) ≡ halts (run_number f) (shared_of s' o)
+  pub builds_halts : {f : RunFault} → r ≡ Err f → (text : Bytes) (room : Rooms) (o : Outputs)
+      → carry_out room m (parse m true code) (frame_of m text c) (shared_of s o) ≡ halts (run_number f) (shared_of s' o)
   unfolding built_step
-  builds_halts e room o = b.same room o ∙ ap (λ (x : Result Ending RunFault). built_step room m text to (frame_of m text c) line x s' o) e
+  builds_halts e text room o = b.same text room o ∙ ap (λ (x : Result Ending RunFault). built_step room m code (frame_of m text c) line x s' o) e

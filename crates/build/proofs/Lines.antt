@@ -1,13 +1,14 @@
 -- The line as far as it is built: what is left of the code line comes to the same as the whole.
 use mathlib.Core.Path.{◌≡◌, refl, sym, ap, ◌∙◌, subst}
-use mathlib.Core.Bool.{Bool, true, false}
+use mathlib.Core.Bool.{true}
 use mathlib.Core.List.{List, []}
 use Prim.Native.Nat.{ℕ, ◌≤◌}
-use lib.ListN.{length}
+use lib.ListN.{length, drop}
+use lib.Dec.{eqb}
 use Rattle.std.specs.Prelude.{Result, Ok, Err, IsErrAnd}
 use Rattle.faults.specs.declared.RunFault.{RunFault}
 use Rattle.model.specs.declared.Marks.{Marks}
-use Rattle.model.specs.Text.{Bytes, part}
+use Rattle.model.specs.Text.{Bytes}
 use Rattle.model.specs.Code as Code
 use Rattle.model.specs.Code.{parse, effect, effect_of}
 use Rattle.model.specs.Machine.{Frame, Building, built, failed, build, finish, finish_built, carry_out, Outputs}
@@ -21,7 +22,7 @@ use Rattle.code.specs.Tokens.{RangedToken, ReadsToken}
 use Rattle.code.proofs.Lines.{Ahead, ahead_starts, ahead_more, ahead_ends, says_ends, says_has}
 use Rattle.call.specs.declared.Text.{Text}
 use Rattle.call.specs.declared.Call.{Call}
-use Rattle.call.specs.Call.{text_of, frame_of, Holds, Placed}
+use Rattle.call.specs.Call.{text_of, frame_of, Holds}
 use Rattle.call.specs.Line.{line_step}
 use Rattle.convert.specs.Added.{Keeps}
 use Rattle.convert.proofs.Adding.{keeps_same}
@@ -39,42 +40,39 @@ keeps_more k h = record {
   fuel = h.fuel ∙ k.fuel;
 }
 
-pub has_ranges : {m : Marks} {text : Bytes} {at to : ℕ} {first : Bool} {r : Token} {p : Part} {e : ℕ} → ReadsToken m text at to first r → r ≡ Has p e → Ranges p
-has_ranges {at = at} {to} s q = record { is = (subst (λ (x : Token). RangedToken at to x) q s.ranged).0 }
+pub has_ranges : {m : Marks} {code : Bytes} {at : ℕ} {r : Token} {p : Part} {e : ℕ} → ReadsToken m code at r → r ≡ Has p e → Ranges p
+has_ranges {code = code} {at} s q = record { is = (subst (λ (x : Token). RangedToken code at x) q s.ranged).0 }
 
 -- what the parts ps come to after what is built so far
 unfoldable pub rest : Marks → Frame → List Code.Part → Building → Building
 rest m f ps b = elim b [ built l w ↦ build m f ps l w | failed n w ↦ failed n w ]
 
--- the loop's invariant: the rest of the code line starts at i, and the line and the state t are what is built so far
-pub record Partly (m : Marks) (text : Bytes) (at to : ℕ) (c : Call) (s : State) (line : Text) (t : State) (i : ℕ) (first : Bool) : Type 0 where
-  pub is : (o : Outputs)
-      → build m (frame_of m text c) (parse m true (part text at to)).parts [] (shared_of s o)
-      ≡ build m (frame_of m text c) (parse m first (part text i to)).parts (text_of line) (shared_of t o)
-  pub ahead : Ahead m text at to i first
+-- the loop's invariant: the rest of the code line starts at `at`, and the line and the state t are what is built so far
+pub record Partly (m : Marks) (code : Bytes) (c : Call) (s : State) (line : Text) (t : State) (at : ℕ) : Type 0 where
+  pub is : (text : Bytes) (o : Outputs)
+      → build m (frame_of m text c) (parse m true code).parts [] (shared_of s o)
+      ≡ build m (frame_of m text c) (parse m (eqb at 0) (drop at code)).parts (text_of line) (shared_of t o)
+  pub ahead : Ahead m code at
   pub keeps : Keeps s t
-  pub placed : Placed text c
 
-pub partly_starts : {m : Marks} {text : Bytes} {at to : ℕ} {c : Call} {s : State} {line : Text} → at ≤ to → s.symbols ≤ length s.store → Placed text c → Holds [] line
-    → Partly m text at to c s line s at true
-partly_starts {m} {text} {at} {to} {c} {s} h g p l = record {
-  is = λ o. rw l.is refl;
-  ahead = ahead_starts h;
+pub partly_starts : {m : Marks} {code : Bytes} {c : Call} {s : State} {line : Text} → s.symbols ≤ length s.store → Holds [] line → Partly m code c s line s 0
+partly_starts g l = record {
+  is = λ text o. rw l.is refl;
+  ahead = ahead_starts;
   keeps = keeps_same g;
-  placed = p;
 }
 
-module _ {m : Marks} {text : Bytes} {at to : ℕ} {c : Call} {s : State} {line : Text} {u : State} {i : ℕ} {first : Bool}
-    (h : Partly m text at to c s line u i first) {t : Token} (g : ReadsToken m text i to first t) where
+module _ {m : Marks} {code : Bytes} {c : Call} {s : State} {line : Text} {u : State} {at : ℕ} (h : Partly m code c s line u at) {t : Token} (g : ReadsToken m code at t) where
   -- the code line is at its end
-  pub partly_ends : {k : Ending} → t ≡ Ends k → Builds m text at to c s line (Ok k) u
+  pub partly_ends : {k : Ending} → t ≡ Ends k → Builds m code c s line (Ok k) u
   unfolding carry_out build finish_built built_step effect Code.only
   partly_ends q =
-      let f = frame_of m text c in
       let y = ahead_ends h.ahead g q in
       record {
-        same = λ room o. ap (λ x. finish_built room m (parse m true (part text at to)).ending f x)
-            (h.is o ∙ ap (λ x. build m f x.parts (text_of line) (shared_of u o)) (says_ends g q))
+        same = λ text room o.
+            let f = frame_of m text c in
+            ap (λ x. finish_built room m (parse m true code).ending f x)
+            (h.is text o ∙ ap (λ x. build m f x.parts (text_of line) (shared_of u o)) (says_ends g q))
             ∙ ap (λ x. finish room m x (text_of line) f (shared_of u o)) y.is;
         keeps = h.keeps;
         ranged = y.ranged;
@@ -82,34 +80,33 @@ module _ {m : Marks} {text : Bytes} {at to : ℕ} {c : Call} {s : State} {line :
       }
 
   module _ {p : Part} {e : ℕ} (q : t ≡ Has p e) {line' : Text} {s' : State} {b : Result Unit RunFault} (d : AddsPart m c p line u b line' s') where
-    -- what the part comes to
-    step_has : (o : Outputs) → build m (frame_of m text c) (parse m true (part text at to)).parts [] (shared_of s o)
-        ≡ rest m (frame_of m text c) (parse m false (part text e to)).parts (line_step (text_of line') b (shared_of s' o))
+    -- what the part and the rest of the code line come to
+    step_has : (text : Bytes) (o : Outputs) → build m (frame_of m text c) (parse m true code).parts [] (shared_of s o)
+        ≡ rest m (frame_of m text c) (parse m (eqb e 0) (drop e code)).parts (line_step (text_of line') b (shared_of s' o))
     unfolding build Code.onto rest
-    step_has o =
-        h.is o ∙ ap (λ x. build m (frame_of m text c) x.parts (text_of line) (shared_of u o)) (says_has g q)
-        ∙ ap (λ x. rest m (frame_of m text c) (parse m false (part text e to)).parts x) ((d.adds text).is o)
+    step_has text o =
+        h.is text o ∙ ap (λ x. build m (frame_of m text c) x.parts (text_of line) (shared_of u o)) (says_has g q)
+        ∙ ap (λ x. rest m (frame_of m text c) (parse m (eqb e 0) (drop e code)).parts x) ((d.adds text).is o)
 
     -- one part more
-    pub partly_more : {a : Unit} → b ≡ Ok a → Partly m text at to c s line' s' e false
+    pub partly_more : {a : Unit} → b ≡ Ok a → Partly m code c s line' s' e
     unfolding rest line_step
     partly_more z = record {
-      is = λ o. step_has o ∙ ap (λ x. rest m (frame_of m text c) (parse m false (part text e to)).parts (line_step (text_of line') x (shared_of s' o))) z;
+      is = λ text o. step_has text o ∙ ap (λ x. rest m (frame_of m text c) (parse m (eqb e 0) (drop e code)).parts (line_step (text_of line') x (shared_of s' o))) z;
       ahead = ahead_more h.ahead g q;
-      keeps = keeps_more h.keeps (d.adds text).keeps;
-      placed = h.placed;
+      keeps = keeps_more h.keeps (d.adds []).keeps;
     }
 
     -- a part that ends the run
-    pub partly_fails : {f : RunFault} {r : Result Ending RunFault} → b ≡ Err f → IsErrAnd r (λ x. x ≡ f) → Builds m text at to c s line' r s'
+    pub partly_fails : {f : RunFault} {r : Result Ending RunFault} → b ≡ Err f → IsErrAnd r (λ x. x ≡ f) → Builds m code c s line' r s'
     unfolding carry_out finish_built built_step rest line_step
     partly_fails {r = Ok x} z y = absurd y
     partly_fails {f = f} {r = Err x} z y =
-        subst (λ (x : RunFault). Builds m text at to c s line' (Err x) s') (sym y)
+        subst (λ (x : RunFault). Builds m code c s line' (Err x) s') (sym y)
         (record {
-          same = λ room o. ap (λ x. finish_built room m (parse m true (part text at to)).ending (frame_of m text c) x)
-              (step_has o ∙ ap (λ x. rest m (frame_of m text c) (parse m false (part text e to)).parts (line_step (text_of line') x (shared_of s' o))) z);
-          keeps = keeps_more h.keeps (d.adds text).keeps;
+          same = λ text room o. ap (λ x. finish_built room m (parse m true code).ending (frame_of m text c) x)
+              (step_has text o ∙ ap (λ x. rest m (frame_of m text c) (parse m (eqb e 0) (drop e code)).parts (line_step (text_of line') x (shared_of s' o))) z);
+          keeps = keeps_more h.keeps (d.adds []).keeps;
           ranged = tt;
           effect = tt;
         })

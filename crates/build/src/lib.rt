@@ -2,7 +2,6 @@
 #![tactic(auto)]
 
 ghost use Rattle.std.specs.Prelude.{◌≤◌, length};
-ghost use Rattle.call.specs.Call.{Placed};
 ghost use Rattle.build.specs.Built.{Ranges, AddsPart, Builds};
 ghost use Rattle.model.specs.Limits.{fuel_most};
 
@@ -32,31 +31,27 @@ fn add_part(m: Marks, call: &Call, p: Part, line: &mut Text, s: &mut State) -> R
     }
 }
 
-// The line that the code line from `at` up to `to` builds in a call, in place of the one before.
+// The line that a code line builds in a call, in place of the one before.
 pub fn build_line(
     m: Marks,
-    text: &[u8],
-    at: usize,
-    to: usize,
+    code: &[u8],
     call: &Call,
     line: &mut Text,
     s: &mut State,
 ) -> Result<Ending, RunFault>
-    requires at_le_to { (at ≤ to) × (to ≤ length text.now) }
     requires symbols { s.old.symbols ≤ length s.old.store }
-    requires placed { Placed text.now call.now }
-    ensures { Builds m text.now at to call.now s.old line.new result s.new }
+    requires number { call.now.number ≤ fuel_most }
+    ensures { Builds m code.now call.now s.old line.new result s.new }
 {
     line.set(&[]);
     // where a part ends is found by reading it, so that the places are no range
-    let mut i = at;
-    let mut first = true;
+    let mut at = 0;
     loop {
-        match code::read_token(m, text, i, to, first) {
+        match code::read_token(m, code, at) {
             Token::Ends(ending) => return Ok(ending),
             Token::Has(part, end) => {
                 add_part(m, call, part, line, s)?;
-                (i, first) = (end, false);
+                at = end;
             }
         }
     }
