@@ -19,7 +19,7 @@ use Rattle.fit.specs.declared.Reading.{Reading}
 use Rattle.fit.specs.Chosen.{TreeAt, Chosen, Chooses}
 use Rattle.usage.specs.Counts.{Counts}
 use Rattle.usage.proofs.Counts.{counts_chosen, counts_passed, counts_more, counts_room}
-use Rattle.matching.specs.Book.{Book, Prepared, tally_in}
+use Rattle.matching.specs.Book.{Basis, Book, Prepared, tally_in}
 use Rattle.matching.specs.Matches.{chosen_place, CountsDecided}
 
 -- ---- the place
@@ -56,30 +56,29 @@ module _ {c : Option Reading} {fuel : ℕ} {counts : List ℕ} where
 -- ---- what callers take
 
 -- a template that is chosen has its count
-pub choice_below : {m : Marks} {text : Bytes} {row : List Node} {count : ℕ} {bodies : List ℕ} {line : Bytes} {c : Choice} → Prepared m text row count bodies → Chooses m row count line c
-    → IfSome c.reading (λ r. r.template < 128)
-choice_below {m} {row = row} {count} {line = line} {c} p g = by c.reading g.call
+pub choice_below : {b : Basis} {line : Bytes} {c : Choice} → Prepared b → Chooses b.marks b.nodes b.count line c → IfSome c.reading (λ r. r.template < 128)
+choice_below {b} {line} {c} p g = by c.reading g.call
   where
-    by : (x : Option Reading) → IfSome x (λ r. (ts : List Bytes) → TreeAt m row count ts → Chosen m ts line r) → IfSome x (λ r. r.template < 128)
+    by : (x : Option Reading) → IfSome x (λ r. (ts : List Bytes) → TreeAt b.marks b.nodes b.count ts → Chosen b.marks ts line r) → IfSome x (λ r. r.template < 128)
     by None h = tt
-    by (Some r) h = let b = p.book in omega (arith, (h _ b.fits).place, templates-length p.table.macros, b.few)
+    by (Some r) h = omega (arith, (h _ p.book.fits).place, templates-length p.table.macros, p.book.few)
 
 module _ {c : Option Reading} {fuel : ℕ} {counts counts' : List ℕ} (z : CountsDecided c fuel counts counts') (some_fuel : 0 < fuel) where
   -- the counts stay within the fuel
   pub decided_counts : Counts counts fuel → Counts counts' (fuel - 1)
   decided_counts h = rw (z.counted some_fuel) (counts_more h some_fuel (chosen_place c))
 
-  module _ {m : Marks} {text : Bytes} {row : List Node} {count : ℕ} {bodies : List ℕ} {t : Loaded} (b : Book m text row count bodies t) where
+  module _ {b : Basis} {t : Loaded} (k : Book b t) where
     -- a line without a reading is one more that is passed through
     pub passed_tally : Counts counts fuel → c ≡ None → tally_in t counts' ≡ tallied none (tally_in t counts)
-    passed_tally h e = rw (z.counted some_fuel, ← place-passed e) (counts_passed (length t.macros) counts b.few h.long)
+    passed_tally h e = rw (z.counted some_fuel, ← place-passed e) (counts_passed (length t.macros) counts k.few h.long)
 
     -- one with a reading is one more of its template's
-    pub chosen_tally : {line : Bytes} {x : Reading} → c ≡ Some x → Chosen m (templates t.macros) line x → (r : ReadingOf) → chosen m (templates t.macros) line ≡ some r
+    pub chosen_tally : {line : Bytes} {x : Reading} → c ≡ Some x → Chosen b.marks (templates t.macros) line x → (r : ReadingOf) → chosen b.marks (templates t.macros) line ≡ some r
         → tally_in t counts' ≡ tallied (some r.which) (tally_in t counts)
     chosen_tally {x = x} e q r f =
         let below : x.template < length t.macros = omega (arith, q.place, templates-length t.macros) in
-        ap (tally_in t) (z.counted some_fuel ∙ ap (λ (k : ℕ). one_more_of k counts) (sym (place_found e))) ∙ counts_chosen (length t.macros) x.template counts below b.few
+        ap (tally_in t) (z.counted some_fuel ∙ ap (λ (k : ℕ). one_more_of k counts) (sym (place_found e))) ∙ counts_chosen (length t.macros) x.template counts below k.few
         ∙ ap (λ (k : ℕ). tallied (some k) (tally_in t counts)) (sym q.which ∙ ap which (sym q.is ∙ f))
       where
         which : Math.Option ReadingOf → ℕ

@@ -22,13 +22,13 @@ use Rattle.fit.specs.declared.Choice.{Choice}
 use Rattle.fit.specs.declared.Reading.{Reading}
 use Rattle.fit.specs.Chosen.{Fits, TreeAt, Chosen, Chooses}
 use Rattle.fit.proofs.Asking.{can_fit}
-use Rattle.matching.specs.Book.{Book, Prepared}
+use Rattle.matching.specs.Book.{Basis, Book, Prepared}
 use Rattle.matching.specs.Matches.{opened, Opening, Opened, Calls}
 
 -- ---- what callers take
 
 -- the tree of a text that is loaded can be searched, with room for its dead places
-pub book_asks : {m : Marks} {text : Bytes} {row : List Node} {count : ℕ} {bodies : List ℕ} {line dead : Bytes} → Prepared m text row count bodies → length line ≤ 200 → 51456 ≤ length dead → Fits row count dead line
+pub book_asks : {b : Basis} {line dead : Bytes} → Prepared b → length line ≤ 200 → 51456 ≤ length dead → Fits b.nodes b.count dead line
 book_asks p s d = can_fit p.book.fits s d
 
 -- what is known where none is found
@@ -43,32 +43,33 @@ module _ {m : Marks} {row : List Node} {count : ℕ} {line : Bytes} {c : Choice}
   found_within : (i : ℕ) → get_or x.starts i 0 + get_or x.lens i 0 ≤ length line
   found_within = subst (λ (y : Option Reading). IfSome y (λ r. (i : ℕ) → get_or r.starts i 0 + get_or r.lens i 0 ≤ length line)) f g.within
 
+module _ {b : Basis} {line : Bytes} {c : Choice} {x : Reading} (g : Chooses b.marks b.nodes b.count line c) (f : c.reading ≡ Some x) where
   -- what is chosen can be opened
-  pub choice_opening : {text : Bytes} {bodies : List ℕ} → Prepared m text row count bodies → length line ≤ 200 → Opening bodies line x
+  pub choice_opening : Prepared b → length line ≤ 200 → Opening b.bodies line x
   choice_opening p s =
-      let b = p.book in
+      let k = p.book in
       record {
-        pieces = record { each = λ i u. record { inside = found_within i; short = omega (arith, found_within i) } };
-        body = omega (arith, (found_call _ b.fits).place, templates-length p.table.macros, b.as_many);
+        pieces = record { each = λ i u. record { inside = found_within g f i; short = omega (arith, found_within g f i) } };
+        body = omega (arith, (found_call g f _ k.fits).place, templates-length p.table.macros, k.as_many);
       }
 
   -- the call is that of the first reading
-  pub reading_calls : {bodies : List ℕ} {number : ℕ} {r : Call} → Opened bodies line x number r → (text : Bytes) (t : Loaded) → Book m text row count bodies t → Calls m text t line number r
+  pub reading_calls : {number : ℕ} {r : Call} → Opened b.bodies line x number r → (t : Loaded) → Book b t → Calls b.marks b.text t line number r
   unfolding opened
-  reading_calls {bodies} {number} {r} w text t b =
+  reading_calls {number} {r} w t k =
       let o = w.opens in
-      let q : Chosen m (templates t.macros) line x = found_call (templates t.macros) b.fits in
+      let q : Chosen b.marks (templates t.macros) line x = found_call g f (templates t.macros) k.fits in
       let below : x.template < length t.macros = omega (arith, q.place, templates-length t.macros) in
-      let body : body_at m text (get_or bodies x.template 0) ≡ (get_or t.macros q.reading.which no_macro).body =
-      sym (b.body x.template below) ∙ ap (λ (k : ℕ). (get_or t.macros k no_macro).body) (sym q.which) in
-      let frame : frame_of m text r ≡ opened number (get_or t.macros q.reading.which no_macro) q.reading.pieces =
-      opens_reading line x.starts x.lens q.reading.pieces w.nine q.few q.lens q.piece o m text
+      let body : body_at b.marks b.text (get_or b.bodies x.template 0) ≡ (get_or t.macros q.reading.which no_macro).body =
+      sym (k.body x.template below) ∙ ap (λ (i : ℕ). (get_or t.macros i no_macro).body) (sym q.which) in
+      let frame : frame_of b.marks b.text r ≡ opened number (get_or t.macros q.reading.which no_macro) q.reading.pieces =
+      opens_reading line x.starts x.lens q.reading.pieces w.nine q.few q.lens q.piece o b.marks b.text
       ∙ ap (λ (cs : List Bytes). record { number = number; params = padded q.reading.pieces; delimiters = replicate 9 []; next = cs; loops = [] }) body in
       record {
         reading = q.reading;
         is = q.is;
         frame = frame;
         same = o.same.0;
-        within = subst (λ (k : ℕ). k ≤ length text) (sym o.same.1) (b.within x.template below);
-        nested = subst (Nested m) (sym frame) record { lines = all_at m t.macros q.reading.which b.nested; around = tt };
+        within = subst (λ (i : ℕ). i ≤ length b.text) (sym o.same.1) (k.within x.template below);
+        nested = subst (Nested b.marks) (sym frame) record { lines = all_at b.marks t.macros q.reading.which k.nested; around = tt };
       }

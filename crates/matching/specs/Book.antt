@@ -10,23 +10,30 @@ use Rattle.nodes.specs.declared.Node.{Node}
 use Rattle.fit.specs.Chosen.{TreeAt}
 use Rattle.usage.specs.Counts.{tally_of}
 
--- t is loaded from the text: m are its marks, the tree of its templates stands in the row, with `count` nodes, and `bodies` says where each macro's
--- body starts
-pub record Book (m : Marks) (text : Bytes) (row : List Node) (count : ℕ) (bodies : List ℕ) (t : Loaded) : Type 0 where
-  pub marks : t.marks ≡ m
-  pub short : length text ≤ text_most
-  pub fits : TreeAt m row count (templates t.macros)
+-- what a run goes by: the marks and the text, the row of nodes and how many of them the tree has, and where the bodies start
+pub record Basis : Type 0 where
+  pub marks : Marks
+  pub text : Bytes
+  pub nodes : List Node
+  pub count : ℕ
+  pub bodies : List ℕ
+
+-- t is loaded from the text: the marks are its, the tree of its templates stands in the row, and `bodies` says where each macro's body starts
+pub record Book (b : Basis) (t : Loaded) : Type 0 where
+  pub marks : t.marks ≡ b.marks
+  pub short : length b.text ≤ text_most
+  pub fits : TreeAt b.marks b.nodes b.count (templates t.macros)
   pub few : length t.macros ≤ macros_most
-  pub as_many : length t.macros ≤ length bodies
-  pub within : (k : ℕ) → k < length t.macros → get_or bodies k 0 ≤ length text
-  pub body : (k : ℕ) → k < length t.macros → (get_or t.macros k no_macro).body ≡ body_at m text (get_or bodies k 0)
-  pub nested : BodiesOk m t.macros
+  pub as_many : length t.macros ≤ length b.bodies
+  pub within : (k : ℕ) → k < length t.macros → get_or b.bodies k 0 ≤ length b.text
+  pub body : (k : ℕ) → k < length t.macros → (get_or t.macros k no_macro).body ≡ body_at b.marks b.text (get_or b.bodies k 0)
+  pub nested : BodiesOk b.marks t.macros
 
 -- the tally that the counts of a run of t stand for
 abbrev pub tally_in : Loaded → (counts : List ℕ) → Tally
 tally_in t counts = tally_of (length t.macros) counts
 
 -- a text is loaded into these
-pub record Prepared (m : Marks) (text : Bytes) (row : List Node) (count : ℕ) (bodies : List ℕ) : Type 0 where
+pub record Prepared (b : Basis) : Type 0 where
   pub table : Loaded
-  pub book : Book m text row count bodies table
+  pub book : Book b table

@@ -8,13 +8,36 @@ ghost use Rattle.model.specs.Limits.{macros_most, fuel_most};
 ghost use Rattle.usage.specs.Counts.{Counts};
 ghost use Rattle.matching.specs.Matches.{chosen_place, CountsDecided, Decides, Opening, Opened};
 
+use std::marker::Model;
+
 use call::Call;
 use faults::RunFault;
 use fit::{Choice, Reading};
 use model::{CALLS_MOST, MACROS_MOST};
+use nodes::Node;
+use scan::Marked;
 use state::State;
 use usage::count_line;
 use write::pass_through;
+
+// What a run goes by: the text with its marks, the tree of its templates, which has so many nodes in the row, and where their bodies start.
+#[derive(Drop)]
+pub struct Script<'a> {
+    pub marked: Marked<'a>,
+    pub nodes: &'a [Node],
+    pub count: usize,
+    pub bodies: &'a [usize],
+}
+
+impl<'a> Model for Script<'a> {
+    ghost use Rattle.matching.specs.Book.{Basis, Prepared};
+
+    ghost Value = { Basis };
+
+    ghost view = { λ s. record { marks = s.marked.marks; text = s.marked.text.now; nodes = s.nodes.now; count = s.count; bodies = s.bodies.now } };
+
+    ghost invariant = { λ s. Prepared (record { marks = s.marked.marks; text = s.marked.text.now; nodes = s.nodes.now; count = s.count; bodies = s.bodies.now }) };
+}
 
 // Where a line is counted by its reading: at its template's place, or behind all templates where it has none.
 fn find_count(found: &Choice) -> usize
