@@ -5,7 +5,6 @@ use mathlib.Core.Option as Math
 use mathlib.Core.Option.{none, some}
 use Rattle.std.specs.Prelude.{Result, Ok, Err}
 use Rattle.faults.specs.declared.RunFault.{RunFault}
-use Rattle.faults.specs.declared.RunFault.TheVariants.{LongInput}
 use Rattle.faults.specs.Numbers.{run_number}
 use mathlib.Core.List.{List, [], ◌∷◌}
 use Prim.Native.Nat.{ℕ, ◌+◌, ◌-◌, ◌≤◌, ◌<◌}
@@ -19,7 +18,7 @@ use Rattle.model.specs.Load.{begins}
 use Rattle.model.specs.Report.{Tally}
 use Rattle.model.specs.Machine as Machine
 use Rattle.model.specs.Machine.{Rooms, Outputs, Frame, Shared, Next, running, ended, state_with, stepped, param, wrote, past_line, is_too_long, copies, copy_lines, copy_input}
-use Rattle.model.proofs.Choices.{when_true, when_false, false-not-true}
+use Rattle.model.proofs.Choices.{when_true, when_false}
 use Rattle.model.proofs.Copies.{copies-named, copies-nothing}
 use Rattle.scan.specs.Lines.{ContentAt}
 use Rattle.state.specs.declared.State.{State}
@@ -31,18 +30,7 @@ use Rattle.answer.specs.Answers.{settle, next_of, rooms_of}
 use Rattle.answer.specs.Kept.{Stays, ExtendsBoth}
 use Rattle.answer.proofs.Following.{extends_none, both_none, both_more, rooms_kept, stays_same}
 use Rattle.write.specs.Output.{has_room_on, Writes}
-use Rattle.copying.specs.Copies.{ReadyToCopy, MeasuresLong, CopiesContent, CopiesLines, CopiesInput}
-
--- ---- one content
-
-module _ {ch : Channel} {content : Bytes} {s : State} {o : Outputs} {b : Bool} (m : MeasuresLong ch (length content) b) where
-  -- it is too long
-  pub content_long : b ≡ true → CopiesContent ch content s o (Err LongInput) s o
-  content_long e = record { long = λ _. (refl, refl, refl); writes = λ g. false-not-true (sym g ∙ sym (m.is content refl) ∙ e) }
-
-  -- it is written, or there is no room
-  pub content_written : {r : Result Unit RunFault} {s' : State} {o' : Outputs} → b ≡ false → Writes ch content s o r s' o' → CopiesContent ch content s o r s' o'
-  content_written e w = record { long = λ g. false-not-true (sym e ∙ m.is content refl ∙ g); writes = λ _. w }
+use Rattle.copying.specs.Copies.{ReadyToCopy, CopiesContent, CopiesLines, CopiesInput}
 
 -- ---- how far the state has moved
 

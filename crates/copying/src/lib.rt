@@ -10,8 +10,8 @@ ghost use Rattle.copying.specs.Copies.{MeasuresLong, CopiesContent, CopiesLines,
 
 use call::Call;
 use faults::RunFault;
-use model::{Channel, LINE_MOST, Marks};
-use scan::read_content;
+use model::{Channel, LINE_MOST};
+use scan::Marked;
 use state::State;
 use write::{Line, write};
 
@@ -33,6 +33,7 @@ fn is_too_long(ch: Channel, n: usize) -> bool
 }
 
 // A content goes to a channel, or the run ends with 11 or 13.
+// The outputs and the state stay three: a struct of two `&mut` asks each function that is lent it to say that both are still the caller's (tried).
 fn copy_content(
     ch: Channel,
     content: &[u8],
@@ -50,23 +51,23 @@ fn copy_content(
 }
 
 // The lines up to one that begins with the name, or up to the input's end.
+// The outputs and the state stay three: a struct of two `&mut` asks each function that is lent it to say that both are still the caller's (tried).
 fn copy_lines(
-    m: Marks,
-    text: &[u8],
+    marked: &Marked,
     ch: Channel,
     name: &[u8],
     output: &mut [u8],
     second: &mut [u8],
     s: &mut State,
 ) -> Result<(), RunFault>
-    requires { ReadyToCopy text.now s.old (outputs output.old second.old) }
-    ensures { CopiesLines m text.now ch name.now s.old
+    requires { ReadyToCopy marked.now.text.now s.old (outputs output.old second.old) }
+    ensures { CopiesLines marked.now.marks marked.now.text.now ch name.now s.old
         (outputs output.old second.old) result s.new (outputs output.new second.new) }
 {
     // how far the text is read stands in the state, which each line moves on: no range
-    while s.at < text.len() {
-        let line = read_content(text, m.source, s.at);
-        let content = &text[s.at..line.end];
+    while s.at < marked.text.len() {
+        let line = marked.read_input(s.at);
+        let content = &marked.text[s.at..line.end];
         s.set_input(line.next, s.line + 1);
         if begins_name(content, name) {
             return Ok(());
@@ -77,22 +78,22 @@ fn copy_lines(
 }
 
 // F2 of a call. With an empty parameter 1 no line is read.
+// The outputs and the state stay three: a struct of two `&mut` asks each function that is lent it to say that both are still the caller's (tried).
 pub fn copy_input(
-    m: Marks,
-    text: &[u8],
+    marked: &Marked,
     ch: Channel,
     call: &Call,
     output: &mut [u8],
     second: &mut [u8],
     s: &mut State,
 ) -> Result<(), RunFault>
-    requires { Placed text.now call.now × ReadyToCopy text.now s.old (outputs output.old second.old) }
-    ensures { CopiesInput m text.now ch call.now s.old
+    requires { Placed marked.now.text.now call.now × ReadyToCopy marked.now.text.now s.old (outputs output.old second.old) }
+    ensures { CopiesInput marked.now.marks marked.now.text.now ch call.now s.old
         (outputs output.old second.old) result s.new (outputs output.new second.new) }
 {
     let name = call.param(1);
     if name.is_empty() {
         return Ok(());
     }
-    copy_lines(m, text, ch, name, output, second, s)
+    copy_lines(marked, ch, name, output, second, s)
 }
