@@ -10,34 +10,34 @@ ghost use Rattle.model.specs.Limits.{nesting_most};
 use call::Call;
 use faults::RunFault;
 use iterate::start_repeat;
-use model::{Channel, Marks};
-use scan::read_code;
+use model::Channel;
+use scan::Marked;
 use state::State;
 use value::value;
 use write::{Layout, write};
 
 // F1 at the line's start: the next code line is a layout, written in place of the line.
+// The outputs and the state stay three: a struct of two `&mut` asks each function that is lent it to say that both are still the caller's (tried).
 pub fn write_layout_line(
-    m: Marks,
-    text: &[u8],
+    marked: &Marked,
     ch: Channel,
     call: &mut Call,
     output: &mut [u8],
     second: &mut [u8],
     s: &mut State,
 ) -> Result<(), RunFault>
-    requires placed { Placed text.now call.old }
+    requires placed { Placed marked.now.text.now call.old }
     requires written_in_bounds { (s.old.written ≤ length output.old) × (s.old.second ≤ length second.old) }
-    ensures { WritesLayoutLine m text.now ch call.old s.old (outputs output.old second.old) result call.new s.new (outputs output.new second.new) }
+    ensures { WritesLayoutLine marked.now.marks marked.now.text.now ch call.old s.old (outputs output.old second.old) result call.new s.new (outputs output.new second.new) }
 {
     let at = call.next;
-    let Some(line) = read_code(text, m, at) else {
+    let Some(line) = marked.read_code(at) else {
         return Ok(());
     };
     call.move_to(line.next);
     let layout = Layout {
-        m,
-        text: &text[at..line.end],
+        m: marked.marks,
+        text: &marked.text[at..line.end],
         call,
     };
     write(ch, &layout, output, second, s)
@@ -52,17 +52,11 @@ pub fn save(call: &Call, s: &mut State) -> Result<(), RunFault>
 }
 
 // F7: as many passes as the line's value.
-pub fn repeat(
-    m: Marks,
-    text: &[u8],
-    call: &mut Call,
-    line: &[u8],
-    s: &State,
-) -> Result<(), RunFault>
-    requires { (call.old.next ≤ length text.now) × (call.old.depth < nesting_most) }
-    ensures { Repeats m text.now call.old line.now s.now result call.new }
+pub fn repeat(marked: &Marked, call: &mut Call, line: &[u8], s: &State) -> Result<(), RunFault>
+    requires { (call.old.next ≤ length marked.now.text.now) × (call.old.depth < nesting_most) }
+    ensures { Repeats marked.now.marks marked.now.text.now call.old line.now s.now result call.new }
 {
-    let v = value(m, &s.store, line).ok_or(RunFault::NoValue)?;
-    start_repeat(m, text, call, v);
+    let v = value(marked.marks, &s.store, line).ok_or(RunFault::NoValue)?;
+    start_repeat(marked, call, v);
     Ok(())
 }
