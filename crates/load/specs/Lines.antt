@@ -1,5 +1,5 @@
--- What a line comes to, as the model's values: a table and how far it is filled stand for the model's progress.
-use Rattle.std.specs.Prelude.{◌≡◌, Option, Some, None, Result, Ok, Err, ℕ, ◌≤◌, drop}
+-- What a line comes to, as the model's values: a loader stands for the model's progress.
+use Rattle.std.specs.Prelude.{◌≡◌, Bool, true, false, Option, Some, None, Result, Ok, Err, ℕ, ◌+◌, ◌≤◌, ◌<◌, ◌∷◌, length, drop}
 use Rattle.model.specs.Limits.{nodes_most}
 use Rattle.model.specs.declared.Marks.{Marks}
 use Rattle.model.specs.Text.{Bytes, part, lines}
@@ -7,38 +7,64 @@ use Rattle.model.specs.Load as Load
 use Rattle.model.specs.Load.{nodes, line_seen}
 use Rattle.faults.specs.declared.LoadFault.{LoadFault}
 use Rattle.faults.specs.Numbers.{load_number}
-use Rattle.macros.specs.declared.Table.{Table}
 use Rattle.macros.specs.Table.{order_in, templates_in, macros_in, EntriesInside}
 use Rattle.templates.specs.Order.{InOrder}
-use Rattle.load.specs.declared.Progress.{Progress}
+use Rattle.load.specs.declared.Loaded.{Loaded}
+use Rattle.load.specs.declared.Loader.{Loader}
+use Rattle.load.specs.declared.Next.{Next}
+use Rattle.load.specs.declared.Next.TheVariants.{Template, Code, Layout}
 
--- what a line comes to: its fault, or how far the macros are read with it, or nothing where it ends the section
+-- of the next line: whether it stands in a body, how many iterations are open there, and whether a layout is due
+abbrev pub in_body : Next → Bool
+in_body Template = false
+in_body (Code n) = true
+in_body (Layout n) = true
+
+abbrev pub opened : Next → ℕ
+opened Template = 0
+opened (Code n) = n
+opened (Layout n) = n
+
+abbrev pub due : Next → Bool
+due Template = false
+due (Code n) = false
+due (Layout n) = true
+
+-- what a line comes to: its fault, or the loaded text where it ends the section
 abbrev pub LineSeen : Type 0
-LineSeen = Result (Option Progress) LoadFault
+LineSeen = Result (Option Loaded) LoadFault
 
-abbrev pub progress_of : Marks → Bytes → Table → Progress → Load.Progress
-progress_of m text t p = record { macros = macros_in m text t p.count; codes = p.codes; in_body = p.inside; opened = p.opened; due = p.due }
+abbrev pub progress_of : Marks → Bytes → Loader → Load.Progress
+progress_of m text l = record { macros = macros_in m text l.table l.count; codes = l.codes; in_body = in_body l.next; opened = opened l.next; due = due l.next }
 
-abbrev pub seen_of : Marks → Bytes → Table → LineSeen → Load.Seen
-seen_of m text t (Err f) = Load.fault (load_number f)
-seen_of m text t (Ok (Some p)) = Load.more (progress_of m text t p)
-seen_of m text t (Ok None) = Load.section_ends
+-- the loader is l after it
+abbrev pub seen_of : Marks → Bytes → Loader → LineSeen → Load.Seen
+seen_of m text l (Err f) = Load.fault (load_number f)
+seen_of m text l (Ok None) = Load.more (progress_of m text l)
+seen_of m text l (Ok (Some x)) = Load.section_ends
 
 -- the table holds the macros so far and has them in order, and their tree's nodes are counted
-pub record TableSound (m : Marks) (text : Bytes) (t : Table) (p : Progress) : Type 0 where
-  pub inside : EntriesInside text t p.count
-  pub counted : p.nodes ≡ nodes (macros_in m text t p.count)
-  pub tree : p.nodes ≤ nodes_most
-  pub in_order : InOrder m.placeholder (templates_in text t p.count) (order_in t)
+pub record TableSound (m : Marks) (text : Bytes) (l : Loader) : Type 0 where
+  pub inside : EntriesInside text l.table l.count
+  pub counted : l.nodes ≡ nodes (macros_in m text l.table l.count)
+  pub tree : l.nodes ≤ nodes_most
+  pub in_order : InOrder m.placeholder (templates_in text l.table l.count) (order_in l.table)
 
--- the table u that is left after a line which began with t and came to r
-abbrev pub Left : Marks → Bytes → Table → Table → LineSeen → Type 0
-Left m text t u (Err f) = Unit {0}
-Left m text t u (Ok (Some q)) = TableSound m text u q
-Left m text t u (Ok None) = t ≡ u
+-- the bytes are the text's line at `start`, after which the next one starts at `next`
+pub record LineIn (text : Bytes) (start : ℕ) (bytes : Bytes) (next : ℕ) : Type 0 where
+  pub high : start + length bytes ≤ next
+  pub ahead : start < next
+  pub within : next ≤ length text
+  pub stand : bytes ≡ part text start (start + length bytes)
+  pub is : lines (drop start text) ≡ bytes ∷ lines (drop next text)
 
--- line n, text[at..end], after which the next one starts at `next`, comes to r, and the table t to u; p is how far the macros are
--- read before it
-pub record SeesLine (m : Marks) (text : Bytes) (t : Table) (p : Progress) (n at end next : ℕ) (u : Table) (r : LineSeen) : Type 0 where
-  pub is : line_seen m (progress_of m text t p) n (part text at end) (lines (drop next text)) ≡ seen_of m text u r
-  pub left : Left m text t u r
+-- the loader k that is left where line n, after which the next one starts at `next`, came to r; l was it before
+abbrev pub Left : Marks → Bytes → Loader → ℕ → ℕ → Loader → LineSeen → Type 0
+Left m text l n next k (Err f) = Unit {0}
+Left m text l n next k (Ok None) = TableSound m text k
+Left m text l n next k (Ok (Some x)) = (k.table ≡ l.table) × (x ≡ record { line = n; marks = m; count = l.count; nodes = l.nodes; input = next })
+
+-- line n has these bytes, and the next one starts at `next`: it comes to r, and the loader l to k
+pub record SeesLine (m : Marks) (text : Bytes) (l : Loader) (n : ℕ) (bytes : Bytes) (next : ℕ) (k : Loader) (r : LineSeen) : Type 0 where
+  pub is : line_seen m (progress_of m text l) n bytes (lines (drop next text)) ≡ seen_of m text k r
+  pub left : Left m text l n next k r

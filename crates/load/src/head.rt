@@ -32,7 +32,7 @@ pub fn read_text_head(text: &[u8]) -> Result<Head, Refused>
         return Err(unmarked);
     }
     let line = read_line(text, 0);
-    let marks = read_marks(text, line.end).ok_or(unmarked)?;
+    let marks = read_marks(&text[..line.end]).ok_or(unmarked)?;
     Ok(Head {
         marks,
         first: line.next,

@@ -16,6 +16,7 @@ use faults::LoadFault;
 use head::read_text_head;
 use macros::Table;
 use model::Marks;
+use scan::Marked;
 use section::load_section;
 
 // What a text that loads comes to.
@@ -38,29 +39,48 @@ pub struct Refused {
     pub line: usize,
 }
 
+// What the next line is: a template, a code line, or a layout, with the iterations that are open there.
+#[derive(Clone, Copy, PartialEq, Eq)]
+enum Next {
+    Template,
+    Code(usize),
+    Layout(usize),
+}
+
+// A line of the section.
+#[derive(Clone, Copy)]
+struct SectionLine<'a> {
+    // its number
+    line: usize,
+    start: usize,
+    bytes: &'a [u8],
+    // where the next line starts
+    next: usize,
+}
+
 // How far the macros are read.
-#[derive(Clone, Copy, Default)]
-struct Progress {
-    // the macros so far, and the nodes of their tree
+#[derive(Clone, Copy)]
+struct Loader {
+    // the macros so far, how many they are, and the nodes of their tree
+    table: Table,
     count: usize,
     nodes: usize,
     // the code lines so far
     codes: usize,
-    // the last macro's body is being read
-    inside: bool,
-    // the iterations that are open there
-    opened: usize,
-    // a layout is due
-    due: bool,
+    next: Next,
 }
 
-// What a line comes to: its fault, or how far the macros are read with it, or nothing where it ends the section.
-type Seen = Result<Option<Progress>, LoadFault>;
+// What a line comes to: its fault, or the loaded text where it ends the section.
+type Seen = Result<Option<Loaded>, LoadFault>;
 
 // Loads a text into the table of macros.
 pub fn load(text: &[u8], table: &mut Table) -> Result<Loaded, Refused>
     ensures { Loads (model-load.load text.now) text.now table.new result }
 {
     let head = read_text_head(text)?;
-    load_section(head.marks, text, table, head.first)
+    let marked = Marked {
+        marks: head.marks,
+        text,
+    };
+    load_section(&marked, head.first, table)
 }

@@ -1,113 +1,89 @@
 // The loop over the lines of the section.
-ghost use Rattle.std.specs.Prelude.{◌≡◌, ◌≤◌, ◌<◌, length, drop};
+ghost use Rattle.std.specs.Prelude.{◌≡◌, drop};
 ghost use Rattle.model.specs.Text.{lines};
 ghost use Rattle.model.specs.Load.{none_read, load_from};
-ghost use Rattle.scan.specs.Lines.{LineAt};
 ghost use Rattle.load.specs.Answer.{Loads};
 ghost use Rattle.load.specs.Head.{SectionAt};
-ghost use Rattle.load.specs.Lines.{TableSound, SeesLine};
-ghost use Rattle.load.specs.Section.{RefusesAt, LeadsOn};
+ghost use Rattle.load.specs.Lines.{TableSound, LineIn, SeesLine};
+ghost use Rattle.load.specs.Section.{RefusesAt};
 
-use super::body::{add_code, end_macro};
-use super::template::add_macro;
-use super::{Loaded, Progress, Refused, Seen};
+use super::{Loaded, Loader, Next, Refused, SectionLine, Seen};
 use faults::LoadFault;
 use macros::Table;
-use model::Marks;
-use scan::{Line, begins_with, read_line};
+use scan::{Marked, read_line};
 
-// Line n, which starts at a place: a template's, or one of a macro's body.
-fn see_line(
-    m: Marks,
-    text: &[u8],
-    table: &mut Table,
-    p: Progress,
-    n: usize,
-    at: usize,
-    line: Line,
-) -> Seen
-    requires table_sound { TableSound m text.now table.old p }
-    requires at_le_end { (at ≤ line.end) × (line.end ≤ line.next) × (line.next ≤ length text.now) }
-    ensures { SeesLine m text.now table.old p n at line.end line.next table.new result }
-{
-    if !p.inside {
-        return add_macro(m, text, table, p, n, at, line);
-    }
-    if begins_with(text, at, line.end, m.code) {
-        return end_macro(m, text, p, at, line.end);
-    }
-    add_code(m, text, p, at, line.end)
-}
-
-// A fault at line n, after which `next` starts: at the text's last line a section that isn't ended comes before a limit that is passed.
-fn refuse_at(text: &[u8], next: usize, fault: LoadFault, n: usize) -> Refused
-    ensures { RefusesAt text.now next fault n result }
-{
-    if next < text.len() {
-        return Refused { fault, line: n };
-    }
-    let lowest = match fault {
-        LoadFault::OverLimit => LoadFault::OpenSection,
-        fault => fault,
-    };
-    Refused {
-        fault: lowest,
-        line: n,
+impl SectionLine<'_> {
+    // A fault of this line: at the text's last line a section that isn't ended comes before a limit that is passed.
+    fn refuse(&self, text: &[u8], fault: LoadFault) -> Refused
+        ensures { RefusesAt text.now self.now.next fault self.now.line result }
+    {
+        if self.next < text.len() {
+            return Refused {
+                fault,
+                line: self.line,
+            };
+        }
+        let lowest = match fault {
+            LoadFault::OverLimit => LoadFault::OpenSection,
+            fault => fault,
+        };
+        Refused {
+            fault: lowest,
+            line: self.line,
+        }
     }
 }
 
-// The same, with the line of its fault.
-fn load_line(
-    m: Marks,
-    text: &[u8],
-    table: &mut Table,
-    p: Progress,
-    n: usize,
-    at: usize,
-    line: Line,
-) -> Result<Option<Progress>, Refused>
-    requires { TableSound m text.now table.old p × LineAt text.now at line.end line.next }
-    ensures { LeadsOn m text.now table.old p n at line.next table.new result }
-{
-    match see_line(m, text, table, p, n, at, line) {
-        Ok(seen) => Ok(seen),
-        Err(fault) => Err(refuse_at(text, line.next, fault, n)),
+impl Loader {
+    // The next line: a template's, or one of a macro's body.
+    fn see_line(&mut self, marked: &Marked, line: &SectionLine) -> Seen
+        requires { TableSound marked.now.marks marked.now.text.now self.old × LineIn marked.now.text.now line.now.start line.now.bytes.now line.now.next }
+        ensures { SeesLine marked.now.marks marked.now.text.now self.old line.now.line line.now.bytes.now line.now.next self.new result }
+    {
+        let m = marked.marks;
+        if let Next::Template = self.next {
+            return self.add_macro(marked, line);
+        }
+        match line.bytes.strip_prefix(&[m.code]) {
+            Some(rest) => self.end_macro(m, line, rest),
+            None => self.add_code(m, line.bytes),
+        }
     }
 }
 
 // The macros from the text's second line on, which starts at `first`, up to the section's end.
-pub fn load_section(
-    m: Marks,
-    text: &[u8],
-    table: &mut Table,
-    first: usize,
-) -> Result<Loaded, Refused>
-    requires { SectionAt text.now first }
-    ensures { Loads (load_from m none_read 1 (lines (drop first text.now))) text.now table.new result }
+pub fn load_section(marked: &Marked, first: usize, table: &mut Table) -> Result<Loaded, Refused>
+    requires { SectionAt marked.now.text.now first }
+    ensures { Loads (load_from marked.now.marks none_read 1 (lines (drop first marked.now.text.now))) marked.now.text.now table.new result }
 {
-    let mut p = Progress {
+    let text = marked.text;
+    let mut loader = Loader {
+        table: *table,
+        count: 0,
         nodes: 1,
-        ..Progress::default()
+        codes: 0,
+        next: Next::Template,
     };
     let mut n = 1;
     // no range: where the next line starts is what read_line says
     let mut at = first;
     while at < text.len() {
-        let line = read_line(text, at);
+        let read = read_line(text, at);
         n += 1;
-        match load_line(m, text, table, p, n, at, line)? {
-            Some(q) => p = q,
-            None => {
-                return Ok(Loaded {
-                    line: n,
-                    marks: m,
-                    count: p.count,
-                    nodes: p.nodes,
-                    input: line.next,
-                });
+        let line = SectionLine {
+            line: n,
+            start: at,
+            bytes: &text[at..read.end],
+            next: read.next,
+        };
+        match loader.see_line(marked, &line) {
+            Ok(None) => at = line.next,
+            Ok(Some(loaded)) => {
+                *table = loader.table;
+                return Ok(loaded);
             }
+            Err(fault) => return Err(line.refuse(text, fault)),
         }
-        at = line.next;
     }
     Err(Refused {
         fault: LoadFault::OpenSection,

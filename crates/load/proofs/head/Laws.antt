@@ -7,10 +7,11 @@ use Prim.Native.Nat.{ℕ, ◌≤◌, ◌<◌}
 use native.Mathlib.Omega.{arith}
 use borrow.Author.Tests.{lt-ltb, le-ltb}
 use lib.Dec.{ltb}
-use lib.ListN.{length, drop}
+use lib.ListN.{length, take, drop}
 use Rattle.model.specs.declared.Marks.{Marks}
 use Rattle.model.specs.Text.{Bytes, part, has, lines, marks_of}
 use Rattle.model.specs.Load.{Load, refused, load_from, none_read, load_lines, load}
+use Rattle.model.proofs.Text.{part_front}
 use Rattle.scan.specs.Lines.{Has, LineAt, MarksAt}
 use Rattle.scan.proofs.Lines.{lines_none}
 use Rattle.scan.proofs.FlagLine.{marks_legal, marks-fault}
@@ -51,9 +52,9 @@ module _ {text : Bytes} {b : Bool} (h : length text ≤ 65536) (k : Has text 0 b
     unfolding load_lines
     head-empty z = record { is = by_lines ∙ ap load_lines (lines_none text 0 (omega arith)); inside = tt }
 
-    module _ {end next : ℕ} {g : Option Marks} (l : LineAt text 0 end next) (q : MarksAt text end g) where
-      by-marks : (o : Math.Option Marks) → marks_of (part text 0 end) ≡ o → load text ≡ elim o as (λ _. Load) [ Math.none ↦ refused 3 1 | Math.some m ↦ load_from m none_read 1 (lines (drop next text)) ]
-      by-marks o z = by_lines ∙ ap load_lines l.is ∙ lines-tests (part text 0 end) (lines (drop next text)) o z
+    module _ {end next : ℕ} {g : Option Marks} (l : LineAt text 0 end next) (q : MarksAt (take end text) g) where
+      by-marks : (o : Math.Option Marks) → marks_of (take end text) ≡ o → load text ≡ elim o as (λ _. Load) [ Math.none ↦ refused 3 1 | Math.some m ↦ load_from m none_read 1 (lines (drop next text)) ]
+      by-marks o z = by_lines ∙ ap load_lines l.is ∙ lines-tests (part text 0 end) (lines (drop next text)) o (ap marks_of (part_front text end) ∙ z)
 
       pub head-unmarked : g ≡ None → ReadsHead text (Err (record { fault = BadFlags; line = 1 }))
       head-unmarked v = record { is = by-marks Math.none (marks-fault q v); inside = tt }

@@ -1,48 +1,99 @@
 -- What a line of any kind comes to, and what a text comes to line by line: what is left to load from a line on is what the whole comes to.
 use mathlib.Core.Path.{◌≡◌, refl, ap, sym, ◌∙◌}
-use mathlib.Core.Bool.{Bool, true, false}
-use mathlib.Core.List.{[]}
+use mathlib.Core.Bool.{Bool, true, false, ◌&&◌}
+use mathlib.Core.List.{List, [], ◌∷◌}
 use Prim.Native.Nat.{ℕ, ◌+◌, ◌≤◌, ◌<◌}
 use native.Mathlib.Omega.{arith}
-use lib.ListN.{length, drop}
+use borrow.Author.Tests.{eq-eqb, eqb-true}
+use lib.Dec.{eqb}
+use lib.ListN.{length, take, drop}
+use lib.Pointwise.{pointwise}
 use Rattle.model.specs.declared.Marks.{Marks}
-use Rattle.model.specs.Text.{Bytes, part, lines}
-use Rattle.model.specs.Load.{nodes, nodes_from, Load, lowest_at, line_seen, load_on, load_from, none_read}
-use Rattle.scan.specs.Lines.{Begins, LineAt}
+use Rattle.model.specs.Text.{Bytes, part, starts_with, up_to, lines}
+use Rattle.model.specs.Load.{nodes, nodes_from, Progress, effect_here, code_line, after_line, Load, lowest_at, line_seen, load_on, load_from, none_read}
+use Rattle.model.proofs.Choices.{when_true, when_false, false-not-true}
+use Rattle.model.proofs.Text.{part_length}
+use Rattle.scan.specs.Lines.{LineAt}
 use Rattle.scan.proofs.Lines.{lines_none, lines_at}
-use Rattle.std.specs.Prelude.{Option, Some, None, Result, Ok, Err}
+use Rattle.std.specs.Prelude.{Some, None, Ok, Err}
 use Rattle.faults.specs.declared.LoadFault.{LoadFault}
 use Rattle.faults.specs.declared.LoadFault.TheVariants.{BadText, BadFlags, LongContent, ManyPlaceholders, MetTemplate, BadCode, OpenSection, OverLimit}
 use Rattle.faults.specs.Numbers.{load_number}
 use Rattle.macros.specs.declared.Table.{Table}
 use Rattle.macros.specs.Table.{templates_in, macros_in, EntriesInside}
 use Rattle.templates.specs.Order.{InOrder}
+use Rattle.load.specs.declared.Loaded.{Loaded}
+use Rattle.load.specs.declared.Loader.{Loader}
+use Rattle.load.specs.declared.Next.{Next}
+use Rattle.load.specs.declared.Next.TheVariants.{Template, Code, Layout}
 use Rattle.load.specs.declared.Refused.{Refused}
-use Rattle.load.specs.declared.Progress.{Progress}
 use Rattle.load.specs.Answer.{Loads}
 use Rattle.load.specs.Head.{SectionAt}
-use Rattle.load.specs.Lines.{LineSeen, progress_of, seen_of, TableSound, Left, SeesLine}
-use Rattle.load.specs.Body.{BodyLine, MacrosKept, BodySeen}
-use Rattle.load.specs.Section.{RefusesAt, LinesRead, LedTo, LeadsOn}
+use Rattle.load.specs.Lines.{in_body, LineSeen, progress_of, seen_of, TableSound, LineIn, Left, SeesLine}
+use Rattle.load.specs.Body.{MacrosKept, CodeKept, AddsCode, EndKept, EndsMacro}
+use Rattle.load.specs.Section.{RefusesAt, LinesRead}
 
 -- ---- see_line
 
-pub body_line : {m : Marks} {text : Bytes} {p : Progress} {at end next : ℕ} {b ending : Bool} → at ≤ end → end ≤ next → next ≤ length text → p.inside ≡ true
-    → Begins text at end m.code b → b ≡ ending → BodyLine m text p at end ending
-body_line h k l i g e = record { low = h; high = omega arith; inside = i; begins = sym g.is ∙ e }
+pub inside-body : (next : Next) → (next ≡ Template → ⊥) → in_body next ≡ true
+inside-body Template f = absurd (f refl)
+inside-body (Code n) f = refl
+inside-body (Layout n) f = refl
 
-sound-same : (m : Marks) (text : Bytes) (t : Table) (p q : Progress) → q.count ≡ p.count → q.nodes ≡ p.nodes → TableSound m text t p → TableSound m text t q
-sound-same m text t p q e f s = record { inside = rw e s.inside; counted = rw (e, f) s.counted; tree = rw f s.tree; in_order = rw e s.in_order }
-
-pub body-sees : {m : Marks} {text : Bytes} {t : Table} {p : Progress} {n at end next : ℕ} {r : LineSeen} → TableSound m text t p → BodySeen m text p at end r → SeesLine m text t p n at end next t r
-body-sees {m} {text} {t} {p} {n} {at} {end} {next} {r} s h = record { is = h.is t n (lines (drop next text)); left = by r h.kept }
+-- std's answer for a byte in front of a line: what follows it, or nothing
+pub stripped : (b : ℕ) (s rest : Bytes) → pointwise eqb (take 1 s) (b ∷ []) ≡ true → rest ≡ drop 1 s → s ≡ b ∷ rest
+stripped b [] rest e q = false-not-true e
+stripped b (x ∷ s) rest e q = by (eqb x b) refl e
   where
-    by : (r : LineSeen) → MacrosKept p r → Left m text t t r
-    by (Err f) e = tt
-    by (Ok (Some q)) e = sound-same m text t p q e.0 e.1 s
-    by (Ok None) e = refl
+    by : (c : Bool) → eqb x b ≡ c → (c && true) ≡ true → x ∷ s ≡ b ∷ rest
+    by true z f = rw (eqb-true x b z, q)
+    by false z f = false-not-true f
 
--- ---- refuse_at
+pub unstripped : (b : ℕ) (s : Bytes) → pointwise eqb (take 1 s) (b ∷ []) ≡ false → starts_with b s ≡ false
+unfolding starts_with
+unstripped b [] e = refl
+unstripped b (x ∷ s) e = by (eqb x b) e
+  where
+    by : (c : Bool) → (c && true) ≡ false → c ≡ false
+    by true f = f
+    by false f = f
+
+-- a line that begins with mark 3, and one that doesn't
+seen-end : (m : Marks) (r : Progress) (n x : ℕ) (rest : Bytes) (ls : List Bytes) → r.in_body ≡ true → eqb x m.code ≡ true → line_seen m r n (x ∷ rest) ls ≡ after_line m r rest
+unfolding line_seen starts_with
+seen-end m r n x rest ls e f = when_true _ _ e ∙ when_true _ _ f
+
+seen-code : (m : Marks) (r : Progress) (n : ℕ) (l : Bytes) (ls : List Bytes) → r.in_body ≡ true → starts_with m.code l ≡ false
+    → line_seen m r n l ls ≡ code_line r (up_to m.code l) (effect_here m r.due (up_to m.code l))
+unfolding line_seen
+seen-code m r n l ls e f = when_true _ _ e ∙ when_false _ _ f
+
+sound-same : (m : Marks) (text : Bytes) (l k : Loader) → MacrosKept l k → TableSound m text l → TableSound m text k
+sound-same m text l k h s = record {
+  inside = rw (h.table, h.count) s.inside;
+  counted = rw (h.table, h.count, h.nodes) s.counted;
+  tree = rw h.nodes s.tree;
+  in_order = rw (h.table, h.count) s.in_order;
+}
+
+module _ {m : Marks} {text : Bytes} {l k : Loader} {n : ℕ} {bytes : Bytes} {next : ℕ} {r : LineSeen} (s : TableSound m text l) (i : in_body l.next ≡ true) where
+  pub end-sees : {rest : Bytes} → bytes ≡ m.code ∷ rest → EndsMacro m l n next rest k r → SeesLine m text l n bytes next k r
+  end-sees {rest} e h = rw e (record { is = seen-end m (progress_of m text l) n m.code rest (lines (drop next text)) i (eq-eqb m.code m.code refl) ∙ h.is text; left = by r h.kept })
+    where
+      by : (r : LineSeen) → EndKept m l n next k r → Left m text l n next k r
+      by (Err f) e = tt
+      by (Ok None) e = sound-same m text l k e s
+      by (Ok (Some x)) e = e
+
+  pub code-sees : starts_with m.code bytes ≡ false → AddsCode m l bytes k r → SeesLine m text l n bytes next k r
+  code-sees f h = record { is = seen-code m (progress_of m text l) n bytes (lines (drop next text)) i f ∙ h.is text; left = by r h.kept }
+    where
+      by : (r : LineSeen) → CodeKept l k r → Left m text l n next k r
+      by (Err f) e = tt
+      by (Ok None) e = sound-same m text l k e s
+      by (Ok (Some x)) e = absurd e
+
+-- ---- refuse
 
 -- only a limit that is passed comes after a section that isn't ended
 low-number : (f : LoadFault) → (f ≡ OverLimit → ⊥) → load_number f ≤ 8
@@ -69,53 +120,39 @@ module _ {text : Bytes} {next n : ℕ} {f : LoadFault} where
   unfolding lowest_at
   refuses-eight q h = record { lowest = rw (q, lines_none text next h); line = refl }
 
--- ---- load_line
-
-module _ {m : Marks} {text : Bytes} {t u : Table} {p : Progress} {n at end next : ℕ} {s : LineSeen} (l : LineAt text at end next) (g : SeesLine m text t p n at end next u s) where
-  -- what is left to load from line n on
-  next-line : (x : Load) (k : ℕ) → k + 1 ≡ n → LinesRead m text x t p k at
-      → x ≡ load_on m (macros_in m text t p.count) n (lines (drop next text)) (λ r. load_from m r n (lines (drop next text))) (seen_of m text u s)
-  unfolding load_from
-  next-line x k z h =
-      sym h.same ∙ ap (load_from m (progress_of m text t p) k) l.is
-      ∙ ap (λ (i : ℕ). load_on m (macros_in m text t p.count) i (lines (drop next text)) (λ r. load_from m r i (lines (drop next text)))
-      (line_seen m (progress_of m text t p) i (part text at end) (lines (drop next text)))) z
-      ∙ ap (load_on m (macros_in m text t p.count) n (lines (drop next text)) (λ r. load_from m r n (lines (drop next text)))) g.is
-
-  line-more : {q : Progress} → s ≡ Ok (Some q) → LeadsOn m text t p n at next u (Ok (Some q))
-  unfolding load_on
-  line-more {q} e = record {
-    left = λ x i z h. (record { same = sym (next-line x i z h ∙ rw e); sound = rw e at g.left; within = l.within; read = omega (arith, h.read, l.ahead) }, l.ahead);
-  }
-
-  line-ends : s ≡ Ok None → LeadsOn m text t p n at next u (Ok None)
-  unfolding load_on
-  line-ends e =
-      let q : t ≡ u = rw e at g.left in
-      record {
-        left = λ x i z h. record {
-          is = next-line x i z h ∙ rw (e, q);
-          sound = record {
-            inside = rw (sym q) h.sound.inside;
-            counted = rw (sym q) h.sound.counted;
-            in_order = rw (sym q) h.sound.in_order;
-            input = l.within;
-            read = omega (arith, h.read, l.ahead);
-          };
-        };
-      }
-
-  pub line-fault : {f : LoadFault} {r : Refused} → s ≡ Err f → RefusesAt text next f n r → LeadsOn m text t p n at next u (Err r)
-  unfolding load_on
-  line-fault {f} {r} e q = record {
-    left = λ x i z h. record { is = next-line x i z h ∙ rw (e, sym q.lowest, sym q.line); sound = tt };
-  }
-
-  pub line-seen : (r : Option Progress) → s ≡ Ok r → LeadsOn m text t p n at next u (Ok r)
-  line-seen (Some q) e = line-more e
-  line-seen None e = line-ends e
-
 -- ---- load_section
+
+-- the line that is read
+pub line-in : {text : Bytes} {at end next : ℕ} {bytes : Bytes} → LineAt text at end next → bytes ≡ part text at end → LineIn text at bytes next
+line-in {text} {at} {end} {next} {bytes} h e =
+    let n : at + length bytes ≡ end = omega (arith, ap length e, part_length text at end (omega (arith, h.high, h.within)), h.low) in
+    record { high = omega (arith, n, h.high); ahead = h.ahead; within = h.within; stand = rw n e; is = rw e h.is }
+
+module _ {m : Marks} {text : Bytes} {x : Load} {l k : Loader} {n start next : ℕ} {bytes : Bytes} {s : LineSeen}
+    (h : LinesRead m text x l n start) (b : LineIn text start bytes next) (g : SeesLine m text l (n + 1) bytes next k s) where
+  -- what is left to load from this line on
+  next-line : x ≡ load_on m (macros_in m text l.table l.count) (n + 1) (lines (drop next text)) (λ r. load_from m r (n + 1) (lines (drop next text))) (seen_of m text k s)
+  unfolding load_from
+  next-line =
+      sym h.same ∙ ap (load_from m (progress_of m text l) n) b.is
+      ∙ ap (load_on m (macros_in m text l.table l.count) (n + 1) (lines (drop next text)) (λ r. load_from m r (n + 1) (lines (drop next text)))) g.is
+
+  pub reading-more : s ≡ Ok None → LinesRead m text x k (n + 1) next
+  unfolding load_on
+  reading-more e = record { same = sym (next-line ∙ rw e); sound = rw e at g.left; within = b.within; read = omega (arith, h.read, b.ahead) }
+
+  pub reading-done : {y : Loaded} → s ≡ Ok (Some y) → Loads x text k.table (Ok y)
+  unfolding load_on
+  reading-done {y} e =
+      let (t, q) : (k.table ≡ l.table) × (y ≡ record { line = n + 1; marks = m; count = l.count; nodes = l.nodes; input = next }) = rw e at g.left in
+      rw (t, q) (record {
+        is = next-line ∙ rw e;
+        sound = record { inside = h.sound.inside; counted = h.sound.counted; in_order = h.sound.in_order; input = b.within; read = omega (arith, h.read, b.ahead) };
+      })
+
+  pub reading-refused : {f : LoadFault} {t : Table} {r : Refused} → s ≡ Err f → RefusesAt text next f (n + 1) r → Loads x text t (Err r)
+  unfolding load_on
+  reading-refused e q = record { is = next-line ∙ rw (e, sym q.lowest, sym q.line); sound = tt }
 
 none_inside : (text : Bytes) (t : Table) → EntriesInside text t 0
 none_inside text t = record {
@@ -129,7 +166,7 @@ none-in-order : {p : ℕ} {order : ℕ → ℕ} → InOrder p [] order
 none-in-order = record { within = λ i u. absurd (omega arith); every = λ k u. absurd (omega arith); ascending = λ i j u v. absurd (omega arith) }
 
 pub reading_begins : {m : Marks} {text : Bytes} {t : Table} {first : ℕ} → SectionAt text first
-    → LinesRead m text (load_from m none_read 1 (lines (drop first text))) t (record { count = 0; nodes = 1; codes = 0; inside = false; opened = 0; due = false }) 1 first
+    → LinesRead m text (load_from m none_read 1 (lines (drop first text))) (record { table = t; count = 0; nodes = 1; codes = 0; next = Template }) 1 first
 unfolding macros_in templates_in none_read nodes nodes_from
 reading_begins {m} {text} {t} {first} h = record {
   same = refl;
@@ -138,23 +175,9 @@ reading_begins {m} {text} {t} {first} h = record {
   read = h.later;
 }
 
-module _ {m : Marks} {text : Bytes} {x : Load} {t u : Table} {p : Progress} {n at next : ℕ} {s : Result (Option Progress) Refused}
-    (h : LinesRead m text x t p n at) (g : LeadsOn m text t p (n + 1) at next u s) where
-  led : LedTo m text x p (n + 1) at next u s
-  led = g.left x n refl h
-
-  pub reading-more : {q : Progress} → s ≡ Ok (Some q) → LinesRead m text x u q (n + 1) next
-  reading-more e = (rw e at led).0
-
-  pub reading-done : s ≡ Ok None → Loads x text u (Ok (record { line = n + 1; marks = m; count = p.count; nodes = p.nodes; input = next }))
-  reading-done e = rw e at led
-
-  pub reading-refused : {f : Refused} → s ≡ Err f → Loads x text u (Err f)
-  reading-refused e = rw e at led
-
 -- a section that isn't ended
-pub reading-last : {m : Marks} {text : Bytes} {x : Load} {t : Table} {p : Progress} {n at : ℕ} → LinesRead m text x t p n at → length text ≤ at
+pub reading-last : {m : Marks} {text : Bytes} {x : Load} {l : Loader} {t : Table} {n at : ℕ} → LinesRead m text x l n at → length text ≤ at
     → Loads x text t (Err (record { fault = OpenSection; line = n }))
 unfolding load_from
-reading-last {m} {text} {x} {t} {p} {n} {at} h l =
-    record { is = sym h.same ∙ ap (load_from m (progress_of m text t p) n) (lines_none text at l); sound = tt }
+reading-last {m} {text} {x} {l} {t} {n} {at} h e =
+    record { is = sym h.same ∙ ap (load_from m (progress_of m text l) n) (lines_none text at e); sound = tt }

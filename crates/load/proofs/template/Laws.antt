@@ -6,16 +6,17 @@ use Prim.Native.Nat.{ℕ, ◌+◌, ◌-◌, ◌≤◌, ◌<◌}
 use native.Mathlib.Omega.{arith}
 use borrow.Author.Tests.{lt-ltb, le-ltb, le-leb, lt-leb}
 use lib.Dec.{eqb, leb, ltb}
-use lib.ListN.{length, drop}
+use lib.ListN.{length, take, drop}
 use Rattle.model.specs.declared.Marks.{Marks}
 use Rattle.model.specs.Text.{Bytes, part, up_to, lines}
 use Rattle.model.specs.Load as Load
 use Rattle.model.specs.Load.{Macro, body_at, body_of, lowest, count, met, templates, fresh, nodes, template_fault, unless, template_line, line_seen}
 use Rattle.model.proofs.Choices.{when_true, when_false}
-use Rattle.model.proofs.Text.{part_length}
+use Rattle.model.proofs.Text.{part-take}
+use Rattle.std.proofs.lemmas.List.{length-take-le}
 use Rattle.model.proofs.Loading.{templates-length, templates_snoc, nodes_snoc}
 use Rattle.scan.specs.Lines.{FindsByte}
-use Rattle.std.specs.Prelude.{Some, Result, Ok, Err, ◌==◌, cond, count_by}
+use Rattle.std.specs.Prelude.{None, Result, Ok, Err, ◌==◌, cond, count_by}
 use Rattle.std.proofs.lemmas.List.Recursion.{is_count_by}
 use Rattle.faults.specs.declared.LoadFault.{LoadFault}
 use Rattle.faults.specs.declared.LoadFault.TheVariants.{LongContent, ManyPlaceholders, MetTemplate, OverLimit}
@@ -27,9 +28,10 @@ use Rattle.macros.proofs.Order.{put_same}
 use Rattle.templates.specs.Count.{Counted}
 use Rattle.templates.specs.Order.{InOrder, Finds}
 use Rattle.templates.proofs.Order.{in_order_more}
-use Rattle.load.specs.declared.Progress.{Progress}
-use Rattle.load.specs.declared.template.Weighed.{Weighed}
-use Rattle.load.specs.Lines.{progress_of, TableSound, SeesLine}
+use Rattle.load.specs.declared.Loader.{Loader}
+use Rattle.load.specs.declared.Next.TheVariants.{Template, Code}
+use Rattle.load.specs.Lines.{in_body, progress_of, TableSound, LineIn, SeesLine}
+use Rattle.load.proofs.Answer.{content-is}
 use Rattle.load.specs.Template.{weighed_fault, Tabled, HasRoom, Weighs}
 
 -- ---- weigh_template
@@ -44,8 +46,8 @@ either : (a b : Bool) → b ≡ true → (a || b) ≡ true
 either true b e = refl
 either false b e = e
 
-tabled-length : (text : Bytes) (t : Table) (p : Progress) (ms : List Macro) → Tabled text t p ms → length ms ≡ p.count
-tabled-length text t p ms h = sym (templates-length ms) ∙ ap length h.stand ∙ templates_in_length text t p.count
+tabled-length : {ts : List Bytes} {n : ℕ} (ms : List Macro) → Tabled ts n ms → length ms ≡ length ts
+tabled-length ms h = sym (templates-length ms) ∙ ap length h.stand
 
 -- the placeholders are counted
 count-cons : (b x : ℕ) (s : Bytes) (t : Bool) → eqb x b ≡ t → count b (x ∷ s) ≡ cond (x == b) (1 + count b s) (count b s)
@@ -62,77 +64,76 @@ record Small (m : Marks) (c : Bytes) : Type 0 where
   short : ltb 200 (length c) ≡ false
   nine : ltb 9 (count m.placeholder c) ≡ false
 
-small : (m : Marks) (c : Bytes) → length c ≤ 200 → count m.placeholder c ≤ 9 → Small m c
-small m c l k = record { short = le-ltb 200 (length c) l; nine = le-ltb 9 (count m.placeholder c) k }
-
 -- it wasn't met before, and a count is passed or not; `new` of its beginnings are new
-module _ (m : Marks) (text : Bytes) (t : Table) (p : Progress) (c : Bytes) (s : Small m c) (new : ℕ) (d : Counted (templates_in text t p.count) c new)
-    (v : 0 < new) (ms : List Macro) (h : Tabled text t p ms) where
-  sum : nodes ms + fresh [] c ms ≡ p.nodes + new
+module _ (m : Marks) (ts : List Bytes) (n : ℕ) (c : Bytes) (s : Small m c) (new : ℕ) (d : Counted ts c new) (v : 0 < new) (ms : List Macro) (h : Tabled ts n ms) where
+  sum : nodes ms + fresh [] c ms ≡ n + new
   sum = omega (arith, d.count v ms h.stand, h.counted)
 
   unmet : (full : Bool) → (leb 128 (length ms) || ltb 2048 (nodes ms + fresh [] c ms)) ≡ full
       → template_fault m ms c ≡ lowest ((false, 4) ∷ (false, 5) ∷ (false, 6) ∷ (full, 9) ∷ [])
   unmet full f = template-tests m ms c false false false full s.short s.nine (d.anew v ms h.stand) f
 
-module _ {m : Marks} {text : Bytes} {t : Table} {p : Progress} {c : Bytes} where
-  pub weighs-long : 200 < length c → Weighs m text t p c (Err LongContent)
-  unfolding lowest
-  weighs-long l = record { is = λ ms k. template-tests m ms c true _ _ _ (lt-ltb 200 (length c) l) refl refl refl; room = tt }
+-- the placeholders of any marks that have this one
+holes_in : (p : ℕ) (c : Bytes) (holes : ℕ) (m : Marks) → holes ≡ count_by (λ x. x == p) c → m.placeholder ≡ p → holes ≡ count m.placeholder c
+holes_in p c holes m e z = e ∙ sym (counted_by p c) ∙ ap (λ x. count x c) (sym z)
 
-  module _ (l : length c ≤ 200) {holes : ℕ} (e : holes ≡ count_by (λ x. x == m.placeholder) c) where
-    pub weighs-ten : 9 < holes → Weighs m text t p c (Err ManyPlaceholders)
+small-by : (p : ℕ) (c : Bytes) (holes : ℕ) (m : Marks) → length c ≤ 200 → holes ≡ count_by (λ x. x == p) c → holes ≤ 9 → m.placeholder ≡ p → Small m c
+small-by p c holes m l e k z = record { short = le-ltb 200 (length c) l; nine = le-ltb 9 (count m.placeholder c) (omega (arith, holes_in p c holes m e z)) }
+
+module _ {p : ℕ} {ts : List Bytes} {order : ℕ → ℕ} {n : ℕ} {c : Bytes} where
+  pub weighs-long : 200 < length c → Weighs p ts order n c (Err LongContent)
+  unfolding lowest
+  weighs-long l = record { is = λ m z ms k. template-tests m ms c true _ _ _ (lt-ltb 200 (length c) l) refl refl refl; room = tt }
+
+  module _ (l : length c ≤ 200) {holes : ℕ} (e : holes ≡ count_by (λ x. x == p) c) where
+    pub weighs-ten : 9 < holes → Weighs p ts order n c (Err ManyPlaceholders)
     unfolding lowest
     weighs-ten k = record {
-      is = λ ms q. template-tests m ms c false true _ _ (le-ltb 200 (length c) l) (lt-ltb 9 (count m.placeholder c) (omega (arith, e, counted_by m.placeholder c))) refl refl;
+      is = λ m z ms q. template-tests m ms c false true _ _ (le-ltb 200 (length c) l) (lt-ltb 9 (count m.placeholder c) (omega (arith, holes_in p c holes m e z))) refl refl;
       room = tt;
     }
 
     module _ (k : holes ≤ 9) where
-      pub weighs-met : Counted (templates_in text t p.count) c 0 → Weighs m text t p c (Err MetTemplate)
+      pub weighs-met : Counted ts c 0 → Weighs p ts order n c (Err MetTemplate)
       unfolding lowest
-      weighs-met d =
-          let s = small m c l (omega (arith, e, counted_by m.placeholder c)) in
-          record { is = λ ms q. template-tests m ms c false false true _ s.short s.nine (d.before refl ms q.stand) refl; room = tt }
+      weighs-met d = record {
+        is = λ m z ms q. template-tests m ms c false false true _ (small-by p c holes m l e k z).short (small-by p c holes m l e k z).nine (d.before refl ms q.stand) refl;
+        room = tt;
+      }
 
-      module _ {f : Found} (g : (0 < f.new) × Finds m.placeholder (templates_in text t p.count) (order_in t) c f.place f.new) where
-        pub weighs-full : 128 ≤ p.count → Weighs m text t p c (Err OverLimit)
+      -- `a` templates stand before it
+      module _ {a : ℕ} (b : length ts ≡ a) {f : Found} (g : (0 < f.new) × Finds p ts order c f.place f.new) where
+        pub weighs-full : 128 ≤ a → Weighs p ts order n c (Err OverLimit)
         unfolding lowest
-        weighs-full z =
-            let s = small m c l (omega (arith, e, counted_by m.placeholder c)) in
-            record {
-              is = λ ms q. unmet m text t p c s f.new g.1.counted g.0 ms q true (rw (le-leb 128 (length ms) (omega (arith, tabled-length text t p ms q))));
-              room = tt;
-            }
+        weighs-full r = record {
+          is = λ m z ms q. unmet m ts n c (small-by p c holes m l e k z) f.new g.1.counted g.0 ms q true (rw (le-leb 128 (length ms) (omega (arith, tabled-length ms q))));
+          room = tt;
+        }
 
-        pub weighs-many : 2048 - p.nodes < f.new → Weighs m text t p c (Err OverLimit)
+        pub weighs-many : 2048 - n < f.new → Weighs p ts order n c (Err OverLimit)
         unfolding lowest
-        weighs-many z =
-            let s = small m c l (omega (arith, e, counted_by m.placeholder c)) in
-            record {
-              is = λ ms q. unmet m text t p c s f.new g.1.counted g.0 ms q true
-                  (either (leb 128 (length ms)) (ltb 2048 (nodes ms + fresh [] c ms))
-                  (lt-ltb 2048 (nodes ms + fresh [] c ms) (omega (arith, sum m text t p c s f.new g.1.counted g.0 ms q))));
-              room = tt;
-            }
+        weighs-many r = record {
+          is = λ m z ms q. unmet m ts n c (small-by p c holes m l e k z) f.new g.1.counted g.0 ms q true
+              (either (leb 128 (length ms)) (ltb 2048 (nodes ms + fresh [] c ms))
+              (lt-ltb 2048 (nodes ms + fresh [] c ms) (omega (arith, sum m ts n c (small-by p c holes m l e k z) f.new g.1.counted g.0 ms q))));
+          room = tt;
+        }
 
-        pub weighs-new : p.count < 128 → p.nodes ≤ 2048 → f.new ≤ 2048 - p.nodes → Weighs m text t p c (Ok (record { nodes = p.nodes + f.new; place = f.place }))
+        pub weighs-new : a < 128 → n ≤ 2048 → f.new ≤ 2048 - n → Weighs p ts order n c (Ok f)
         unfolding lowest
-        weighs-new z a b =
-            let s = small m c l (omega (arith, e, counted_by m.placeholder c)) in
-            record {
-              is = λ ms q. unmet m text t p c s f.new g.1.counted g.0 ms q false
-                  (rw (lt-leb 128 (length ms) (omega (arith, tabled-length text t p ms q)))
-                  (le-ltb 2048 (nodes ms + fresh [] c ms) (omega (arith, sum m text t p c s f.new g.1.counted g.0 ms q))));
-              room = record {
-                short = l;
-                few = z;
-                tree = omega arith;
-                counted = λ ms q. sum m text t p c s f.new g.1.counted g.0 ms q;
-                within = omega (arith, g.1.within, templates_in_length text t p.count);
-                goes = g.1.goes g.0;
-              };
-            }
+        weighs-new r x y = record {
+          is = λ m z ms q. unmet m ts n c (small-by p c holes m l e k z) f.new g.1.counted g.0 ms q false
+              (rw (lt-leb 128 (length ms) (omega (arith, tabled-length ms q)))
+              (le-ltb 2048 (nodes ms + fresh [] c ms) (omega (arith, sum m ts n c (small-by p c holes m l e k z) f.new g.1.counted g.0 ms q))));
+          room = record {
+            short = l;
+            few = omega arith;
+            tree = omega arith;
+            counted = λ ms q. omega (arith, g.1.counted.count g.0 ms q.stand, q.counted);
+            within = g.1.within;
+            goes = g.1.goes g.0;
+          };
+        }
 
 -- ---- add_macro
 
@@ -144,77 +145,82 @@ seen-template m r n l ls e = when_false _ _ e
 abbrev begun : Load.Progress → Macro → Load.Progress
 begun r x = record { macros = r.macros ++ (x ∷ []); codes = r.codes; in_body = true; opened = 0; due = false }
 
-template-tested : (m : Marks) (r : Load.Progress) (n : ℕ) (l c : Bytes) (ls : List Bytes) (w : Result Weighed LoadFault) → up_to m.source l ≡ c → template_fault m r.macros c ≡ weighed_fault w
+template-tested : (m : Marks) (r : Load.Progress) (n : ℕ) (l c : Bytes) (ls : List Bytes) (w : Result Found LoadFault) → up_to m.source l ≡ c → template_fault m r.macros c ≡ weighed_fault w
     → template_line m r n (up_to m.source l) ls ≡ unless (weighed_fault w) (begun r (record { line = n; template = c; body = body_of m ls }))
 unfolding template_line
 template-tested m r n l c ls w e f = rw (e, f)
 
-module _ {m : Marks} {text : Bytes} {t : Table} {p : Progress} {at end stop : ℕ} {c : Bytes} {w : Result Weighed LoadFault} (s : TableSound m text t p) (i : p.inside ≡ false)
-    (f : FindsByte text at end m.source stop) (b : c ≡ part text at stop) (h : Weighs m text t p c w) where
-  tabled : Tabled text t p (macros_in m text t p.count)
-  tabled = record { stand = macros-templates m text t p.count; counted = sym s.counted }
+module _ {m : Marks} {text : Bytes} {l : Loader} {start next : ℕ} {bytes c : Bytes} {stop : ℕ} {w : Result Found LoadFault} (s : TableSound m text l) (i : l.next ≡ Template)
+    (b : LineIn text start bytes next) (f : FindsByte bytes 0 (length bytes) m.source stop) (z : c ≡ take stop bytes)
+    (h : Weighs m.placeholder (templates_in text l.table l.count) (order_in l.table) l.nodes c w) where
+  tabled : Tabled (templates_in text l.table l.count) l.nodes (macros_in m text l.table l.count)
+  tabled = record { stand = macros-templates m text l.table l.count; counted = sym s.counted }
 
   -- what the line comes to by what its template is found to be
-  template-line : (n next : ℕ) → line_seen m (progress_of m text t p) n (part text at end) (lines (drop next text))
-      ≡ unless (weighed_fault w) (begun (progress_of m text t p) (record { line = n; template = c; body = body_at m text next }))
-  template-line n next =
-      seen-template m (progress_of m text t p) n (part text at end) (lines (drop next text)) i
-      ∙ template-tested m (progress_of m text t p) n (part text at end) c (lines (drop next text)) w (sym f.is ∙ sym b) (h.is (macros_in m text t p.count) tabled)
+  template-line : (n : ℕ) → line_seen m (progress_of m text l) n bytes (lines (drop next text))
+      ≡ unless (weighed_fault w) (begun (progress_of m text l) (record { line = n; template = c; body = body_at m text next }))
+  template-line n =
+      seen-template m (progress_of m text l) n bytes (lines (drop next text)) (ap in_body i)
+      ∙ template-tested m (progress_of m text l) n bytes c (lines (drop next text)) w (sym (z ∙ content-is f)) (h.is m refl (macros_in m text l.table l.count) tabled)
 
-  pub macro-fault : {n next : ℕ} {k : LoadFault} → w ≡ Err k → SeesLine m text t p n at end next t (Err k)
+  pub macro-fault : {n : ℕ} {k : LoadFault} → w ≡ Err k → SeesLine m text l n bytes next l (Err k)
   unfolding unless
-  macro-fault {n} {next} e = record { is = template-line n next ∙ rw e; left = tt }
+  macro-fault {n} e = record { is = template-line n ∙ rw e; left = tt }
 
-  module _ {y : Weighed} (e : w ≡ Ok y) where
-    room : HasRoom m text t p c y
+  module _ {y : Found} (e : w ≡ Ok y) where
+    room : HasRoom m.placeholder (templates_in text l.table l.count) (order_in l.table) l.nodes c y
     room = rw e at h.room
 
     -- there is a place for the macro, in the table and in the order
-    pub macro-few : p.count < 128
-    macro-few = room.few
+    pub macro-few : l.count < 128
+    macro-few = omega (arith, room.few, templates_in_length text l.table l.count)
 
-    pub order-place : y.place ≤ p.count
-    order-place = room.within
+    pub order-place : y.place ≤ l.count
+    order-place = omega (arith, room.within, templates_in_length text l.table l.count)
 
     -- v is the table with the macro stored, and u that with the macro put in order
-    module _ (n next : ℕ) (g : end ≤ next) (d : next ≤ length text) {l : ℕ} (z : at + l ≡ stop) (v u : Table)
-        (q : StoresMacro t p.count (record { start = at; len = l; line = n; body = next }) v) (o : PutsInOrder v p.count y.place u) where
-      template_is : part text at (at + l) ≡ c
-      template_is = ap (part text at) z ∙ sym b
+    module _ (n : ℕ) (v u : Table) (q : StoresMacro l.table l.count (record { start = start; len = length c; line = n; body = next }) v) (o : PutsInOrder v l.count y.place u) where
+      long : length c ≡ stop
+      long = ap length z ∙ length-take-le stop bytes f.high
 
-      long : length c ≡ l
-      long = omega (arith, ap length b, part_length text at stop (omega (arith, f.high)))
+      template_is : part text start (start + length c) ≡ c
+      template_is =
+          let p : part text start (start + stop) ≡ take stop bytes = sym (part-take text start (start + length bytes) stop (omega (arith, f.high))) ∙ ap (take stop) (sym b.stand) in
+          ap (λ x. part text start (start + x)) long ∙ p ∙ sym z
+
+      abbrev new-macro : Macro
+      new-macro = record { line = n; template = c; body = body_at m text next }
 
       -- the macro comes after those before it
-      macros-more : macros_in m text u (p.count + 1) ≡ macros_in m text t p.count ++ (record { line = n; template = c; body = body_at m text next } ∷ [])
+      macros-more : macros_in m text u (l.count + 1) ≡ macros_in m text l.table l.count ++ (new-macro ∷ [])
       macros-more =
-          macros-same m text v u (p.count + 1) (put_same o (p.count + 1)) (p.count + 1) (omega arith)
-          ∙ macros-stored q m text ∙ ap (λ (d : Bytes). macros_in m text t p.count ++ (record { line = n; template = d; body = body_at m text next } ∷ [])) template_is
+          macros-same m text v u (l.count + 1) (put_same o (l.count + 1)) (l.count + 1) (omega arith)
+          ∙ macros-stored q m text ∙ ap (λ (d : Bytes). macros_in m text l.table l.count ++ (record { line = n; template = d; body = body_at m text next } ∷ [])) template_is
 
       -- and so does its template
-      templates-more : templates_in text t p.count ++ (c ∷ []) ≡ templates_in text u (p.count + 1)
+      templates-more : templates_in text l.table l.count ++ (c ∷ []) ≡ templates_in text u (l.count + 1)
       templates-more =
-          ap (λ (x : List Bytes). x ++ (c ∷ [])) (sym (macros-templates m text t p.count))
-          ∙ sym (templates_snoc (macros_in m text t p.count) (record { line = n; template = c; body = body_at m text next })) ∙ ap templates (sym macros-more)
-          ∙ macros-templates m text u (p.count + 1)
+          ap (λ (x : List Bytes). x ++ (c ∷ [])) (sym (macros-templates m text l.table l.count))
+          ∙ sym (templates_snoc (macros_in m text l.table l.count) new-macro) ∙ ap templates (sym macros-more)
+          ∙ macros-templates m text u (l.count + 1)
 
       -- with it the templates are in order
-      order-more : InOrder m.placeholder (templates_in text u (p.count + 1)) (order_in u)
+      order-more : InOrder m.placeholder (templates_in text u (l.count + 1)) (order_in u)
       order-more =
-          let z = templates_in_length text t p.count in
-          rw templates-more at (in_order_more s.in_order room.goes (omega (arith, room.within)) (λ i a. o.before i a ∙ stored_order q i) (o.there ∙ sym z)
+          let z = templates_in_length text l.table l.count in
+          rw templates-more at (in_order_more s.in_order room.goes room.within (λ i a. o.before i a ∙ stored_order q i) (o.there ∙ sym z)
           (λ i a b. o.further i a (omega arith) ∙ stored_order q i))
 
       -- the line begins the macro
-      pub macro-more : SeesLine m text t p n at end next u (Ok (Some (record { count = p.count + 1; nodes = y.nodes; codes = p.codes; inside = true; opened = 0; due = false })))
+      pub macro-more : SeesLine m text l n bytes next (record { table = u; count = l.count + 1; nodes = l.nodes + y.new; codes = l.codes; next = Code 0 }) (Ok None)
       unfolding unless
       macro-more =
           record {
-            is = template-line n next ∙ rw (e, macros-more);
+            is = template-line n ∙ rw (e, macros-more);
             left = record {
-              inside = entries_same text v u (p.count + 1) (put_same o (p.count + 1))
-                  (entries_stored q text room.few (omega (arith, f.high)) (omega (arith, long, room.short)) d s.inside);
-              counted = rw macros-more (sym (nodes_snoc (macros_in m text t p.count) (record { line = n; template = c; body = body_at m text next }) ∙ room.counted (macros_in m text t p.count) tabled));
+              inside = entries_same text v u (l.count + 1) (put_same o (l.count + 1))
+                  (entries_stored q text macro-few (omega (arith, f.high, b.high, b.within, long)) room.short b.within s.inside);
+              counted = rw macros-more (sym (nodes_snoc (macros_in m text l.table l.count) new-macro ∙ room.counted (macros_in m text l.table l.count) tabled));
               tree = room.tree;
               in_order = order-more;
             };

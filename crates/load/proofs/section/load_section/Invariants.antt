@@ -8,7 +8,7 @@ use Rattle.load.specs.Section.{LinesRead}
 use Rattle.load.proofs.section.load_section.Given as goal
 
 abbrev pub invariant-loop-at : goal.invariant-loop-at
-invariant-loop-at l = LinesRead l.m l.text (load_from l.m none_read 1 (lines (drop l.first l.text))) l.table l.p l.n l.at
+invariant-loop-at l = LinesRead l.marked.marks l.marked.text.now (load_from l.marked.marks none_read 1 (lines (drop l.first l.marked.text.now))) l.loader l.n l.at
 
 abbrev pub decreases-loop-at : goal.decreases-loop-at
-decreases-loop-at l = length l.text - l.at
+decreases-loop-at l = length l.marked.text.now - l.at

@@ -1,9 +1,10 @@
--- weigh_template finds the lowest fault of a template, or counts the nodes with it and finds its place.
+-- weigh_template finds the lowest fault of a template, or its place and the nodes that it adds.
 use borrow.Author.Rules.{rules}
+use Rattle.macros.proofs.Entries.{templates_in_length}
 use Rattle.load.proofs.Answer.{exit-none}
 use Rattle.load.proofs.template.Laws.{weighs-long, weighs-ten, weighs-met, weighs-full, weighs-many, weighs-new}
 use Rattle.load.proofs.template.weigh_template.Goals as goal
-use Rattle.load.proofs.template.weigh_template.Goals.{then-p-ge-MACROS_MOST-via-then-p-ge-MACROS_MOST, then-p-ge-MACROS_MOST-via-else-p-ge-MACROS_MOST+then-p-found}
+use Rattle.load.proofs.template.weigh_template.Goals.{then-ordered-ge-MACROS_MOST-via-then-ordered-ge-MACROS_MOST, then-ordered-ge-MACROS_MOST-via-else-ordered-ge-MACROS_MOST+then-nodes-found}
 
 pub returns-then-template-gt-LINE_MOST : goal.returns-then-template-gt-LINE_MOST
 returns-then-template-gt-LINE_MOST c = search (weighs-long, rules)
@@ -17,15 +18,17 @@ returns-in_err-found c =
     rw (exit-none c.from_residual.ensures.1 c.in_err-found.ensures.value n)
     (weighs-met (search rules) c.count_byte.ensures (search rules) (rw n at c.find_place-place.ensures))
 
-pub returns-then-p-ge-MACROS_MOST : goal.returns-then-p-ge-MACROS_MOST
-returns-then-p-ge-MACROS_MOST c =
+pub returns-then-ordered-ge-MACROS_MOST : goal.returns-then-ordered-ge-MACROS_MOST
+returns-then-ordered-ge-MACROS_MOST c =
     let f = rw c.in_ok-found.ensures.ok_part at c.find_place-place.ensures in
-    elim c.then-p-ge-MACROS_MOST.branch [
-      | then-p-ge-MACROS_MOST-via-then-p-ge-MACROS_MOST w ↦ weighs-full (search rules) c.count_byte.ensures (search rules) f (search rules)
-      | then-p-ge-MACROS_MOST-via-else-p-ge-MACROS_MOST+then-p-found w ↦ weighs-many (search rules) c.count_byte.ensures (search rules) f (search rules)
+    let z = templates_in_length c.args.ordered.now.text.now c.args.ordered.now.table.now c.args.ordered.now.n in
+    elim c.then-ordered-ge-MACROS_MOST.branch [
+      | then-ordered-ge-MACROS_MOST-via-then-ordered-ge-MACROS_MOST w ↦ weighs-full (search rules) c.count_byte.ensures (search rules) z f (search rules)
+      | then-ordered-ge-MACROS_MOST-via-else-ordered-ge-MACROS_MOST+then-nodes-found w ↦ weighs-many (search rules) c.count_byte.ensures (search rules) z f (search rules)
     ]
 
 pub returns : goal.returns
 returns c =
-    weighs-new (search rules) c.count_byte.ensures (search rules) (rw c.in_ok-found.ensures.ok_part at c.find_place-place.ensures)
+    let z = templates_in_length c.args.ordered.now.text.now c.args.ordered.now.table.now c.args.ordered.now.n in
+    weighs-new (search rules) c.count_byte.ensures (search rules) z (rw c.in_ok-found.ensures.ok_part at c.find_place-place.ensures)
     (search rules) (search rules) (search rules)

@@ -1,1 +1,0 @@
--- load answers the fault of the head, or what the section comes to.

@@ -1,1 +1,0 @@
--- see_line takes a line for what it is: in a body its end or code, else a template.
