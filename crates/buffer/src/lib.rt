@@ -31,13 +31,6 @@ pub fn same_bytes(a: &[u8], b: &[u8]) -> bool
     a == b
 }
 
-// A count as the public calls answer it.
-pub fn widen(n: usize) -> u64
-    ensures { result ≡ n }
-{
-    n as u64
-}
-
 // Any number in decimal: its digits are `&out[0..r]` for the answer r.
 pub fn write_decimal(n: u64, out: &mut [u8]) -> usize
     requires { 20 ≤ length out.old }
