@@ -31,11 +31,11 @@ impl From<Malformed> for RunFault {
     }
 }
 
-// The characters of a text: how many there are, and the last one's code point, 0 where there is none.
+// The characters of a text: how many there are, and the last one's code point.
 #[derive(Clone, Copy, PartialEq, Eq)]
 pub struct Counted {
     pub count: usize,
-    pub code: usize,
+    pub code: Option<usize>,
 }
 
 // Whether b is a byte after the first: 80 to BF.
@@ -113,11 +113,11 @@ pub fn count_characters(s: &[u8]) -> Result<Counted, Malformed>
     // where a character ends is found by reading it, so that the places are no range
     let mut at = 0;
     let mut count = 0;
-    let mut code = 0;
+    let mut code = None;
     while let Some(found) = read_character(s, at)? {
         at += found.len;
         count += 1;
-        code = found.code;
+        code = Some(found.code);
     }
     Ok(Counted { count, code })
 }

@@ -20,7 +20,7 @@ use Rattle.model.specs.Machine.{Shared, Building, failed, add, add_value, add_le
 use Rattle.character.specs.declared.Counted.{Counted}
 use Rattle.character.specs.declared.Malformed.{Malformed}
 use Rattle.character.specs.Counting.{CountsCharacters}
-use Rattle.character.proofs.Counting.{counted_none, counted-some, counted-one}
+use Rattle.character.proofs.Counting.{counted_none, counted-some, counted-zero, counted-one}
 use Rattle.number.specs.Number.{width, number_of, InRange, Valued}
 use Rattle.number.proofs.Signed.{told_in}
 use Rattle.value.specs.Reads.{Values}
@@ -128,6 +128,10 @@ module _ {t : Bytes} {x : Text} {q : Result Counted Malformed} (g : CountsCharac
             (λ w. ap (λ (o : Math.Option (List ℕ)). add_code_point (text_of x) o w) f.are ∙ point_other (text_of x) f.codes w (λ i. z (f.count ∙ i))) refl;
       }
 
-  pub point_added : {c : Counted} {y : Text} {r : Result Unit RunFault} → q ≡ Ok c → c.count ≡ 1 → Appends x (decimal c.code) r y → AddsCodePoint t x r y
+  -- where there is no code point, there is not one character either
+  pub point_none : {c : Counted} → q ≡ Ok c → c.code ≡ None → AddsCodePoint t x (Err NoCodePoint) x
+  point_none e f = point_others e (let z = counted-zero g e f in λ i. absurd (omega arith))
+
+  pub point_added : {c : Counted} {u : ℕ} {y : Text} {r : Result Unit RunFault} → q ≡ Ok c → c.count ≡ 1 → c.code ≡ Some u → Appends x (decimal u) r y → AddsCodePoint t x r y
   unfolding add_code_point
-  point_added e z p = record { adds = lengthens_by (λ w. ap (λ (o : Math.Option (List ℕ)). add_code_point (text_of x) o w) (counted-one g e z)) p }
+  point_added e z k p = record { adds = lengthens_by (λ w. ap (λ (o : Math.Option (List ℕ)). add_code_point (text_of x) o w) (counted-one g e z k)) p }

@@ -61,7 +61,7 @@ fn add_word(word: Word, param: &[u8], store: &Store, line: &mut Text) -> Result<
     line.append(bring(word, param, store))
 }
 
-// A number is stored in decimal.
+// A number is stored in decimal. add_number is a twin that stays: itoa lends its digits, and each is one call with them.
 fn put_number(v: usize, name: &[u8], store: &mut Store) -> Result<(), Full>
     requires { length name.now < 256 }
     ensures { PutsText store.old name.now (decimal v) result store.new }
@@ -134,10 +134,10 @@ fn add_code_point(param: &[u8], line: &mut Text) -> Result<(), RunFault>
     ensures { AddsCodePoint param.now line.old result line.new }
 {
     let characters = count_characters(param)?;
-    if characters.count != 1 {
-        return Err(RunFault::NoCodePoint);
+    match (characters.count, characters.code) {
+        (1, Some(code)) => add_number(code, line),
+        _ => Err(RunFault::NoCodePoint),
     }
-    add_number(characters.code, line)
 }
 
 // A conversion of a parameter with its latest delimiter.

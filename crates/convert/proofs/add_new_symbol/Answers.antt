@@ -1,10 +1,6 @@
 -- add_new_symbol: the name is stored with the next number, or the store is full.
-use native.Mathlib.Omega.{arith}
 use Rattle.convert.proofs.Symbols.{symbol_full, symbol_new}
 use Rattle.convert.proofs.add_new_symbol.Goals as goal
-
-pub overflow_add-next : goal.overflow_add-next
-overflow_add-next c = omega (arith, c.requires.symbols, c.requires.missing.0.few)
 
 pub returns-in_err-put_number : goal.returns-in_err-put_number
 returns-in_err-put_number c = symbol_full c.requires.symbols c.requires.missing.0 c.put_number.ensures c.in_err-put_number.was c.from_residual.ensures.1
