@@ -17,19 +17,19 @@ use Rattle.model.specs.declared.Marks.{Marks}
 use Rattle.model.specs.declared.Effect.{Effect}
 use Rattle.model.specs.declared.Effect.TheVariants.{Malformed, Plain, Opens, Closes, Owns}
 use Rattle.model.proofs.Choices.{when_true, when_false}
-use Rattle.std.specs.Prelude.{Option, None, Some, Result, Ok, Err}
+use Rattle.std.specs.Prelude.{Option, Some, Result, Ok, Err}
 use Rattle.faults.specs.declared.RunFault.{RunFault}
 use Rattle.faults.specs.declared.RunFault.TheVariants.{BadSkip}
 use Rattle.faults.specs.Numbers.{run_number}
 use Rattle.scan.specs.declared.Line.{Line}
 use Rattle.scan.specs.Lines.{CodeAt}
-use Rattle.scan.proofs.Places.{code_line, code_over}
+use Rattle.scan.proofs.Places.{code_line}
 use Rattle.code.specs.Tokens.{Affects}
 use Rattle.body.specs.declared.Passed.{Passed}
 use Rattle.body.specs.declared.Passed.TheVariants.{Landed, Beyond}
 use Rattle.body.specs.declared.Stepped.{Stepped}
 use Rattle.body.specs.declared.Stepped.TheVariants.{Ended, Closed, On}
-use Rattle.body.specs.Steps.{passed_of, passed_fault, RangedPassed, DropsFirst, PassesOver, Leaves, Shuts, Goes, StepsTo, StepsOver}
+use Rattle.body.specs.Steps.{passed_of, passed_fault, RangedPassed, DropsFirst, PassesOver, Leaves, Shuts, StepsTo, StepsOver}
 
 -- ---- one line, by its effect
 
@@ -119,17 +119,6 @@ module _ (m : Marks) where
   past_end d = refl
 
 module _ {m : Marks} {text : Bytes} {at : ℕ} {r : Option Line} (k : CodeAt m text at r) where
-  pub drops : {l : Line} → r ≡ Some l → DropsFirst m text at l.next
-  drops e =
-      let c = code_line k e in
-      record { is = ap (λ s. drop 1 s) c.is; from = omega (arith, c.low, c.high); within = c.within }
-
-  pub drops-none : r ≡ None → at ≤ length text → DropsFirst m text at at
-  drops-none e h = record { is = ap (λ s. drop 1 s) (code_over k e) ∙ sym (code_over k e); from = omega arith; within = h }
-
-  pub step_ended : {depth : ℕ} → r ≡ None → StepsOver m text at depth Ended
-  step_ended e = record { is = code_over k e }
-
   module _ {l : Line} (there : r ≡ Some l) {e : Effect} (a : Affects m (part text at l.end) e) where
     skips : (n d : ℕ) {x : Effect} → e ≡ x → Machine.pass_over m (suc n) d (body_at m text at) ≡ pass_by m n d (body_at m text l.next) x
     skips n d q =
@@ -194,9 +183,6 @@ module _ {m : Marks} {text : Bytes} {at depth : ℕ} {r : Stepped} (s : StepsOve
   at_closed : {p : ℕ} → r ≡ Closed p → Shuts m text at depth p
   at_closed q = subst (λ (x : Stepped). StepsTo m text at depth x) q s.is
 
-  pub at_on : {p d : ℕ} → r ≡ On p d → Goes m text at depth p d
-  at_on q = subst (λ (x : Stepped). StepsTo m text at depth x) q s.is
-
 -- ---- a skip
 
 -- with n lines to pass over from `at` on, place i is reached after `passed` of them, and `depth` iterations are open there
@@ -205,11 +191,6 @@ pub record Passing (m : Marks) (text : Bytes) (at n i depth passed : ℕ) : Type
   pub from : at ≤ i
   pub within : i ≤ length text
   pub few : depth ≤ i
-
-pub passing_starts : {m : Marks} {text : Bytes} {at n : ℕ} → at ≤ length text → Passing m text at n at 0 0
-passing_starts {m} {text} {at} {n} h =
-    let e : n ≡ n - 0 = omega arith in
-    record { is = ap (λ k. Machine.pass_over m k 0 (body_at m text at)) e; from = omega arith; within = h; few = omega arith }
 
 -- an answer's number is that of what it stands for
 passed-fault : (m : Marks) (text : Bytes) (at n : ℕ) (r : Result Passed RunFault) → RangedPassed text at n r → passed_fault r ≡ Machine.landing_fault (passed_of m text r)
@@ -244,13 +225,6 @@ module _ {m : Marks} {text : Bytes} {at n i depth passed : ℕ} (p : Passing m t
     at_line : Machine.pass_over m n 0 (body_at m text at) ≡ Machine.pass_over m (suc rest) depth (body_at m text i)
     at_line = p.is ∙ ap (λ x. Machine.pass_over m x depth (body_at m text i)) one_more
 
-    pub passing_more : {j d : ℕ} → r ≡ On j d → Passing m text at n j d (passed + 1)
-    passing_more q =
-        let g = at_on s q in
-        let f = g.ahead in
-        let a = p.from in
-        record { is = at_line ∙ g.skip rest; from = omega arith; within = g.within; few = g.few }
-
     pub shut : {j : ℕ} → r ≡ Closed j → PassesOver m text at n (Err BadSkip)
     shut q = passes (at_line ∙ (at_closed s q).skip rest) refl
 
@@ -273,31 +247,7 @@ pub record Leaving (m : Marks) (text : Bytes) (at i depth : ℕ) : Type 0 where
   pub within : i ≤ length text
   pub few : depth ≤ i
 
-pub leaving_starts : {m : Marks} {text : Bytes} {at : ℕ} → at ≤ length text → Leaving m text at at 0
-leaving_starts h = record { is = refl; from = omega arith; within = h; few = omega arith }
-
 module _ {m : Marks} {text : Bytes} {at i depth : ℕ} (p : Leaving m text at i depth) {r : Stepped} (s : StepsOver m text i depth r) where
-  pub leaving_more : {j d : ℕ} → r ≡ On j d → Leaving m text at j d
-  leaving_more q =
-      let g = at_on s q in
-      let f = g.ahead in
-      let a = p.from in
-      record { is = p.is ∙ g.leave; from = omega arith; within = g.within; few = g.few }
-
-  pub leaving_less : {j d : ℕ} → r ≡ On j d → length text - j < length text - i
-  leaving_less q =
-      let g = at_on s q in
-      let f = g.ahead in
-      let w = g.within in
-      omega arith
-
-  pub leaving_closed : {j : ℕ} → r ≡ Closed j → Leaves m text at j
-  leaving_closed q =
-      let g = at_closed s q in
-      let f = g.ahead in
-      let a = p.from in
-      record { is = p.is ∙ g.leave; from = omega arith; within = g.within }
-
   pub leaving_ended : r ≡ Ended → Leaves m text at i
   leaving_ended q =
       record { is = p.is ∙ ap (λ cs. Machine.past_loop m depth cs) (at_ended s q) ∙ past_end m depth ∙ sym (at_ended s q); from = p.from; within = p.within }

@@ -1,4 +1,5 @@
 // Passing over code lines of a body: for a skip, and past an iteration that makes no pass.
+// A place is where a call goes on, and the answer is the place that it keeps: the rest of the text as a slice would say less.
 #![tactic(auto)]
 
 ghost use Rattle.std.specs.Prelude.{◌≤◌, length};
@@ -9,6 +10,7 @@ use model::Effect;
 use scan::Marked;
 
 // What a skip of code lines comes to: the place of the line landed on, or the lines left at the body's end.
+// A caller goes on with either, so that it is no Option and no Result.
 #[derive(Clone, Copy)]
 pub enum Passed {
     Landed(usize),
@@ -16,7 +18,7 @@ pub enum Passed {
 }
 
 // What one code line passed over comes to: the body's end, the end of the iteration around it with the place after it, or
-// the place of the next code line and how many iterations are then open.
+// the place of the next code line and how many iterations are then open. These are three, so that it is no Option.
 #[derive(Clone, Copy)]
 enum Stepped {
     Ended,

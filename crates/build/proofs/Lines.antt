@@ -1,9 +1,9 @@
 -- The line as far as it is built: what is left of the code line comes to the same as the whole.
-use mathlib.Core.Path.{◌≡◌, refl, sym, ap, ◌∙◌, subst}
+use mathlib.Core.Path.{◌≡◌, sym, ap, ◌∙◌, subst}
 use mathlib.Core.Bool.{true}
 use mathlib.Core.List.{List, []}
-use Prim.Native.Nat.{ℕ, ◌≤◌}
-use lib.ListN.{length, drop}
+use Prim.Native.Nat.{ℕ}
+use lib.ListN.{drop}
 use lib.Dec.{eqb}
 use Rattle.std.specs.Prelude.{Result, Ok, Err, IsErrAnd}
 use Rattle.faults.specs.declared.RunFault.{RunFault}
@@ -18,15 +18,14 @@ use Rattle.code.specs.declared.Part.{Part}
 use Rattle.code.specs.declared.Ending.{Ending}
 use Rattle.code.specs.declared.Token.{Token}
 use Rattle.code.specs.declared.Token.TheVariants.{Ends, Has}
-use Rattle.code.specs.Tokens.{RangedToken, ReadsToken}
-use Rattle.code.proofs.Lines.{Ahead, ahead_starts, ahead_more, ahead_ends, says_ends, says_has}
+use Rattle.code.specs.Tokens.{ReadsToken}
+use Rattle.code.proofs.Lines.{Ahead, ahead_more, ahead_ends, says_ends, says_has}
 use Rattle.call.specs.declared.Text.{Text}
 use Rattle.call.specs.declared.Call.{Call}
-use Rattle.call.specs.Call.{text_of, frame_of, Holds}
+use Rattle.call.specs.Call.{text_of, frame_of}
 use Rattle.call.specs.Line.{line_step}
 use Rattle.convert.specs.Added.{Keeps}
-use Rattle.convert.proofs.Adding.{keeps_same}
-use Rattle.build.specs.Built.{Ranges, AddsPart, built_step, Builds}
+use Rattle.build.specs.Built.{AddsPart, built_step, Builds}
 
 pub keeps_more : {s t u : State} → Keeps s t → Keeps t u → Keeps s u
 keeps_more k h = record {
@@ -40,9 +39,6 @@ keeps_more k h = record {
   fuel = h.fuel ∙ k.fuel;
 }
 
-pub has_ranges : {m : Marks} {code : Bytes} {at : ℕ} {r : Token} {p : Part} {e : ℕ} → ReadsToken m code at r → r ≡ Has p e → Ranges p
-has_ranges {code = code} {at} s q = record { is = (subst (λ (x : Token). RangedToken code at x) q s.ranged).0 }
-
 -- what the parts ps come to after what is built so far
 unfoldable pub rest : Marks → Frame → List Code.Part → Building → Building
 rest m f ps b = elim b [ built l w ↦ build m f ps l w | failed n w ↦ failed n w ]
@@ -54,13 +50,6 @@ pub record Partly (m : Marks) (code : Bytes) (c : Call) (s : State) (line : Text
       ≡ build m (frame_of m text c) (parse m (eqb at 0) (drop at code)).parts (text_of line) (shared_of t o)
   pub ahead : Ahead m code at
   pub keeps : Keeps s t
-
-pub partly_starts : {m : Marks} {code : Bytes} {c : Call} {s : State} {line : Text} → s.symbols ≤ length s.store → Holds [] line → Partly m code c s line s 0
-partly_starts g l = record {
-  is = λ text o. rw l.is refl;
-  ahead = ahead_starts;
-  keeps = keeps_same g;
-}
 
 module _ {m : Marks} {code : Bytes} {c : Call} {s : State} {line : Text} {u : State} {at : ℕ} (h : Partly m code c s line u at) {t : Token} (g : ReadsToken m code at t) where
   -- the code line is at its end

@@ -11,7 +11,6 @@ use Rattle.model.specs.Machine.{add_part}
 use Rattle.state.specs.declared.State.{State}
 use Rattle.code.specs.declared.Part.{Part}
 use Rattle.code.specs.declared.Part.TheVariants.{Byte, Serial, Convert}
-use Rattle.code.specs.Tokens.{Parameter}
 use Rattle.std.specs.Prelude.{Option, Result}
 use Rattle.faults.specs.declared.RunFault.{RunFault}
 use Rattle.call.specs.declared.Text.{Text}
@@ -21,17 +20,7 @@ use Rattle.call.specs.Line.{Appends}
 use Rattle.call.specs.Params.{Reads, Delimiter}
 use Rattle.convert.specs.Converted.{Converts}
 use Rattle.convert.proofs.Adding.{adds_appended}
-use Rattle.build.specs.Built.{Ranges, AddsPart}
-
--- ---- the numbers of a part
-
-pub serial_most : {p : Part} {k : ℕ} → Ranges p → p ≡ Serial k → k ≤ 9
-serial_most g e = (subst Ranges e g).is
-
-pub convert_parameter : {p : Part} {d : ℕ} {v : Conversion} → Ranges p → p ≡ Convert d v → Parameter d
-convert_parameter g e = (subst Ranges e g).is
-
--- ---- what it adds
+use Rattle.build.specs.Built.{AddsPart}
 
 module _ {m : Marks} {c : Call} {p : Part} {x : Text} {s : State} {r : Result Unit RunFault} {y : Text} {s' : State} where
   part_as : {q : Part} → p ≡ q → AddsPart m c q x s r y s' → AddsPart m c p x s r y s'

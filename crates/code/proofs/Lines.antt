@@ -186,9 +186,6 @@ pub record Ahead (m : Marks) (line : Bytes) (at : ℕ) : Type 0 where
   pub is : (Code.parse m true line).ending ≡ (Code.parse m (eqb at 0) (drop at line)).ending
   pub within : at ≤ length line
 
-pub ahead_starts : {m : Marks} {line : Bytes} → Ahead m line 0
-ahead_starts = record { is = refl; within = omega arith }
-
 module _ {m : Marks} {line : Bytes} {at : ℕ} {r : Token} (a : Ahead m line at) (s : ReadsToken m line at r) where
   pub ahead_more : {p : Part} {e : ℕ} → r ≡ Has p e → Ahead m line e
   unfolding Code.onto

@@ -17,6 +17,7 @@ pub enum Part {
 }
 
 // What is done at the end of a code line. The delimiters of an iteration start at its second number, a place of the code line.
+// Malformed is one of document 01's endings, and no Err: the crate load alone refuses a text for it, by its effect.
 #[derive(Clone, Copy)]
 pub enum Ending {
     Offer,
@@ -36,7 +37,7 @@ pub enum Ending {
     Malformed,
 }
 
-// What stands at a place of a code line: its end, or a part and where the rest starts.
+// What stands at a place of a code line: its end, or a part and where the rest starts. Both say something, so that it is no Option.
 #[derive(Clone, Copy)]
 pub enum Token {
     Ends(Ending),
@@ -45,7 +46,7 @@ pub enum Token {
 
 // ---- what follows an escape; where it says nothing, the line is malformed
 
-// The channel of F1 and F2: 3 if 3 or no digit follows, 0 if 0, 4 if 4.
+// The channel of F1 and F2: the one that 0, 3 or 4 names, and 3 where no digit follows.
 #[tactic(auto, unfolding(model::specs::Code::channel_of, model::specs::Text::is_digit))]
 fn read_channel(rest: &[u8]) -> Option<Channel>
     ensures { found result ≡ channel_of rest.now }
@@ -160,8 +161,9 @@ fn read_form(a: u8, b: u8, at: usize) -> Option<Token>
     }
 }
 
-// What stands at `at` of a code line; at 0 it is the line's start. It is compiled where it is called: most tokens are one byte, and a call
-// for each costs more than the byte that it reads.
+// What stands at `at` of a code line. It is compiled where it is called: most tokens are one byte, and a call for each costs more than the
+// byte that it reads.
+// The place stays beside the line, since it tells the line's start, and an iteration keeps it as that of its delimiters.
 #[inline(always)]
 pub fn read_token(m: Marks, line: &[u8], at: usize) -> Token
     requires { at ≤ length line.now }

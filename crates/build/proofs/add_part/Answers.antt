@@ -1,11 +1,7 @@
 -- add_part: each kind of part adds what the expansion adds.
-use native.Mathlib.Omega.{arith}
 use borrow.Author.Rules.{rules}
-use Rattle.build.proofs.Parts.{serial_most, part_byte, part_serial, part_convert}
+use Rattle.build.proofs.Parts.{part_byte, part_serial, part_convert}
 use Rattle.build.proofs.add_part.Goals as goal
-
-pub overflow_add-call : goal.overflow_add-call
-overflow_add-call c = let k = serial_most (search rules) c.in-Serial.is in omega arith
 
 pub returns-in-Byte : goal.returns-in-Byte
 returns-in-Byte c = search (part_byte, rules)
