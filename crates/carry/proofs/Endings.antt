@@ -1,15 +1,19 @@
 -- Each way to end a code line, as finish_code takes it.
 use mathlib.Core.Path.{◌≡◌, refl, sym, ap, ◌∙◌, subst}
 use mathlib.Core.Bool.{Bool}
-use Prim.Native.Nat.{ℕ, ◌≤◌, ◌<◌}
+use Prim.Native.Nat.{ℕ, ◌+◌, ◌≤◌, ◌<◌}
+use native.Mathlib.Omega.{arith}
+use lib.ListN.{length, drop}
 use Rattle.std.specs.Prelude.{Result, Ok, Err}
 use Rattle.std.specs.Result.{result_and}
 use Rattle.faults.specs.declared.RunFault.{RunFault}
 use Rattle.model.specs.declared.Marks.{Marks}
 use Rattle.model.specs.declared.Channel.{Channel}
 use Rattle.model.specs.declared.Comparison.{Comparison}
-use Rattle.model.specs.Text.{Bytes}
+use Rattle.model.specs.Text.{Bytes, part}
+use Rattle.model.specs.Code as Code
 use Rattle.model.specs.Code.{effect_of}
+use Rattle.model.proofs.Text.{part_most, part-drop}
 use Rattle.model.specs.Machine.{Frame, Step, continues, offers, leaves, state_with, finish, stepped, Outputs}
 use Rattle.code.specs.declared.Ending.{Ending}
 use Rattle.code.specs.declared.Ending.TheVariants.{Offer, Assign, Iterate, Stop, Write, Layout, Copy, Save, Skip, SkipText, SkipValue, Repeat, Again, Leave, Malformed}
@@ -21,10 +25,10 @@ use Rattle.call.specs.Call.{frame_of, Placed}
 use Rattle.call.specs.Params.{Sets}
 use Rattle.iterate.specs.Iterate.{pass_step, StartsPass, EndsPass}
 use Rattle.answer.specs.declared.Turn.TheVariants.{Continues, Offers, Back, Ends}
-use Rattle.answer.specs.Answers.{Answer, goes_on, settle, next_of}
+use Rattle.answer.specs.Answers.{Answer, goes_on, settle, next_of, rooms_of}
 use Rattle.answer.specs.Kept.{Comes}
 use Rattle.answer.proofs.Following.{both_none, stays_same}
-use Rattle.answer.proofs.Coming.{came_on, came_end, came_fault}
+use Rattle.answer.proofs.Coming.{comes_as, came_on, came_end, came_fault}
 use Rattle.answer.proofs.Expansion.{skip-none}
 use Rattle.write.specs.Output.{Writes}
 use Rattle.write.proofs.Lines.{wrote_on}
@@ -35,9 +39,9 @@ use Rattle.carry.specs.Carries.{ReadyToFinish, Finishes}
 
 -- ---- what the leaves ask
 
-module _ {text : Bytes} {to : ℕ} {c : Call} {k : Ending} {line : Bytes} (y : ReadyToFinish text to c k line) where
-  at_ending : {j : Ending} → k ≡ j → ReadyToFinish text to c j line
-  at_ending e = subst (λ (j : Ending). ReadyToFinish text to c j line) e y
+module _ {code : Bytes} {c : Call} {k : Ending} {line : Bytes} (y : ReadyToFinish code c k line) where
+  at_ending : {j : Ending} → k ≡ j → ReadyToFinish code c j line
+  at_ending e = subst (λ (j : Ending). ReadyToFinish code c j line) e y
 
   pub assign_parameter : {d : ℕ} → k ≡ Assign d → Parameter d
   assign_parameter e = (at_ending e).ranged
@@ -45,8 +49,9 @@ module _ {text : Bytes} {to : ℕ} {c : Call} {k : Ending} {line : Bytes} (y : R
   pub iterate_parameter : {d p : ℕ} → k ≡ Iterate d p → Parameter d
   iterate_parameter e = (at_ending e).ranged.0
 
-  pub iterate_within : {d p : ℕ} → k ≡ Iterate d p → p ≤ to
-  iterate_within e = (at_ending e).ranged.1.1
+  -- its delimiters start within the code line
+  pub iterate_within : (text : Bytes) (a b : ℕ) {d p : ℕ} → code ≡ part text a b → a ≤ b → k ≡ Iterate d p → a + p ≤ b
+  iterate_within text a b z h e = omega (arith, (at_ending e).ranged.1, part_most text a b, ap (λ (x : Bytes). length x) z)
 
   pub iterate_depth : {d p : ℕ} → k ≡ Iterate d p → c.depth < 4
   unfolding effect_of
@@ -77,75 +82,80 @@ unfolding pass_step
 pass_comes (Ok u) h q e = came_on h q refl e
 pass_comes (Err fault) h q e = came_fault h q refl e
 
-module _ {m : Marks} {text : Bytes} {to : ℕ} {c : Call} {k : Ending} {line : Bytes} {s : State} {o : Outputs} {r : Answer} (h : Sound text s o) (q : Placed text c) where
-  ends_as : {j : Ending} {s' : State} {c' : Call} {o' : Outputs} → k ≡ j → Finishes m text to c j line s o r s' c' o' → Finishes m text to c k line s o r s' c' o'
-  ends_as {s' = s'} {c'} {o'} e f = subst (λ (j : Ending). Finishes m text to c j line s o r s' c' o') (sym e) f
+module _ {m : Marks} {text code : Bytes} {c : Call} {k : Ending} {line : Bytes} {s : State} {o : Outputs} {r : Answer} (h : Sound text s o) (q : Placed text c) where
+  ends_as : {j : Ending} {s' : State} {c' : Call} {o' : Outputs} → k ≡ j → Finishes m text code c j line s o r s' c' o' → Finishes m text code c k line s o r s' c' o'
+  ends_as {s' = s'} {c'} {o'} e f = subst (λ (j : Ending). Finishes m text code c j line s o r s' c' o') (sym e) f
 
-  pub ends_offer : k ≡ Offer → r ≡ Ok Offers → Finishes m text to c k line s o r s c o
+  pub ends_offer : k ≡ Offer → r ≡ Ok Offers → Finishes m text code c k line s o r s c o
   unfolding finish settle next_of stepped state_with
   ends_offer e f = ends_as e (record {
     comes = subst (λ (x : Answer). Comes m text (offers line (frame_of m text c) (shared_of s o)) s o line x s c o) (sym f)
         (record { same = λ fs _. refl; sound = h; placed = q; stays = stays_same s; extends = both_none h });
   })
 
-  pub ends_assign : {d : ℕ} {c' : Call} → k ≡ Assign d → Sets c d line c' → r ≡ Ok Continues → Finishes m text to c k line s o r s c' o
+  pub ends_assign : {d : ℕ} {c' : Call} → k ≡ Assign d → Sets c d line c' → r ≡ Ok Continues → Finishes m text code c k line s o r s c' o
   unfolding finish
   ends_assign e g f = ends_as e (record { comes = came_on h (g.placed text q) f (ap (λ (x : Frame). continues x (shared_of s o)) (sym (g.frame m text))) })
 
-  pub ends_stop : k ≡ Stop → r ≡ Ok Ends → Finishes m text to c k line s o r s c o
+  pub ends_stop : k ≡ Stop → r ≡ Ok Ends → Finishes m text code c k line s o r s c o
   unfolding finish
   ends_stop e f = ends_as e (record { comes = came_end h q f refl })
 
-  pub ends_leave : k ≡ Leave → r ≡ Ok (Back 0) → Finishes m text to c k line s o r s c o
+  pub ends_leave : k ≡ Leave → r ≡ Ok (Back 0) → Finishes m text code c k line s o r s c o
   unfolding finish settle next_of stepped state_with
   ends_leave e f = ends_as e (record {
     comes = subst (λ (x : Answer). Comes m text (leaves (shared_of s o)) s o line x s c o) (sym f)
         (record { same = λ fs y. sym (skip-none m text fs y s o); sound = h; placed = q; stays = stays_same s; extends = both_none h });
   })
 
-  pub ends_malformed : k ≡ Malformed → r ≡ Ok Continues → Finishes m text to c k line s o r s c o
+  pub ends_malformed : k ≡ Malformed → r ≡ Ok Continues → Finishes m text code c k line s o r s c o
   unfolding finish
   ends_malformed e f = ends_as e (record { comes = came_on h q f refl })
 
   module _ {c' : Call} where
-    pub ends_skip : k ≡ Skip → SkipsBy m text c 1 s r c' → Finishes m text to c k line s o r s c' o
+    pub ends_skip : k ≡ Skip → SkipsBy m text c 1 s r c' → Finishes m text code c k line s o r s c' o
     unfolding finish
     ends_skip e f = ends_as e (record { comes = f.comes o line q h })
 
-    pub ends_text : {w : Bool} → k ≡ SkipText w → SkipsText m text w c s r c' → Finishes m text to c k line s o r s c' o
+    pub ends_text : {w : Bool} → k ≡ SkipText w → SkipsText m text w c s r c' → Finishes m text code c k line s o r s c' o
     unfolding finish
     ends_text e f = ends_as e (record { comes = f.comes o line q h })
 
-    pub ends_value : {j : Comparison} → k ≡ SkipValue j → SkipsValue m text j c s r c' → Finishes m text to c k line s o r s c' o
+    pub ends_value : {j : Comparison} → k ≡ SkipValue j → SkipsValue m text j c s r c' → Finishes m text code c k line s o r s c' o
     unfolding finish
     ends_value e f = ends_as e (record { comes = f.comes o line q h })
 
   -- those after which the call goes on
   module _ {d : Result Unit RunFault} (z : r ≡ result_and d (Ok Continues)) where
-    pub ends_iterate : {i p : ℕ} {c' : Call} → k ≡ Iterate i p → StartsPass m text c i line p to d c' → Finishes m text to c k line s o r s c' o
+    pub ends_iterate : (a b : ℕ) {i p : ℕ} {c' : Call} → code ≡ part text a b → k ≡ Iterate i p → StartsPass m text c i line (a + p) b d c' → Finishes m text code c k line s o r s c' o
     unfolding finish
-    ends_iterate e f = ends_as e (record { comes = done_as d z (pass_comes d h f.placed (f.step (shared_of s o))) })
+    ends_iterate a b {i} {p} w e f =
+        let list : drop p code ≡ part text (a + p) b = ap (λ (x : Bytes). drop p x) w ∙ part-drop text a b p in
+        ends_as e (record {
+          comes = comes_as (ap (λ (x : Bytes). finish (rooms_of o) m (Code.iterate i x) line (frame_of m text c) (shared_of s o)) list)
+              (done_as d z (pass_comes d h f.placed (f.step (shared_of s o))));
+        })
 
-    pub ends_again : {c' : Call} → k ≡ Again → EndsPass m text c d c' → Finishes m text to c k line s o r s c' o
+    pub ends_again : {c' : Call} → k ≡ Again → EndsPass m text c d c' → Finishes m text code c k line s o r s c' o
     unfolding finish
     ends_again e f = ends_as e (record { comes = done_as d z (pass_comes d h f.placed (f.step (shared_of s o))) })
 
-    pub ends_write : {ch : Channel} {s' : State} {o' : Outputs} → k ≡ Write ch → Writes ch line s o d s' o' → Finishes m text to c k line s o r s' c o'
+    pub ends_write : {ch : Channel} {s' : State} {o' : Outputs} → k ≡ Write ch → Writes ch line s o d s' o' → Finishes m text code c k line s o r s' c o'
     unfolding finish
     ends_write e f = ends_as e (record { comes = done_as d z (wrote_on h q f) })
 
-    pub ends_layout : {ch : Channel} {s' : State} {c' : Call} {o' : Outputs} → k ≡ Layout ch → WritesLayoutLine m text ch c s o d c' s' o' → Finishes m text to c k line s o r s' c' o'
+    pub ends_layout : {ch : Channel} {s' : State} {c' : Call} {o' : Outputs} → k ≡ Layout ch → WritesLayoutLine m text ch c s o d c' s' o' → Finishes m text code c k line s o r s' c' o'
     unfolding finish
     ends_layout e f = ends_as e (record { comes = done_as d z (f.comes line h) })
 
-    pub ends_copy : {ch : Channel} {s' : State} {o' : Outputs} → k ≡ Copy ch → CopiesInput m text ch c s o d s' o' → Finishes m text to c k line s o r s' c o'
+    pub ends_copy : {ch : Channel} {s' : State} {o' : Outputs} → k ≡ Copy ch → CopiesInput m text ch c s o d s' o' → Finishes m text code c k line s o r s' c o'
     unfolding finish
     ends_copy e f = ends_as e (record { comes = done_as d z (f.comes line h) })
 
-    pub ends_save : {s' : State} → k ≡ Save → Saves c s d s' → Finishes m text to c k line s o r s' c o
+    pub ends_save : {s' : State} → k ≡ Save → Saves c s d s' → Finishes m text code c k line s o r s' c o
     unfolding finish
     ends_save e f = ends_as e (record { comes = done_as d z (f.comes m text o line q h) })
 
-    pub ends_repeat : {c' : Call} → k ≡ Repeat → Repeats m text c line s d c' → Finishes m text to c k line s o r s c' o
+    pub ends_repeat : {c' : Call} → k ≡ Repeat → Repeats m text c line s d c' → Finishes m text code c k line s o r s c' o
     unfolding finish
     ends_repeat e f = ends_as e (record { comes = done_as d z (f.comes o line q h) })

@@ -35,8 +35,8 @@ use Rattle.answer.specs.Kept.{Open, Comes}
 use Rattle.answer.proofs.Following.{follows_itself}
 use Rattle.answer.proofs.Coming.{comes_as}
 use Rattle.answer.proofs.Expansion.{stepped_at, skip-none, breaks_with, settle-same, settle-nested, next-nested}
-use Rattle.carry.specs.Carries.{Carries, Steps}
-use Rattle.carry.proofs.Carrying.{built-short}
+use Rattle.carry.specs.Carries.{Steps}
+use Rattle.carry.proofs.Carrying.{built-short, Carries}
 use Rattle.carry.proofs.Events.{closes, code_spent, begins}
 
 -- an event is counted
@@ -87,7 +87,7 @@ module _ {m : Marks} {text : Bytes} {c : Call} {x : Option Line} (is_open : Open
     }
 
   module _ (s : State) (b : Text) {line : Line} {c₁ : Call} {x' : State} {o : Outputs} {r : Answer} {s' : State} {c' : Call} {o' : Outputs} (there : x ≡ Some line) (some_fuel : 0 < s.fuel) (moves : Moves c line.next c₁)
-      (ex : x' ≡ counted_event s) (carries : Carries m text c.next line.end c₁ x' o (text_of b) r s' c' o') where
+      (ex : x' ≡ counted_event s) (carries : Carries m text (part text c.next line.end) c₁ x' o (text_of b) r s' c' o') where
     abbrev f : Frame
     f = frame_of m text c
 
@@ -101,7 +101,7 @@ module _ {m : Marks} {text : Bytes} {c : Call} {x : Option Line} (is_open : Open
     came : Comes m text p (counted_event s) o (text_of b) r s' c' o'
     came = comes_as
         (ap (λ (g : Frame). carry_out (rooms_of o) m (parse m true content) g (shared_of s o)) (sym (moves.frame m text)))
-        (subst (λ (y : State). Carries m text c.next line.end c₁ y o (text_of b) r s' c' o') ex carries).comes
+        (subst (λ (y : State). Carries m text content c₁ y o (text_of b) r s' c' o') ex carries).comes
 
     next_ok : (y : Tally) → NextOk m (next_of m text [] y r c' s' (text_of b) o')
     next_ok y =

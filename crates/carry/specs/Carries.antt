@@ -1,14 +1,14 @@
 -- A whole code line, as the expansion carries it out, and its end.
-use Rattle.std.specs.Prelude.{◌≡◌, true, false, List, ◌∷◌, ℕ, ◌≤◌, ◌<◌, length}
+use Rattle.std.specs.Prelude.{◌≡◌, false, List, ◌∷◌, ◌≤◌, ◌<◌, length}
 use Rattle.std.proofs.Math.Option.{none}
 use Rattle.model.specs.Limits.{line_most, nesting_most}
 use Rattle.model.specs.declared.Marks.{Marks}
 use Rattle.model.specs.declared.Effect.TheVariants.{Opens}
-use Rattle.model.specs.Text.{Bytes, part}
-use Rattle.model.specs.Code.{parse, effect_of}
+use Rattle.model.specs.Text.{Bytes}
+use Rattle.model.specs.Code.{effect_of}
 use Rattle.model.specs.Load.{Loaded}
 use Rattle.model.specs.Report.{Tally}
-use Rattle.model.specs.Machine.{Frame, finish, carry_out, running, Outputs}
+use Rattle.model.specs.Machine.{Frame, finish, running, Outputs}
 use Rattle.code.specs.declared.Ending.{Ending}
 use Rattle.code.specs.Tokens.{ending_of, Ranged}
 use Rattle.state.specs.declared.State.{State}
@@ -19,22 +19,16 @@ use Rattle.answer.specs.Answers.{Answer, is_left, next_of, comes_to, rooms_of}
 use Rattle.answer.specs.Kept.{Open, Comes, Follows}
 
 -- what was read of a code line's end, and the line built: an iteration is opened only where it may be
-pub record ReadyToFinish (text : Bytes) (to : ℕ) (c : Call) (k : Ending) (line : Bytes) : Type 0 where
-  pub from : ℕ
-  pub ranged : Ranged from to k
-  pub within : to ≤ length text
-  pub depth : effect_of (ending_of text to k) ≡ Opens → c.depth < nesting_most
+pub record ReadyToFinish (code : Bytes) (c : Call) (k : Ending) (line : Bytes) : Type 0 where
+  pub ranged : Ranged code k
+  pub depth : effect_of (ending_of code k) ≡ Opens → c.depth < nesting_most
   pub short : length line ≤ line_most
 
 -- In the records below c, s and o are the call, the state and the outputs before, and r is the answer; s', c' and o' are they after, with `line` built.
 
--- r is what is done at the end k of the code line that ends before place `to`
-pub record Finishes (m : Marks) (text : Bytes) (to : ℕ) (c : Call) (k : Ending) (line : Bytes) (s : State) (o : Outputs) (r : Answer) (s' : State) (c' : Call) (o' : Outputs) : Type 0 where
-  pub comes : Comes m text (finish (rooms_of o) m (ending_of text to k) line (frame_of m text c) (shared_of s o)) s o line r s' c' o'
-
--- r is what the code line text[at..to] comes to in the call c
-pub record Carries (m : Marks) (text : Bytes) (at to : ℕ) (c : Call) (s : State) (o : Outputs) (line : Bytes) (r : Answer) (s' : State) (c' : Call) (o' : Outputs) : Type 0 where
-  pub comes : Comes m text (carry_out (rooms_of o) m (parse m true (part text at to)) (frame_of m text c) (shared_of s o)) s o line r s' c' o'
+-- r is what is done at the end k of a code line
+pub record Finishes (m : Marks) (text code : Bytes) (c : Call) (k : Ending) (line : Bytes) (s : State) (o : Outputs) (r : Answer) (s' : State) (c' : Call) (o' : Outputs) : Type 0 where
+  pub comes : Comes m text (finish (rooms_of o) m (ending_of code k) line (frame_of m text c) (shared_of s o)) s o line r s' c' o'
 
 -- r is what the expansion comes to from the next code line of the call c on, whoever its callers are
 pub record Steps (m : Marks) (text : Bytes) (c : Call) (s : State) (o : Outputs) (line : Bytes) (r : Answer) (s' : State) (c' : Call) (o' : Outputs) : Type 0 where

@@ -1,4 +1,5 @@
 -- finish_code does what the ending says: each arm is its leaf's.
+use mathlib.Core.Path.{refl}
 use borrow.Author.Rules.{rules}
 use Rattle.carry.proofs.Endings.{assign_parameter, iterate_parameter, iterate_within, iterate_depth, repeat_depth, copy-ready}
 use Rattle.carry.proofs.Endings.{ends_offer, ends_assign, ends_iterate, ends_stop, ends_write, ends_layout, ends_copy, ends_save, ends_skip, ends_text, ends_value, ends_repeat, ends_again, ends_leave, ends_malformed}
@@ -6,30 +7,32 @@ use Rattle.carry.proofs.finish_code.Goals as goal
 
 pub set_param-requires : goal.set_param-requires
 set_param-requires c =
-    let ready = c.requires.placed.1 in
+    let ready = c.requires.ready in
     let d = assign_parameter ready c.in-Assign.is in
     (d.least, d.most, ready.short)
 
 pub start_pass-requires : goal.start_pass-requires
 start_pass-requires c =
-    let ready = c.requires.placed.1 in
+    let pre = c.requires in
     let e = c.in-Iterate.is in
-    let d = iterate_parameter ready e in
+    let d = iterate_parameter pre.ready e in
+    let code = c.args.code in
+    let within = iterate_within pre.ready c.args.marked.now.text.now code.start code.end refl pre.code_in_bounds.0 e in
     record {
-      placed = c.requires.placed.0;
-      depth_lt_nesting_most = (iterate_depth ready e, (d.least, d.most));
-      line_len_bound = (ready.short, (iterate_within ready e, ready.within));
+      placed = pre.sound.1;
+      depth_lt_nesting_most = (iterate_depth pre.ready e, (d.least, d.most));
+      line_len_bound = (pre.ready.short, (within, pre.code_in_bounds.1));
     }
 
 pub copy_input-requires : goal.copy_input-requires
 copy_input-requires c =
-    let pre = c.requires in
-    (pre.placed.0, copy-ready pre.sound)
+    let sound = c.requires.sound in
+    (sound.1, copy-ready sound.0)
 
 pub repeat-requires : goal.repeat-requires
 repeat-requires c =
     let pre = c.requires in
-    (pre.placed.0.next, repeat_depth pre.placed.1 c.in-Repeat.is)
+    (pre.sound.1.next, repeat_depth pre.ready c.in-Repeat.is)
 
 pub returns-in-Offer : goal.returns-in-Offer
 returns-in-Offer c = search (ends_offer, rules)
@@ -39,31 +42,31 @@ returns-in-Assign c = search (ends_assign, rules)
 
 pub returns-in-Iterate : goal.returns-in-Iterate
 returns-in-Iterate c =
-    let pre = c.requires in
-    ends_iterate pre.sound pre.placed.0 c.and.ensures c.in-Iterate.is c.start_pass.ensures
+    let sound = c.requires.sound in
+    ends_iterate sound.0 sound.1 c.and.ensures _ c.args.code.end refl c.in-Iterate.is c.start_pass.ensures
 
 pub returns-in-Stop : goal.returns-in-Stop
 returns-in-Stop c = search (ends_stop, rules)
 
 pub returns-in-Write : goal.returns-in-Write
 returns-in-Write c =
-    let pre = c.requires in
-    ends_write pre.sound pre.placed.0 c.and-in-Write.ensures c.in-Write.is c.write.ensures
+    let sound = c.requires.sound in
+    ends_write sound.0 sound.1 c.and-in-Write.ensures c.in-Write.is c.write.ensures
 
 pub returns-in-Layout : goal.returns-in-Layout
 returns-in-Layout c =
-    let pre = c.requires in
-    ends_layout pre.sound pre.placed.0 c.and-in-Layout.ensures c.in-Layout.is c.write_layout_line.ensures
+    let sound = c.requires.sound in
+    ends_layout sound.0 sound.1 c.and-in-Layout.ensures c.in-Layout.is c.write_layout_line.ensures
 
 pub returns-in-Copy : goal.returns-in-Copy
 returns-in-Copy c =
-    let pre = c.requires in
-    ends_copy pre.sound pre.placed.0 c.and-in-Copy.ensures c.in-Copy.is c.copy_input.ensures
+    let sound = c.requires.sound in
+    ends_copy sound.0 sound.1 c.and-in-Copy.ensures c.in-Copy.is c.copy_input.ensures
 
 pub returns-in-Save : goal.returns-in-Save
 returns-in-Save c =
-    let pre = c.requires in
-    ends_save pre.sound pre.placed.0 c.and-in-Save.ensures c.in-Save.is c.save.ensures
+    let sound = c.requires.sound in
+    ends_save sound.0 sound.1 c.and-in-Save.ensures c.in-Save.is c.save.ensures
 
 pub returns-in-Skip : goal.returns-in-Skip
 returns-in-Skip c = search (ends_skip, rules)
@@ -76,13 +79,13 @@ returns-in-SkipValue c = search (ends_value, rules)
 
 pub returns-in-Repeat : goal.returns-in-Repeat
 returns-in-Repeat c =
-    let pre = c.requires in
-    ends_repeat pre.sound pre.placed.0 c.and-in-Repeat.ensures c.in-Repeat.is c.repeat.ensures
+    let sound = c.requires.sound in
+    ends_repeat sound.0 sound.1 c.and-in-Repeat.ensures c.in-Repeat.is c.repeat.ensures
 
 pub returns-in-Again : goal.returns-in-Again
 returns-in-Again c =
-    let pre = c.requires in
-    ends_again pre.sound pre.placed.0 c.and-in-Again.ensures c.in-Again.is c.end_pass.ensures
+    let sound = c.requires.sound in
+    ends_again sound.0 sound.1 c.and-in-Again.ensures c.in-Again.is c.end_pass.ensures
 
 pub returns-in-Leave : goal.returns-in-Leave
 returns-in-Leave c = search (ends_leave, rules)

@@ -4,6 +4,8 @@ use mathlib.Core.Path.{refl}
 use native.Mathlib.Nat.{pos_of_ne-zero}
 use native.Mathlib.Omega.{arith}
 use Rattle.scan.proofs.Places.{code_line}
+use Rattle.carry.proofs.Carrying.{ready, carries_halt, carries_finish}
+use Rattle.build.proofs.Callers.{builds_sound}
 use Rattle.carry.proofs.Stepping.{counted_sound, few_open, steps_back, steps_spent, steps_on}
 use Rattle.carry.proofs.step.Goals as goal
 
@@ -17,20 +19,37 @@ returns-then-s-eq0 c =
     let pre = c.requires in
     steps_spent pre.1 c.read_code.ensures pre.0 c.args.line.now c.in-Some.is c.if-s-eq0.true refl
 
-pub carry-requires : goal.carry-requires
-carry-requires c =
+pub build_line-requires : goal.build_line-requires
+build_line-requires c =
+    let pre = c.requires in
+    let moved = c.move_to.ensures.placed _ pre.1.placed (code_line c.read_code.ensures c.in-Some.is).within in
+    let sound = counted_sound pre.0 (pos_of_ne-zero c.if-s-eq0.false) c.count_event.ensures in
+    record { symbols = sound.symbols; number = moved.number }
+
+pub returns-in_err-ending : goal.returns-in_err-ending
+returns-in_err-ending c =
+    let pre = c.requires in
+    let some_fuel = pos_of_ne-zero c.if-s-eq0.false in
+    let moved = c.move_to.ensures.placed _ pre.1.placed (code_line c.read_code.ensures c.in-Some.is).within in
+    let halts = carries_halt c.build_line.ensures c.in_err-ending.was (counted_sound pre.0 some_fuel c.count_event.ensures) moved c.from_residual.ensures.1 in
+    steps_on pre.1 c.read_code.ensures _ c.build_line.new.line c.in-Some.is some_fuel c.move_to.ensures c.count_event.ensures halts
+
+pub finish_code-requires : goal.finish_code-requires
+finish_code-requires c =
     let pre = c.requires in
     let code = code_line c.read_code.ensures c.in-Some.is in
     let moves = c.move_to.ensures in
-    let some_fuel = pos_of_ne-zero c.if-s-eq0.false in
+    let builds = c.build_line.ensures in
+    let sound = counted_sound pre.0 (pos_of_ne-zero c.if-s-eq0.false) c.count_event.ensures in
     record {
-      at_le_to = (code.low, omega (arith, code.high, code.within));
-      sound = (counted_sound pre.0 some_fuel c.count_event.ensures, moves.placed _ pre.1.placed code.within);
-      depth_lt_nesting_most = few_open pre.1 c.read_code.ensures c.in-Some.is moves;
+      sound = (builds_sound builds sound, moves.placed _ pre.1.placed code.within);
+      code_in_bounds = (code.low, omega (arith, code.high, code.within));
+      ready = ready builds c.in_ok-ending.was c.as_bytes.ensures (few_open pre.1 c.read_code.ensures c.in-Some.is moves);
     }
 
 pub returns : goal.returns
 returns c =
     let pre = c.requires in
     let some_fuel = pos_of_ne-zero c.if-s-eq0.false in
-    steps_on pre.1 c.read_code.ensures _ c.carry.new.line c.in-Some.is some_fuel c.move_to.ensures c.count_event.ensures c.carry.ensures
+    let finishes = carries_finish c.build_line.ensures c.in_ok-ending.was c.as_bytes.ensures c.finish_code.ensures in
+    steps_on pre.1 c.read_code.ensures _ c.build_line.new.line c.in-Some.is some_fuel c.move_to.ensures c.count_event.ensures finishes
