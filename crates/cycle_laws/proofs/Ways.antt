@@ -46,6 +46,22 @@ use Rattle.matching.proofs.Counting.{decided_counts, passed_tally, chosen_tally}
 use Rattle.cycle_laws.specs.Meets.{Meets, Advances}
 use Rattle.cycle_laws.proofs.Events.{event_with, offer_spent, no_call, too_deep, enters}
 
+-- ---- what a function goes by, of which it was lent parts
+
+module _ {v w : Basis} (e : v ≡ w) where
+  pub chosen_by : {line : Bytes} {c : Choice} → Chooses v.marks v.nodes v.count line c → Chooses w.marks w.nodes w.count line c
+  chosen_by {line} {c} = subst (λ (u : Basis). Chooses u.marks u.nodes u.count line c) e
+
+  pub opened_by : {line : Bytes} {x : Reading} {number : ℕ} {c : Call} → Opened v.bodies line x number c → Opened w.bodies line x number c
+  opened_by {line} {x} {number} {c} = subst (λ (u : Basis). Opened u.bodies line x number c) e
+
+  pub steps_by : {c : Call} {s : State} {o : Outputs} {b : Bytes} {q : Answer} {s₁ : State} {c₁ : Call} {o₁ : Outputs}
+      → Steps v.marks v.text c s o b q s₁ c₁ o₁ → Steps w.marks w.text c s o b q s₁ c₁ o₁
+  steps_by {c} {s} {o} {b} {q} {s₁} {c₁} {o₁} = subst (λ (u : Basis). Steps u.marks u.text c s o b q s₁ c₁ o₁) e
+
+  pub lands_by : {c : Call} {z : Turn} {a : Answer} {c₂ : Call} → LandsTurn v.marks v.text c z a c₂ → LandsTurn w.marks w.text c z a c₂
+  lands_by {c} {z} {a} {c₂} = subst (λ (u : Basis). LandsTurn u.marks u.text c z a c₂) e
+
 -- ---- the states that follow one another
 
 -- an event is counted, and perhaps a call with it

@@ -27,10 +27,6 @@ use Rattle.matching.specs.Matches.{opened, Opening, Opened, Calls}
 
 -- ---- what callers take
 
--- the tree of a text that is loaded can be searched, with room for its dead places
-pub book_asks : {b : Basis} {line dead : Bytes} → Prepared b → length line ≤ 200 → 51456 ≤ length dead → Fits b.nodes b.count dead line
-book_asks p s d = can_fit p.book.fits s d
-
 -- what is known where none is found
 pub found_none : {m : Marks} {row : List Node} {count : ℕ} {line : Bytes} {c : Choice} → Chooses m row count line c → c.reading ≡ None → (ts : List Bytes) → TreeAt m row count ts → chosen m ts line ≡ none
 found_none g e = g.no_call (subst (λ (y : Option Reading). IsNone y) (sym e) refl)

@@ -8,8 +8,6 @@ ghost use Rattle.model.specs.Limits.{macros_most, fuel_most};
 ghost use Rattle.usage.specs.Counts.{Counts};
 ghost use Rattle.matching.specs.Matches.{chosen_place, CountsDecided, Decides, Opening, Opened};
 
-use std::marker::Model;
-
 use call::Call;
 use faults::RunFault;
 use fit::{Choice, Reading};
@@ -17,6 +15,7 @@ use model::{CALLS_MOST, MACROS_MOST};
 use nodes::Node;
 use scan::Marked;
 use state::State;
+use std::marker::Model;
 use usage::count_line;
 use write::pass_through;
 
@@ -83,6 +82,7 @@ pub fn decide(
 }
 
 // The call with that number of the body of a reading's template, with the pieces of a line as its parameters.
+// The number is the call's of document 01, which counts calls: it is no kind, and so no enum.
 pub fn open_reading(bodies: &[usize], line: &[u8], reading: Reading, number: usize) -> Call
     requires { Opening bodies.now line.now reading }
     ensures { Opened bodies.now line.now reading number result }
