@@ -10,9 +10,6 @@ use native.Mathlib.Numerals.{add-one}
 use borrow.Author.Tests.{ltb-true}
 use lib.ListN.{length, get_or}
 use Rattle.model.specs.Text.{Bytes}
-use Rattle.macros.specs.declared.Table.{Table}
-use Rattle.macros.specs.Table.{order_in, template_in, templates_in, Entries}
-use Rattle.macros.proofs.Entries.{templates_in_length}
 use Rattle.templates.specs.Count.{common, longest, Counted}
 use Rattle.templates.specs.Keys.{byte_key}
 use Rattle.templates.specs.Order.{precedes, placed, InOrder, Finds, Compared}
@@ -20,7 +17,6 @@ use Rattle.templates.proofs.Count.{longest_upper, longest_reached, counted}
 use Rattle.templates.proofs.Matching.{common-same, common_other}
 use Rattle.templates.proofs.Keys.{eq_or, lt_or}
 use Rattle.templates.proofs.Order.{first_keys, precedes_trans}
-use Rattle.templates.proofs.Placed.{placed_is}
 
 -- ---- a template between two others
 
@@ -187,49 +183,44 @@ module _ {p : ℕ} {ts : List Bytes} {order : ℕ → ℕ} {c : Bytes} (so : InO
 
 -- ---- the loop
 
--- the template c goes to a place from low up to high of the order of the first k, and is neither of its neighbours there
-pub record Seeking (p : ℕ) (text : Bytes) (t : Table) (k : ℕ) (c : Bytes) (low high below above : ℕ) : Type 0 where
+-- the template c goes to a place from low up to high of the order of k templates, and is neither of its neighbours there
+pub record Seeking (p : ℕ) (ts : List Bytes) (order : ℕ → ℕ) (c : Bytes) (k low high below above : ℕ) : Type 0 where
   pub few : high ≤ k
-  pub narrowed : Narrowed p (templates_in text t k) (order_in t) c low high below above
+  pub narrowed : Narrowed p ts order c low high below above
   pub other : max below above ≤ length c
 
-module _ {p : ℕ} {text : Bytes} {t : Table} {k : ℕ} {c : Bytes} (so : Entries text t k × InOrder p (templates_in text t k) (order_in t)) where
+module _ {p : ℕ} {ts : List Bytes} {order : ℕ → ℕ} {c : Bytes} {k : ℕ} (so : InOrder p ts order) where
   -- at first it can be any place
-  pub seek_all : Seeking p text t k c 0 k 0 0
-  seek_all = record { few = omega arith; narrowed = narrowed_none so.1 k (sym (templates_in_length text t k)); other = omega arith }
+  pub seek_all : k ≡ length ts → Seeking p ts order c k 0 k 0 0
+  seek_all e = record { few = omega arith; narrowed = narrowed_none so k e; other = omega arith }
 
-  module _ {low high below above : ℕ} (n : Seeking p text t k c low high below above) where
-    module _ (u : low < high) {i m : ℕ} {d : Bytes} (q : i ≡ order_in t ((low + high) / 2)) (a : d ≡ template_in text t i) (e : m ≡ common c d) where
-      -- the template in the middle is the one that is read there
-      middle : d ≡ placed (templates_in text t k) (order_in t) ((low + high) / 2)
-      middle = a ∙ placed_is so ((low + high) / 2) i (omega (arith, n.few)) q
-
-      -- and has so much in common with the new one
-      middle_common : m ≡ common c (placed (templates_in text t k) (order_in t) ((low + high) / 2))
-      middle_common = e ∙ ap (common c) middle
+  module _ {low high below above : ℕ} (n : Seeking p ts order c k low high below above) where
+    -- the template in the middle has so much in common with the new one
+    module _ (u : low < high) {m : ℕ} {d : Bytes} (a : d ≡ placed ts order ((low + high) / 2)) (e : m ≡ common c d) where
+      middle_common : m ≡ common c (placed ts order ((low + high) / 2))
+      middle_common = e ∙ ap (common c) a
 
       -- it is the same template
-      pub seek_same : length c < m → Counted (templates_in text t k) c 0
-      seek_same v = (narrowed_same so.1 n.narrowed ((low + high) / 2) m (omega arith) (omega arith) middle_common v).counted
+      pub seek_same : length c < m → Counted ts c 0
+      seek_same v = (narrowed_same so n.narrowed ((low + high) / 2) m (omega arith) (omega arith) middle_common v).counted
 
       module _ (v : m ≤ length c) {r : Bool} (h : Compared p c d m r) where
         -- the new one stands before it
-        pub seek_low : r ≡ true → Seeking p text t k c low ((low + high) / 2) below m
+        pub seek_low : r ≡ true → Seeking p ts order c k low ((low + high) / 2) below m
         seek_low z = record {
           few = omega (arith, n.few);
-          narrowed = narrowed_low so.1 n.narrowed ((low + high) / 2) m (omega arith) (omega arith) middle_common (rw middle at (h.less z (sym e) v));
+          narrowed = narrowed_low so n.narrowed ((low + high) / 2) m (omega arith) (omega arith) middle_common (rw a at (h.less z (sym e) v));
           other = omega (arith, n.other);
         }
 
         -- or after it
-        pub seek_high : r ≡ false → Seeking p text t k c ((low + high) / 2 + 1) high m above
+        pub seek_high : r ≡ false → Seeking p ts order c k ((low + high) / 2 + 1) high m above
         seek_high z = record {
           few = n.few;
-          narrowed = narrowed_high so.1 n.narrowed ((low + high) / 2) m (omega arith) (omega arith) middle_common (rw middle at (h.more z (sym e) v));
+          narrowed = narrowed_high so n.narrowed ((low + high) / 2) m (omega arith) (omega arith) middle_common (rw a at (h.more z (sym e) v));
           other = omega (arith, n.other);
         }
 
     -- the place is found
-    pub sought : high ≤ low → (new : ℕ) → new ≡ length c + 1 - max below above
-        → (0 < new) × Finds p (templates_in text t k) (order_in t) c low new
-    sought u new e = (omega (arith, n.other), narrowed_done so.1 n.narrowed u new (omega arith))
+    pub sought : high ≤ low → (new : ℕ) → new ≡ length c + 1 - max below above → (0 < new) × Finds p ts order c low new
+    sought u new e = (omega (arith, n.other), narrowed_done so n.narrowed u new (omega arith))

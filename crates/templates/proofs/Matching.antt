@@ -27,9 +27,6 @@ pub record Matching (s t : Bytes) (x : ℕ) : Type 0 where
   pub in_t : x ≤ length t
   pub rest : common s t ≡ x + common (drop x s) (drop x t)
 
-pub match_none : (s t : Bytes) → Matching s t 0
-match_none s t = record { in_s = omega arith; in_t = omega arith; rest = omega arith }
-
 module _ (s t : Bytes) (x : ℕ) (m : Matching s t x) where
   module _ (u : x < length s) (v : x < length t) where
     -- they differ here

@@ -8,7 +8,6 @@ use Rattle.model.specs.Text.{Bytes}
 use Rattle.macros.specs.declared.Table.{Table}
 use Rattle.macros.specs.Table.{start_in, len_in, order_in, template_in, templates_in, Entries}
 use Rattle.macros.proofs.Entries.{templates_in_length, templates_in_at}
-use Rattle.templates.specs.Keys.{key_of, keys, Key}
 use Rattle.templates.specs.Order.{placed, InOrder}
 
 module _ {p : ℕ} {text : Bytes} {t : Table} {n : ℕ} (h : Entries text t n × InOrder p (templates_in text t n) (order_in t)) (i k : ℕ) (u : i < n) (q : k ≡ order_in t i) where
@@ -22,6 +21,3 @@ module _ {p : ℕ} {text : Bytes} {t : Table} {n : ℕ} (h : Entries text t n ×
 
   pub placed_is : template_in text t k ≡ placed (templates_in text t n) (order_in t) i
   placed_is = sym (templates_in_at text t n k order_within) ∙ ap (λ (j : ℕ). get_or (templates_in text t n) j []) q
-
-  pub placed_key : (x r : ℕ) {c : Bytes} → c ≡ template_in text t k → Key p c x r → r ≡ keys p (templates_in text t n) (order_in t i) x
-  placed_key x r {c} e z = z.is ∙ ap (λ (c : Bytes). key_of p c x) (e ∙ placed_is)

@@ -3,3 +3,4 @@ pub mod Count
 pub mod Keys
 pub mod Order
 pub mod Unique
+pub mod Listed

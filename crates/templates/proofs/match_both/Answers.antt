@@ -1,10 +1,7 @@
 -- match_both answers how many elements two templates have in common.
 use borrow.Author.Rules.{rules}
-use Rattle.templates.proofs.Matching.{match_none, match_differ, match_more, match_all, match_one}
+use Rattle.templates.proofs.Matching.{match_differ, match_more, match_all, match_one}
 use Rattle.templates.proofs.match_both.Goals as goal
-
-pub loop-x-init : goal.loop-x-init
-loop-x-init c = match_none _ _
 
 pub returns-then-s-x : goal.returns-then-s-x
 returns-then-s-x c = search (match_differ, rules)
