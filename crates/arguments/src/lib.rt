@@ -14,41 +14,48 @@ pub struct Names {
     pub report: Option<usize>,
 }
 
-// Whether argument i, of so many, says this.
-fn says(env: &impl Env, count: usize, i: usize, what: Argument) -> bool
-    ensures { IsTrue result → i < count }
-{
-    let mut space = [0u8; ARGUMENT_ROOM];
-    i < count && read_argument(arg(env, i, &mut space)) == what
+// A program's arguments, and how many there are, the program's own name among them.
+#[derive(Drop)]
+struct Arguments<'a, E: Env> {
+    env: &'a E,
+    count: usize,
 }
 
-// Argument i, if it is a name.
-fn find_name(env: &impl Env, count: usize, i: usize) -> Option<usize>
-    ensures { IfSome result (λ j. j < count) }
-{
-    says(env, count, i, Argument::Name).then_some(i)
-}
-
-// The name behind argument i, if that is this option.
-fn find_option(env: &impl Env, count: usize, i: usize, option: Argument) -> Option<usize>
-    ensures { IfSome result (λ j. j < count) }
-{
-    if says(env, count, i, option) {
-        return find_name(env, count, i + 1);
+impl<'a, E: Env> Arguments<'a, E> {
+    // Whether argument i says this.
+    fn says(&self, i: usize, what: Argument) -> bool
+        ensures { IsTrue result → i < self.now.count }
+    {
+        let mut space = [0u8; ARGUMENT_ROOM];
+        i < self.count && read_argument(arg(self.env, i, &mut space)) == what
     }
-    None
+
+    // Argument i, if it is a name.
+    fn find_name(&self, i: usize) -> Option<usize>
+        ensures { IfSome result (λ j. j < self.now.count) }
+    {
+        self.says(i, Argument::Name).then_some(i)
+    }
+
+    // The name behind argument i, if that is this option.
+    fn find_option(&self, i: usize, option: Argument) -> Option<usize>
+        ensures { IfSome result (λ j. j < self.now.count) }
+    {
+        if self.says(i, option) {
+            return self.find_name(i + 1);
+        }
+        None
+    }
 }
 
 // With so many arguments, the program's own name among them: a text's file, then -4 and a file, then --report and a file, each or none.
-pub fn find_names(env: &impl Env, count: usize) -> Option<Names> {
-    let file = find_name(env, count, 1);
-    let second = find_option(env, count, file.unwrap_or(0) + 1, Argument::Second);
-    let report = find_option(
-        env,
-        count,
-        second.or(file).unwrap_or(0) + 1,
-        Argument::Report,
-    );
+pub fn find_names(env: &impl Env, count: usize) -> Option<Names>
+    ensures { IfSome result (λ n. IfSome n.file (λ i. i < count) × IfSome n.second (λ i. i < count) × IfSome n.report (λ i. i < count)) }
+{
+    let arguments = Arguments { env, count };
+    let file = arguments.find_name(1);
+    let second = arguments.find_option(file.unwrap_or(0) + 1, Argument::Second);
+    let report = arguments.find_option(second.or(file).unwrap_or(0) + 1, Argument::Report);
     let last = report.or(second).or(file).unwrap_or(0);
     (count <= last + 1).then_some(Names {
         file,

@@ -38,9 +38,6 @@ counted_event s = record s { events = s.events + 1; fuel = s.fuel - 1 }
 abbrev pub with_store : State → Store → State
 with_store s x = record s { store = x }
 
-abbrev pub with_symbol : State → Store → State
-with_symbol s x = record s { symbols = s.symbols + 1; store = x }
-
 abbrev pub with_written : State → (first second : ℕ) → State
 with_written s n k = record s { written = n; second = k }
 
