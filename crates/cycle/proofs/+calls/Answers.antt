@@ -1,11 +1,12 @@
 -- Each way through an offer, a body and a code line, by its law.
-use Rattle.std.proofs.Common.{refl, sym, ap, ◌∙◌, arith}
+use Rattle.std.proofs.Common.{refl, sym, ap, ◌∙◌, subst, arith}
 use borrow.Author.Rules.{rules}
 use lib.ListN.{length}
 use Rattle.model.specs.Text.{Bytes}
 use Rattle.matching.proofs.Matching.{choice_opening}
 use Rattle.matching.proofs.Counting.{choice_below}
-use Rattle.cycle_laws.proofs.Ways.{offer_fails, offer_passes, offer_opens, called_sound, called_less, called_counts, called_open, offer_enters, offer_placed, offer_less, turns_else, advance_takes, advance_fails, advance_lands, running_starts, running_on, body_left}
+use Rattle.matching.specs.Book.{Prepared}
+use Rattle.cycle_laws.proofs.Ways.{chosen_by, opened_by, steps_by, lands_by, offer_fails, offer_passes, offer_opens, called_sound, called_less, called_counts, called_open, offer_enters, offer_placed, offer_less, turns_else, advance_takes, advance_fails, advance_lands, running_starts, running_on, body_left}
 use Rattle.answer.specs.Answers.{is_offer}
 use Rattle.std.specs.Prelude.{Ok}
 use Rattle.usage.proofs.Counts.{counts_less}
@@ -14,41 +15,45 @@ use Rattle.cycle.proofs.+calls.Goals as goal
 -- ---- a line is offered
 
 pub offer-count_decided-requires : goal.offer-count_decided-requires
-offer-count_decided-requires t c = (c.requires.5, choice_below c.requires.0 c.first_reading-found.ensures)
+offer-count_decided-requires t c = (c.requires.4, choice_below c.script.invariant c.first_reading-found.ensures)
 
 pub offer-returns-in_err-decide : goal.offer-returns-in_err-decide
-offer-returns-in_err-decide t c = offer_fails c.requires.1 c.requires.5 c.first_reading-found.ensures c.count_decided.ensures c.decide.ensures c.in_err-decide.was (search rules)
+offer-returns-in_err-decide t c =
+    let g = chosen_by c.script.view_is c.first_reading-found.ensures in
+    offer_fails c.requires.0 c.requires.4 g c.count_decided.ensures c.decide.ensures c.in_err-decide.was (search rules)
 
 pub offer-returns-in_default : goal.offer-returns-in_default
-offer-returns-in_default t c = offer_passes c.requires.1 c.requires.5 c.first_reading-found.ensures c.count_decided.ensures c.decide.ensures c.in_ok-decide.was c.in_default.is
+offer-returns-in_default t c =
+    let g = chosen_by c.script.view_is c.first_reading-found.ensures in
+    offer_passes c.requires.0 c.requires.4 g c.count_decided.ensures c.decide.ensures c.in_ok-decide.was c.in_default.is
 
 pub offer-open_reading-call-requires : goal.offer-open_reading-call-requires
-offer-open_reading-call-requires t c = choice_opening c.first_reading-found.ensures c.in-Some.is c.requires.0 c.requires.2
+offer-open_reading-call-requires t c = choice_opening c.first_reading-found.ensures c.in-Some.is c.script.invariant c.requires.1
 
 pub offer-body-requires : goal.offer-body-requires
 offer-body-requires t c =
     let opens = offer_opens c.first_reading-found.result c.decide.ensures c.in_ok-decide.was c.in-Some.is in
     let called = c.add_call.ensures in (
-      omega (arith, called_less c.requires.1 opens called, c.decreases),
+      omega (arith, called_less c.requires.0 opens called, c.decreases),
       (
-        c.requires.0,
-        called_sound c.requires.1 opens called,
-        called_open c.requires.1 opens called c.first_reading-found.ensures c.open_reading-call.ensures c.requires.0,
-        omega (arith, c.requires.3, opens.shallow),
-        omega (arith, c.requires.4, c.first_reading-found.auto.dead),
-        called_counts c.requires.1 opens called c.requires.5 c.count_decided.ensures,
+        called_sound c.requires.0 opens called,
+        called_open c.requires.0 opens called (chosen_by c.script.view_is c.first_reading-found.ensures) (opened_by c.script.view_is c.open_reading-call.ensures) (subst Prepared c.script.view_is c.script.invariant),
+        omega (arith, c.requires.2, opens.shallow),
+        omega (arith, c.requires.3, c.first_reading-found.auto.dead),
+        called_counts c.requires.0 opens called c.requires.4 c.count_decided.ensures,
       ),
     )
 
 pub offer-returns : goal.offer-returns
 offer-returns t c =
     let opens = offer_opens c.first_reading-found.result c.decide.ensures c.in_ok-decide.was c.in-Some.is in
-    offer_enters c.requires.1 opens c.add_call.ensures c.first_reading-found.ensures c.open_reading-call.ensures c.requires.3 c.count_decided.ensures c.body.ensures
+    let g = chosen_by c.script.view_is c.first_reading-found.ensures in
+    offer_enters c.requires.0 opens c.add_call.ensures g (opened_by c.script.view_is c.open_reading-call.ensures) c.requires.2 c.count_decided.ensures c.body.ensures
 
 -- ---- a body
 
 pub body-loop-turn-init : goal.body-loop-turn-init
-body-loop-turn-init t c = running_starts c.requires.1 c.requires.5 c.requires.2
+body-loop-turn-init t c = running_starts c.requires.0 c.requires.4 c.requires.1
 
 pub body-returns-in_err-turn : goal.body-returns-in_err-turn
 body-returns-in_err-turn t c = body_left c.loop-turn.invariant c.in_err-turn.ensures refl (search rules)
@@ -62,23 +67,22 @@ body-loop-turn-preserved t c = running_on c.loop-turn.invariant c.in_ok-turn.ens
 -- ---- a code line
 
 pub advance-returns-in_err-turn : goal.advance-returns-in_err-turn
-advance-returns-in_err-turn t c = advance_takes c.in_err-turn.ensures c.requires.5 refl (search rules)
+advance-returns-in_err-turn t c = advance_takes (steps_by c.script.view_is c.in_err-turn.ensures) c.requires.4 refl (search rules)
 
 pub advance-returns-in_default : goal.advance-returns-in_default
-advance-returns-in_default t c = advance_takes c.in_ok-turn.ensures c.requires.5 (turns_else _ c.in_default.not-Offers) refl
+advance-returns-in_default t c = advance_takes (steps_by c.script.view_is c.in_ok-turn.ensures) c.requires.4 (turns_else _ c.in_default.not-Offers) refl
 
 pub advance-offer-requires : goal.advance-offer-requires
 advance-offer-requires t c =
     let offers = ap (λ z. is_offer (Ok z)) c.in-Offers.is in
-    let steps = c.in_ok-turn.ensures in (
+    let steps = steps_by c.script.view_is c.in_ok-turn.ensures in (
       omega (arith, offer_less steps offers, c.decreases),
       (
-        c.requires.0,
         steps.follows.sound,
         omega (arith, ap (λ (l : Bytes). length l) c.as_bytes.ensures, steps.short),
-        omega (arith, c.requires.3),
-        c.requires.4,
-        counts_less c.requires.5 steps.follows.fuel,
+        omega (arith, c.requires.2),
+        c.requires.3,
+        counts_less c.requires.4 steps.follows.fuel,
       ),
     )
 
@@ -87,8 +91,10 @@ advance-land-requires t c = offer_placed c.in_ok-turn.ensures (ap (λ z. is_offe
 
 pub advance-returns-in_err-offered : goal.advance-returns-in_err-offered
 advance-returns-in_err-offered t c =
-    advance_fails c.in_ok-turn.ensures (ap (λ z. is_offer (Ok z)) c.in-Offers.is) c.as_bytes.ensures c.offer.ensures c.in_err-offered.was (search rules)
+    let steps = steps_by c.script.view_is c.in_ok-turn.ensures in
+    advance_fails steps (ap (λ z. is_offer (Ok z)) c.in-Offers.is) c.as_bytes.ensures c.offer.ensures c.in_err-offered.was (search rules)
 
 pub advance-returns : goal.advance-returns
 advance-returns t c =
-    advance_lands c.in_ok-turn.ensures (ap (λ z. is_offer (Ok z)) c.in-Offers.is) c.as_bytes.ensures c.offer.ensures c.in_ok-offered.was c.land.ensures
+    let steps = steps_by c.script.view_is c.in_ok-turn.ensures in
+    advance_lands steps (ap (λ z. is_offer (Ok z)) c.in-Offers.is) c.as_bytes.ensures c.offer.ensures c.in_ok-offered.was (lands_by c.script.view_is c.land.ensures)

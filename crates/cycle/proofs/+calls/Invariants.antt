@@ -17,7 +17,7 @@ decreases-advance l = 2 * l.s.now.fuel
 
 abbrev pub invariant-body-loop-turn : goal.invariant-body-loop-turn
 invariant-body-loop-turn l =
-    Running l.m l.text l.nodes l.count l.bodies l.depth (frame_of l.m l.text l.initial.call) l.initial.s (outputs l.initial.output l.initial.second) l.initial.counts
+    Running l.script l.depth (frame_of l.script.marks l.script.text l.initial.call) l.initial.s (outputs l.initial.output l.initial.second) l.initial.counts
     l.call l.s (outputs l.output l.second) l.counts
 
 abbrev pub decreases-body-loop-turn : goal.decreases-body-loop-turn
