@@ -11,53 +11,47 @@ use Rattle.state.specs.declared.State.{State}
 use Rattle.state.specs.State.{with_input}
 use Rattle.input.specs.Expands.{DropsLines}
 
--- ---- input lines dropped
+-- s' is s with k of the n lines that are to be dropped read, or with the input at its end
+pub record Dropping (text : Bytes) (n : ℕ) (s s' : State) (k : ℕ) : Type 0 where
+  pub is : s' ≡ with_input s s'.at s'.line
+  pub input : drop (n - k) (lines (drop s'.at text)) ≡ drop n (lines (drop s.at text))
+  pub lined : s'.line + min (n - k) (length (lines (drop s'.at text))) ≡ s.line + min n (length (lines (drop s.at text)))
+  pub from : s.at ≤ s'.at
+  pub within : s'.at ≤ length text
+  pub few : s'.line + s.at ≤ s.line + s'.at
 
--- from place `at` and line `line` on, all but the first k of the n lines are to be dropped
-pub record Dropping (text : Bytes) (n : ℕ) (s : State) (at line k : ℕ) : Type 0 where
-  pub input : drop (n - k) (lines (drop at text)) ≡ drop n (lines (drop s.at text))
-  pub lined : line + min (n - k) (length (lines (drop at text))) ≡ s.line + min n (length (lines (drop s.at text)))
-  pub from : s.at ≤ at
-  pub within : at ≤ length text
-  pub few : line + s.at ≤ s.line + at
-
-pub dropping_starts : {text : Bytes} {n : ℕ} {s : State} → s.at ≤ length text → Dropping text n s s.at s.line 0
+pub dropping_starts : {text : Bytes} {n : ℕ} {s : State} → s.at ≤ length text → Dropping text n s s 0
 dropping_starts {text} {n} {s} h =
     let z : n - 0 ≡ n = omega arith in
-    record { input = ap (λ (k : ℕ). drop k (lines (drop s.at text))) z; lined = omega arith; from = omega arith; within = h; few = omega arith }
+    record { is = refl; input = ap (λ (k : ℕ). drop k (lines (drop s.at text))) z; lined = omega arith; from = omega arith; within = h; few = omega arith }
 
-module _ {text : Bytes} {n : ℕ} {s : State} {at line k : ℕ} (d : Dropping text n s at line k) where
-  -- where nothing more is to be dropped, or no line is left
-  dropped_at : {s' : State} → s' ≡ with_input s at line → drop (n - k) (lines (drop at text)) ≡ lines (drop at text) → min (n - k) (length (lines (drop at text))) ≡ 0 → DropsLines text n s s'
-  dropped_at es e z = subst (DropsLines text n s) (sym es) record {
-    is = refl;
-    input = sym e ∙ d.input;
-    line = omega (arith, d.lined, z);
-    from = d.from;
-    within = d.within;
-    few = d.few;
-  }
+module _ {text : Bytes} {n : ℕ} {s s' : State} {k : ℕ} (d : Dropping text n s s' k) where
+  -- nothing more is to be dropped, or no line is left
+  dropped_at : drop (n - k) (lines (drop s'.at text)) ≡ lines (drop s'.at text) → min (n - k) (length (lines (drop s'.at text))) ≡ 0 → DropsLines text n s s'
+  dropped_at e z = record { is = d.is; input = sym e ∙ d.input; line = omega (arith, d.lined, z); from = d.from; within = d.within; few = d.few }
 
-  pub dropped_all : {s' : State} → n ≤ k → s' ≡ with_input s at line → DropsLines text n s s'
-  dropped_all h es =
+  pub dropped_all : n ≤ k → DropsLines text n s s'
+  dropped_all h =
       let z : n - k ≡ 0 = omega arith in
-      dropped_at es (ap (λ (j : ℕ). drop j (lines (drop at text))) z) (omega arith)
+      dropped_at (ap (λ (j : ℕ). drop j (lines (drop s'.at text))) z) (omega arith)
 
-  pub input_ends : {s' : State} → at ≡ length text → s' ≡ with_input s at line → DropsLines text n s s'
+  pub input_ends : s'.at ≡ length text → DropsLines text n s s'
   unfolding lines
-  input_ends h es =
-      let none_left : lines (drop at text) ≡ [] = ap lines (drop_of_length-le text (omega arith)) in
-      let z : length (lines (drop at text)) ≡ 0 = ap length none_left in
-      dropped_at es (ap (drop (n - k)) none_left ∙ drop-nil (n - k) ∙ sym none_left) (omega arith)
+  input_ends h =
+      let none_left : lines (drop s'.at text) ≡ [] = ap lines (drop_of_length-le text (omega arith)) in
+      let z : length (lines (drop s'.at text)) ≡ 0 = ap length none_left in
+      dropped_at (ap (drop (n - k)) none_left ∙ drop-nil (n - k) ∙ sym none_left) (omega arith)
 
-  pub dropping_more : {end next : ℕ} → k < n → LineAt text at end next → Dropping text n s next (line + 1) (k + 1)
-  dropping_more {end} {next} some l =
-      let e : lines (drop at text) ≡ part text at end ∷ lines (drop next text) = l.is in
+  -- a line more is read
+  pub dropping_more : {end next : ℕ} {t : State} → k < n → LineAt text s'.at end next → t ≡ with_input s' next (s'.line + 1) → Dropping text n s t (k + 1)
+  dropping_more {end} {next} {t} some l et =
+      let e : lines (drop s'.at text) ≡ part text s'.at end ∷ lines (drop next text) = l.is in
       let j : n - k ≡ suc (n - (k + 1)) = omega arith in
-      let long : length (lines (drop at text)) ≡ suc (length (lines (drop next text))) = ap length e in
+      let long : length (lines (drop s'.at text)) ≡ suc (length (lines (drop next text))) = ap length e in
       let ahead = l.ahead in
-      record {
-        input = sym (ap (λ (ls : List Bytes). drop (suc (n - (k + 1))) ls) e) ∙ sym (ap (λ (i : ℕ). drop i (lines (drop at text))) j) ∙ d.input;
+      subst (λ (u : State). Dropping text n s u (k + 1)) (sym et) record {
+        is = ap (λ (u : State). with_input u next (s'.line + 1)) d.is;
+        input = sym (ap (λ (ls : List Bytes). drop (suc (n - (k + 1))) ls) e) ∙ sym (ap (λ (i : ℕ). drop i (lines (drop s'.at text))) j) ∙ d.input;
         lined = omega (arith, d.lined);
         from = omega (arith, d.from);
         within = l.within;

@@ -8,14 +8,12 @@ use mathlib.Core.List.{List, []}
 use Prim.Native.Nat.{ℕ, ◌+◌, ◌-◌, ◌≤◌, ◌<◌}
 use native.Mathlib.Omega.{arith}
 use borrow.Author.Tests.{le-leb, lt-leb}
-use lib.ListN.{length, drop, drop_of_length-le}
-use Rattle.model.specs.declared.Marks.{Marks}
+use lib.ListN.{length, drop_of_length-le}
 use Rattle.model.specs.Text.{Bytes, part, lines}
 use Rattle.model.specs.Load.{Loaded}
 use Rattle.model.specs.Machine.{Rooms, Outputs, running, skip_in}
 use Rattle.scan.specs.Lines.{line_at, ContentAt}
 use Rattle.model.proofs.Choices.{false-not-true}
-use Rattle.nodes.specs.declared.Node.{Node}
 use Rattle.state.specs.declared.State.{State}
 use Rattle.state.specs.State.{shared_of, state_of, Sound, with_input}
 use Rattle.call.specs.declared.Call.{Call}
@@ -26,7 +24,7 @@ use Rattle.answer.specs.Kept.{ExtendsBoth}
 use Rattle.answer.proofs.Following.{both_none, extends_more, rooms_kept}
 use Rattle.answer.proofs.Expansion.{next_back, next_ends}
 use Rattle.usage.specs.Counts.{Counts}
-use Rattle.matching.specs.Book.{Book, tally_in}
+use Rattle.matching.specs.Book.{Basis, Book, tally_in}
 use Rattle.cycle_laws.specs.Meets.{Meets}
 use Rattle.input.specs.Expands.{DropsLines, Expands}
 use Rattle.input.proofs.Reading.{input_over, input_read, input_long}
@@ -43,16 +41,16 @@ ends_else (Back n) e h = absurd (h n refl)
 ends_else Ends e h = refl
 
 -- what the expansion comes to from s₀ on, it comes to from s on
-pub record Expanding (m : Marks) (text : Bytes) (row : List Node) (count : ℕ) (bodies : List ℕ) (s₀ : State) (o₀ : Outputs) (cs₀ : List ℕ)
+pub record Expanding (w : Basis) (s₀ : State) (o₀ : Outputs) (cs₀ : List ℕ)
     (s : State) (o : Outputs) (cs : List ℕ) : Type 0 where
-  pub sound : Sound text s o
+  pub sound : Sound w.text s o
   pub counted : Counts cs s.fuel
   pub extends : ExtendsBoth o₀ s₀ o s
-  pub same : (t : Loaded) → Book m text row count bodies t
-      → comes_to s₀.fuel (rooms_of o₀) t (running (state_of text none [] (tally_in t cs₀) s₀ o₀)) ≡ comes_to s.fuel (rooms_of o₀) t (running (state_of text none [] (tally_in t cs) s o))
+  pub same : (t : Loaded) → Book w t
+      → comes_to s₀.fuel (rooms_of o₀) t (running (state_of w.text none [] (tally_in t cs₀) s₀ o₀)) ≡ comes_to s.fuel (rooms_of o₀) t (running (state_of w.text none [] (tally_in t cs) s o))
 
-pub expanding_starts : {m : Marks} {text : Bytes} {row : List Node} {count : ℕ} {bodies : List ℕ} {s : State} {o : Outputs} {cs : List ℕ} → Sound text s o → Counts cs s.fuel
-    → Expanding m text row count bodies s o cs s o cs
+pub expanding_starts : {w : Basis} {s : State} {o : Outputs} {cs : List ℕ} → Sound w.text s o → Counts cs s.fuel
+    → Expanding w s o cs s o cs
 expanding_starts h kept = record { sound = h; counted = kept; extends = both_none h; same = λ t b. refl }
 
 -- the state with lines read, each with a byte at least, is sound
@@ -71,39 +69,47 @@ moved_sound h k few = record {
 pub read_sound : {text : Bytes} {s x : State} {mark end next : ℕ} {o : Outputs} → Sound text s o → ContentAt text mark s.at end next → x ≡ with_input s next (s.line + 1) → Sound text x o
 read_sound h c e = rw e (moved_sound h c.within (omega (arith, c.ahead)))
 
-module _ {m : Marks} {text : Bytes} {row : List Node} {count : ℕ} {bodies : List ℕ} {s₀ : State} {o₀ : Outputs} {cs₀ : List ℕ} {s : State} {o : Outputs} {cs : List ℕ}
-    (i : Expanding m text row count bodies s₀ o₀ cs₀ s o cs) where
+-- v is what the lent parts are, which is w
+module _ {v w : Basis} {s₀ : State} {o₀ : Outputs} {cs₀ : List ℕ} {s : State} {o : Outputs} {cs : List ℕ}
+    (e : v ≡ w) (i : Expanding w s₀ o₀ cs₀ s o cs) where
   -- no input is left
-  pub expands_over : length text ≤ s.at → Expands m text row count bodies s₀ o₀ cs₀ (Ok Ends) s o cs
+  pub expands_over : length v.text ≤ s.at → Expands w s₀ o₀ cs₀ (Ok Ends) s o cs
   unfolding lines
   expands_over h = record {
     sound = i.sound;
     counted = i.counted;
     extends = i.extends;
-    same = λ t b. i.same t b ∙ input_over (rooms_of o₀) m text t (tally_in t cs) s o (ap lines (drop_of_length-le text h));
+    same = λ t b. i.same t b ∙ input_over (rooms_of o₀) w.marks w.text t (tally_in t cs) s o (ap lines (drop_of_length-le w.text (omega (arith, h, ap (λ (u : Basis). length u.text) e))));
   }
 
-  module _ {end next : ℕ} {x : State} (content : ContentAt text m.source s.at end next) (ex : x ≡ with_input s next (s.line + 1)) where
+  module _ {end next : ℕ} {x : State} (read : ContentAt v.text v.marks.source s.at end next) (ex : x ≡ with_input s next (s.line + 1)) where
+    content : ContentAt w.text w.marks.source s.at end next
+    content = subst (λ (u : Basis). ContentAt u.text u.marks.source s.at end next) e read
+
     -- the line's content has over 200 bytes
-    pub expands_long : 200 < length (part text s.at end) → Expands m text row count bodies s₀ o₀ cs₀ (Err LongInput) x o cs
-    expands_long h = subst (λ (y : State). Expands m text row count bodies s₀ o₀ cs₀ (Err LongInput) y o cs) (sym ex) record {
+    pub expands_long : 200 < length (part v.text s.at end) → Expands w s₀ o₀ cs₀ (Err LongInput) x o cs
+    expands_long h = subst (λ (y : State). Expands w s₀ o₀ cs₀ (Err LongInput) y o cs) (sym ex) record {
       sound = read_sound i.sound content refl;
       counted = i.counted;
       extends = record { first = i.extends.first; second = i.extends.second };
       same = λ t b. i.same t b
-          ∙ input_long (rooms_of o₀) m text t (tally_in t cs) s o b.marks (line_at text s.at) (part text s.at end) next content.is content.content (lt-leb (length (part text s.at end)) 200 h);
+          ∙ input_long (rooms_of o₀) w.marks w.text t (tally_in t cs) s o b.marks (line_at w.text s.at) (part w.text s.at end) next content.is content.content
+          (lt-leb (length (part w.text s.at end)) 200 (subst (λ (u : Basis). 200 < length (part u.text s.at end)) e h));
     }
 
-    module _ {r : Answer} {s' : State} {o' : Outputs} {cs' : List ℕ} (short : length (part text s.at end) ≤ 200) (h : Meets m text row count bodies (some (part text s.at end)) [] 0 x o cs r s' o' cs') where
-      k : Meets m text row count bodies (some (part text s.at end)) [] 0 (with_input s next (s.line + 1)) o cs r s' o' cs'
-      k = subst (λ (y : State). Meets m text row count bodies (some (part text s.at end)) [] 0 y o cs r s' o' cs') ex h
+    module _ {r : Answer} {s' : State} {o' : Outputs} {cs' : List ℕ} (fits : length (part v.text s.at end) ≤ 200) (h : Meets w (some (part v.text s.at end)) [] 0 x o cs r s' o' cs') where
+      short : length (part w.text s.at end) ≤ 200
+      short = subst (λ (u : Basis). length (part u.text s.at end) ≤ 200) e fits
 
-      line_same : (t : Loaded) → Book m text row count bodies t
-          → comes_to s₀.fuel (rooms_of o₀) t (running (state_of text none [] (tally_in t cs₀) s₀ o₀)) ≡ comes_to s'.fuel (rooms_of o₀) t (next_of m text [] (tally_in t cs') r no_call s' [] o')
+      k : Meets w (some (part w.text s.at end)) [] 0 (with_input s next (s.line + 1)) o cs r s' o' cs'
+      k = subst (λ (y : State). Meets w (some (part w.text s.at end)) [] 0 y o cs r s' o' cs') ex (subst (λ (u : Basis). Meets w (some (part u.text s.at end)) [] 0 x o cs r s' o' cs') e h)
+
+      line_same : (t : Loaded) → Book w t
+          → comes_to s₀.fuel (rooms_of o₀) t (running (state_of w.text none [] (tally_in t cs₀) s₀ o₀)) ≡ comes_to s'.fuel (rooms_of o₀) t (next_of w.marks w.text [] (tally_in t cs') r no_call s' [] o')
       line_same t b = i.same t b
-          ∙ input_read (rooms_of o₀) m text t (tally_in t cs) s o b.marks (line_at text s.at) (part text s.at end) next content.is content.content (le-leb (length (part text s.at end)) 200 short)
-          ∙ subst (λ (room : Rooms). comes_to s.fuel room t (running (state_of text (some (part text s.at end)) [] (tally_in t cs) (with_input s next (s.line + 1)) o))
-          ≡ comes_to s'.fuel room t (next_of m text [] (tally_in t cs') r no_call s' [] o'))
+          ∙ input_read (rooms_of o₀) w.marks w.text t (tally_in t cs) s o b.marks (line_at w.text s.at) (part w.text s.at end) next content.is content.content (le-leb (length (part w.text s.at end)) 200 short)
+          ∙ subst (λ (room : Rooms). comes_to s.fuel room t (running (state_of w.text (some (part w.text s.at end)) [] (tally_in t cs) (with_input s next (s.line + 1)) o))
+          ≡ comes_to s'.fuel room t (next_of w.marks w.text [] (tally_in t cs') r no_call s' [] o'))
           (rooms_kept i.extends) (k.same t b [] refl no_call [])
 
       -- what is written since s₀
@@ -111,32 +117,32 @@ module _ {m : Marks} {text : Bytes} {row : List Node} {count : ℕ} {bodies : Li
       written_on at line = record { first = extends_more i.extends.first k.follows.extends.first; second = extends_more i.extends.second k.follows.extends.second }
 
       -- the run has ended with this line
-      pub expands_ended : {a : Answer} → is_end r ≡ true → a ≡ r → Expands m text row count bodies s₀ o₀ cs₀ a s' o' cs'
-      expands_ended e ea = subst (λ (y : Answer). Expands m text row count bodies s₀ o₀ cs₀ y s' o' cs') (sym ea) record {
+      pub expands_ended : {a : Answer} → is_end r ≡ true → a ≡ r → Expands w s₀ o₀ cs₀ a s' o' cs'
+      expands_ended end ea = subst (λ (y : Answer). Expands w s₀ o₀ cs₀ y s' o' cs') (sym ea) record {
         sound = k.follows.sound;
         counted = k.counted;
         extends = written_on s'.at s'.line;
-        same = λ t b. line_same t b ∙ next_ends m text r [] (tally_in t cs') no_call s' [] o' e s'.fuel (rooms_of o₀) t;
+        same = λ t b. line_same t b ∙ next_ends w.marks w.text r [] (tally_in t cs') no_call s' [] o' end s'.fuel (rooms_of o₀) t;
       }
 
-      module _ {n : ℕ} {z : State} (er : r ≡ Ok (Back n)) (d : DropsLines text n s' z) where
-        drops : DropsLines text (lines_back r) s' z
-        drops = subst (λ (x : Answer). DropsLines text (lines_back x) s' z) (sym er) d
+      module _ {n : ℕ} {z : State} (er : r ≡ Ok (Back n)) (d : DropsLines v.text n s' z) where
+        drops : DropsLines w.text (lines_back r) s' z
+        drops = subst (λ (x : Answer). DropsLines w.text (lines_back x) s' z) (sym er) (subst (λ (u : Basis). DropsLines u.text n s' z) e d)
 
-        pub input_less : length text - z.at < length text - s.at
+        pub input_less : length w.text - z.at < length w.text - s.at
         input_less = omega (arith, k.follows.from, content.ahead, content.within, drops.from)
 
         -- the run goes on in the input
-        pub expanding_on : Expanding m text row count bodies s₀ o₀ cs₀ z o' cs'
+        pub expanding_on : Expanding w s₀ o₀ cs₀ z o' cs'
         unfolding settle skip_in
         expanding_on =
-            let e : is_end r ≡ false = ap (λ (x : Answer). is_end x) er in
+            let on : is_end r ≡ false = ap (λ (x : Answer). is_end x) er in
             let u = with_input s' z.at z.line in
-            subst (λ (y : State). Expanding m text row count bodies s₀ o₀ cs₀ y o' cs') (sym drops.is) record {
+            subst (λ (y : State). Expanding w s₀ o₀ cs₀ y o' cs') (sym drops.is) record {
               sound = moved_sound k.follows.sound drops.within drops.few;
               counted = k.counted;
               extends = written_on z.at z.line;
-              same = λ t b. line_same t b ∙ ap (comes_to s'.fuel (rooms_of o₀) t) (next_back m text r [] (tally_in t cs') no_call s' [] o' k.left e)
+              same = λ t b. line_same t b ∙ ap (comes_to s'.fuel (rooms_of o₀) t) (next_back w.marks w.text r [] (tally_in t cs') no_call s' [] o' k.left on)
                   ∙ (λ j. comes_to u.fuel (rooms_of o₀) t (running (record {
                     input = sym drops.input j;
                     line = sym drops.line j;

@@ -1,17 +1,15 @@
 -- What reading the input ensures, and the whole run.
-use Rattle.std.specs.Prelude.{◌≡◌, List, [], ℕ, ◌+◌, ◌-◌, ◌≤◌, min, length, take, drop}
+use Rattle.std.specs.Prelude.{◌≡◌, List, [], ℕ, ◌+◌, ◌≤◌, min, length, drop}
 use Rattle.std.proofs.Math.Option.{none}
-use Rattle.model.specs.declared.Marks.{Marks}
-use Rattle.model.specs.Text.{Bytes, part, lines}
+use Rattle.model.specs.Text.{Bytes, lines}
 use Rattle.model.specs.Load.{Loaded}
 use Rattle.model.specs.Machine.{Outputs, running}
-use Rattle.nodes.specs.declared.Node.{Node}
 use Rattle.state.specs.declared.State.{State}
 use Rattle.state.specs.State.{Sound, state_of, with_input}
 use Rattle.answer.specs.Answers.{Answer, rooms_of, comes_to, result_after}
 use Rattle.answer.specs.Kept.{ExtendsBoth}
 use Rattle.usage.specs.Counts.{Counts}
-use Rattle.matching.specs.Book.{Book, tally_in}
+use Rattle.matching.specs.Book.{Basis, Book, tally_in}
 
 -- n input lines are dropped, or all that are left
 pub record DropsLines (text : Bytes) (n : ℕ) (s s' : State) : Type 0 where
@@ -22,12 +20,10 @@ pub record DropsLines (text : Bytes) (n : ℕ) (s s' : State) : Type 0 where
   pub within : s'.at ≤ length text
   pub few : s'.line + s.at ≤ s.line + s'.at
 
--- r ends the run with the expansion's result. `row`, `count` and `bodies` are the nodes, how many the tree has and where the bodies start, s o counts are the state,
--- outputs and counts before, and s' o' counts' those after
-pub record Expands (m : Marks) (text : Bytes) (row : List Node) (count : ℕ) (bodies : List ℕ)
-    (s : State) (o : Outputs) (counts : List ℕ) (r : Answer) (s' : State) (o' : Outputs) (counts' : List ℕ) : Type 0 where
-  pub sound : Sound text s' o'
+-- r ends the run with the expansion's result, by w. s o counts are the state, outputs and counts before, and s' o' counts' those after
+pub record Expands (w : Basis) (s : State) (o : Outputs) (counts : List ℕ) (r : Answer) (s' : State) (o' : Outputs) (counts' : List ℕ) : Type 0 where
+  pub sound : Sound w.text s' o'
   pub counted : Counts counts' s'.fuel
   pub extends : ExtendsBoth o s o' s'
-  pub same : (t : Loaded) → Book m text row count bodies t
-      → comes_to s.fuel (rooms_of o) t (running (state_of text none [] (tally_in t counts) s o)) ≡ result_after t (tally_in t counts') r s' o'
+  pub same : (t : Loaded) → Book w t
+      → comes_to s.fuel (rooms_of o) t (running (state_of w.text none [] (tally_in t counts) s o)) ≡ result_after t (tally_in t counts') r s' o'

@@ -5,66 +5,56 @@ ghost use Rattle.std.specs.Prelude.{◌+◌, ◌≤◌, length};
 ghost use Rattle.model.specs.Machine.{outputs};
 ghost use Rattle.state.specs.State.{Sound};
 ghost use Rattle.usage.specs.Counts.{Counts};
-ghost use Rattle.matching.specs.Book.{Prepared};
 ghost use Rattle.input.specs.Expands.{DropsLines, Expands};
 ghost use Rattle.model.specs.Limits.{fuel_most, dead_least};
 
 use answer::Turn;
 use cycle::offer;
 use faults::RunFault;
-use model::{LINE_MOST, Marks};
-use nodes::Node;
-use scan::{read_content, read_line};
+use matching::Script;
+use model::LINE_MOST;
+use scan::read_line;
 use state::State;
 
 // Drops n input lines, or all that are left: they are read and not measured.
+// n counts lines, and is no place of the text: a slice would not say it.
 fn drop_lines(text: &[u8], n: usize, s: &mut State)
     requires { (s.old.at ≤ length text.now) × (s.old.line + length text.now ≤ fuel_most + s.old.at) }
     ensures { DropsLines text.now n s.old s.new }
 {
-    let mut at = s.at;
-    let mut line = s.line;
     for dropped in 0..n {
-        if at == text.len() {
-            s.set_input(at, line);
+        if s.at == text.len() {
             return;
         }
-        at = read_line(text, at).next;
-        line += 1;
+        s.set_input(read_line(text, s.at).next, s.line + 1);
     }
-    s.set_input(at, line);
 }
 
 // Expands the input that is left, from the names that are stored on.
 pub fn expand_input(
-    m: Marks,
-    text: &[u8],
-    nodes: &[Node],
-    count: usize,
+    script: &Script,
     dead: &mut [u8],
-    bodies: &[usize],
     output: &mut [u8],
     second: &mut [u8],
     counts: &mut [usize],
     s: &mut State,
 ) -> Result<Turn, RunFault>
-    requires { Prepared m text.now nodes.now count bodies.now × Sound text.now s.old (outputs output.old second.old)
+    requires { Sound script.now.text s.old (outputs output.old second.old)
         × (dead_least ≤ length dead.old) × Counts counts.old s.old.fuel }
-    ensures { Expands m text.now nodes.now count bodies.now s.old
+    ensures { Expands script.now s.old
         (outputs output.old second.old) counts.old result
         s.new (outputs output.new second.new) counts.new }
 {
+    let text = script.marked.text;
     // how far the text is read stands in the state, which each line moves on, and a call may read on: no range
     while s.at < text.len() {
-        let line = read_content(text, m.source, s.at);
+        let line = script.marked.read_input(s.at);
         let content = &text[s.at..line.end];
         s.set_input(line.next, s.line + 1);
         if LINE_MOST < content.len() {
             return Err(RunFault::LongInput);
         }
-        let turn = offer(
-            m, text, nodes, count, dead, bodies, output, second, counts, content, 0, s,
-        )?;
+        let turn = offer(script, dead, output, second, counts, content, 0, s)?;
         let Turn::Back(n) = turn else {
             return Ok(turn);
         };

@@ -5,20 +5,20 @@ use Rattle.input.proofs.Whole.{expands_over, expands_long, expands_ended, ends_e
 use Rattle.input.proofs.expand_input.Goals as goal
 
 pub returns-then-content-gt-LINE_MOST : goal.returns-then-content-gt-LINE_MOST
-returns-then-content-gt-LINE_MOST c = expands_long c.loop-s.invariant c.read_content-line.ensures c.set_input.ensures c.if-content-gt-LINE_MOST.true
+returns-then-content-gt-LINE_MOST c = expands_long c.script.view_is c.loop-s.invariant c.read_input-line.ensures c.set_input.ensures c.if-content-gt-LINE_MOST.true
 
 pub returns-in_err-turn : goal.returns-in_err-turn
 returns-in_err-turn c =
-    expands_ended c.loop-s.invariant c.read_content-line.ensures c.set_input.ensures c.if-content-gt-LINE_MOST.false c.in_err-turn.ensures refl (search rules)
+    expands_ended c.script.view_is c.loop-s.invariant c.read_input-line.ensures c.set_input.ensures c.if-content-gt-LINE_MOST.false c.in_err-turn.ensures refl (search rules)
 
 pub returns-in_default : goal.returns-in_default
 returns-in_default c =
     let h = c.in_ok-turn.ensures in
-    expands_ended c.loop-s.invariant c.read_content-line.ensures c.set_input.ensures c.if-content-gt-LINE_MOST.false h (ends_else _ h.left c.in_default.not-Back) refl
+    expands_ended c.script.view_is c.loop-s.invariant c.read_input-line.ensures c.set_input.ensures c.if-content-gt-LINE_MOST.false h (ends_else _ h.left c.in_default.not-Back) refl
 
 pub loop-s-preserved : goal.loop-s-preserved
 loop-s-preserved c =
-    expanding_on c.loop-s.invariant c.read_content-line.ensures c.set_input.ensures c.if-content-gt-LINE_MOST.false c.offer.ensures (search rules) c.drop_lines.ensures
+    expanding_on c.script.view_is c.loop-s.invariant c.read_input-line.ensures c.set_input.ensures c.if-content-gt-LINE_MOST.false c.offer.ensures (search rules) c.drop_lines.ensures
 
 pub returns : goal.returns
-returns c = expands_over c.loop-s.invariant c.loop-s-test.false
+returns c = expands_over c.script.view_is c.loop-s.invariant c.loop-s-test.false

@@ -6,8 +6,8 @@ use Rattle.input.proofs.expand_input.Given as goal
 
 abbrev pub invariant-loop-s : goal.invariant-loop-s
 invariant-loop-s l =
-    Expanding l.m l.text l.nodes l.count l.bodies l.initial.s (outputs l.initial.output l.initial.second) l.initial.counts
+    Expanding l.script l.initial.s (outputs l.initial.output l.initial.second) l.initial.counts
     l.s (outputs l.output l.second) l.counts
 
 abbrev pub decreases-loop-s : goal.decreases-loop-s
-decreases-loop-s l = length l.text - l.s.at
+decreases-loop-s l = length l.script.text - l.s.at
