@@ -13,7 +13,7 @@ use lib.Dec.{ltb}
 use lib.ListN.{length}
 use Rattle.model.specs.Text.{Bytes}
 use Rattle.macros.specs.declared.Table.{Table}
-use Rattle.macros.specs.Table.{templates_in, order_in, Entries}
+use Rattle.macros.specs.Table.{Entries}
 use Rattle.templates.specs.Keys.{pick}
 use Rattle.templates.specs.Order.{InOrder}
 
@@ -92,5 +92,5 @@ in_order_prop p ts order a b = λ i. record {
 entries_prop : (text : Bytes) (t : Table) (n : ℕ) → IsProp (Entries text t n)
 entries_prop text t n = hlevel le_prop
 
-pub ordered_prop : {p : ℕ} {text : Bytes} {t : Table} {n : ℕ} → IsProp (Entries text t n × InOrder p (templates_in text t n) (order_in t))
-ordered_prop {p} {text} {t} {n} = ×_prop (entries_prop text t n) (in_order_prop p (templates_in text t n) (order_in t))
+pub ordered_prop : {text : Bytes} {t : Table} {n p : ℕ} {ts : List Bytes} {order : ℕ → ℕ} → IsProp (Entries text t n × InOrder p ts order)
+ordered_prop {text} {t} {n} {p} {ts} {order} = ×_prop (entries_prop text t n) (in_order_prop p ts order)

@@ -15,12 +15,11 @@ use Rattle.nodes.specs.Rows.{no_node, elem, template_of, height, holes, Child, A
 use Rattle.nodes.specs.SideBySide.{Children, Says}
 use Rattle.model.proofs.Children.{one_key}
 use Rattle.nodes.proofs.Rows.{front_node}
-use Rattle.macros.specs.declared.Table.{Table}
 use Rattle.templates.specs.Count.{known}
 use Rattle.templates.specs.Keys.{keys, Share, cnt, holed}
 use Rattle.templates.proofs.Keys.{lt_or, key_bound, key_ends, holes_most}
 use Rattle.tree.specs.Nodes.{columns, Half, Made}
-use Rattle.tree.specs.Built.{ReadyToBuild, Built, Growing, NodesMade}
+use Rattle.tree.specs.Built.{ReadyToBuild, Built, Builds, NodesMade}
 use Rattle.tree.proofs.Known.{templates-known}
 use Rattle.tree.proofs.Nodes.{Stem, Agree, stem, carry_all}
 use Rattle.tree.proofs.Room.{bound}
@@ -192,12 +191,14 @@ is_built m ts order first rows r ready le h =
     }
 
 -- and they stand in it
-pub built_in_row : (m : Marks) {ts : List Bytes} {order : ℕ → ℕ} {first rows : List Node} {r : ℕ} → ReadyToBuild m.placeholder ts first → length rows ≡ length first
-    → NodesMade m.placeholder ts order rows r r → (r ≤ length rows) × Built m ts (take r rows)
-built_in_row m {ts} {order} {first} {rows} {r} ready e h =
-    let u : r ≤ length rows = omega (arith, ready.room, h.within) in
-    (u, is_built m ts order first rows r ready u h.made)
+pub built_in_row : {p : ℕ} {ts : List Bytes} {order : ℕ → ℕ} {first rows : List Node} {r : ℕ} → ReadyToBuild p ts first → length rows ≡ length first
+    → NodesMade p ts order rows r r → Builds p ts rows r
+built_in_row {p} {ts} {order} {first} {rows} {r} ready e h =
+    let u : r ≤ length rows = omega (arith, ready.room, h.within) in record {
+      within = u;
+      built = λ m q. is_built m ts order first rows r (rw q ready) u (rw q h.made);
+    }
 
 -- the tree can be built in a row of the same length too
-pub growing_kept : {p : ℕ} {text : Bytes} {t : Table} {n : ℕ} {rows rows' : List Node} → Growing p text t n rows → length rows' ≡ length rows → Growing p text t n rows'
-growing_kept h e = let r = h.ready in record { entries = h.entries; ready = record { few = r.few; short = r.short; nine = r.nine; room = omega (arith, r.room); small = r.small }; in_order = h.in_order }
+pub ready_kept : {p : ℕ} {ts : List Bytes} {rows rows' : List Node} → ReadyToBuild p ts rows → length rows' ≡ length rows → ReadyToBuild p ts rows'
+ready_kept r e = record { few = r.few; short = r.short; nine = r.nine; room = omega (arith, r.room); small = r.small }

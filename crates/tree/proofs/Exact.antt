@@ -10,7 +10,8 @@ use Rattle.nodes.specs.Rows.{elem, template_of, height}
 use Rattle.templates.specs.Count.{sum}
 use Rattle.templates.specs.Keys.{Share}
 use Rattle.tree.specs.Nodes.{columns, Half}
-use Rattle.templates.proofs.Keys.{lt_or, share_more, share_sym, pigeon}
+use Rattle.templates.specs.Unique.{pigeon}
+use Rattle.templates.proofs.Keys.{lt_or, share_more, share_sym}
 use Rattle.tree.proofs.Room.{Known}
 
 -- the template and the place of each new beginning

@@ -9,7 +9,8 @@ use borrow.Author.Tests.{eq-eqb, ne_eqb}
 use Rattle.templates.specs.Count.{sum}
 use Rattle.templates.specs.Keys.{pick, Share, one}
 use Rattle.tree.specs.Nodes.{Columns, IsNode, Half}
-use Rattle.templates.proofs.Keys.{lt_or, pigeon}
+use Rattle.templates.specs.Unique.{pigeon}
+use Rattle.templates.proofs.Keys.{lt_or}
 use Rattle.tree.proofs.Nodes.{Next, Agree, carry, append}
 
 -- how many of its first elements a template has in common with an earlier one

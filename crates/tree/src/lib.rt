@@ -3,27 +3,18 @@
 // the node's beginning makes a child, so the children of a node stand side by side in the order of their keys.
 #![tactic(auto)]
 
-ghost use Rattle.std.specs.Prelude.{◌≡◌, ◌+◌, ◌-◌, ◌≤◌, ◌<◌, length, get_or, set, take};
+ghost use Rattle.std.specs.Prelude.{◌≡◌, ◌+◌, ◌-◌, ◌≤◌, ◌<◌, length, get_or, set};
 ghost use Rattle.nodes.specs.Rows.{no_node, elem};
-ghost use Rattle.macros.specs.Table.{templates_in, order_in};
+ghost use Rattle.templates.specs.Keys.{AllBytes};
+ghost use Rattle.templates.specs.Listed.{templates_of, order_of};
 ghost use Rattle.tree.specs.Nodes.{Made, Filled, with_kids, below, root_node};
-ghost use Rattle.tree.specs.Built.{Growing, NodesMade, NextNode, Built};
+ghost use Rattle.tree.specs.Built.{ReadyToBuild, NodesMade, NextNode, Builds};
 ghost use Rattle.model.specs.Limits.{macros_most};
 ghost use Rattle.model.specs.Children.{end_key, placeholder_key};
 
-use macros::Table;
-use model::{END_KEY, Marks};
+use model::END_KEY;
 use nodes::{Node, ROOT_KEY};
-use templates::{Pick, holes_past, take_run};
-
-// The templates in their order: the placeholder's mark, the text, and the table, which has n of them.
-#[derive(Clone, Copy)]
-struct Ordered<'a> {
-    mark: u8,
-    text: &'a [u8],
-    table: &'a Table,
-    n: usize,
-}
+use templates::{Ordered, Pick, holes_past};
 
 // How many elements stand up to and with a node.
 fn depth_of(n: Node) -> usize
@@ -38,6 +29,7 @@ fn make_child(n: Node, r: Pick) -> Node
     requires { (r.key ≤ placeholder_key) × (r.template < macros_most) × (r.from ≤ r.end) × (r.end ≤ macros_most) × (0 < n.height) × (n.holes < 1000) }
     ensures { result ≡ below n r.key r.template r.from r.end }
 {
+    // `as` in all of this file: the numbers fit, and `u16::try_from` would ask what to do where they do not
     Node {
         element: r.key,
         first: r.from as u16,
@@ -55,18 +47,16 @@ fn make_root(n: usize) -> Node
 {
     Node {
         element: ROOT_KEY,
-        first: 0,
         count: n as u16,
-        template: 0,
         height: 201,
-        holes: 0,
+        ..Node::default()
     }
 }
 
 // Appends the children of node i; the answer is how many nodes there are then.
 fn fill_children(ordered: &Ordered, nodes: &mut [Node], i: usize, made: usize) -> usize
-    requires { NextNode ordered.now.mark ordered.now.text.now ordered.now.table.now ordered.now.n nodes.old i made × (elem nodes.old i ≡ end_key → ⊥) }
-    ensures { Filled ordered.now.mark (templates_in ordered.now.text.now ordered.now.table.now ordered.now.n) (order_in ordered.now.table.now) nodes.new i result made }
+    requires { NextNode ordered.now nodes.old i made × (elem nodes.old i ≡ end_key → ⊥) }
+    ensures { Filled ordered.now.mark (templates_of ordered.now) (order_of ordered.now) nodes.new i result made }
 {
     let parent = nodes[i];
     let d = depth_of(parent);
@@ -75,15 +65,7 @@ fn fill_children(ordered: &Ordered, nodes: &mut [Node], i: usize, made: usize) -
     let mut at = parent.first_child();
     // each turn takes a run of templates, and the look for it says how long it is: no range has these steps
     while at < end {
-        let r = take_run(
-            ordered.mark,
-            ordered.text,
-            ordered.table,
-            ordered.n,
-            at,
-            end,
-            d,
-        );
+        let r = ordered.take_run(at, end, d);
         at = r.end;
         nodes[c] = make_child(parent, r);
         c += 1;
@@ -105,8 +87,8 @@ fn link_children(nodes: &mut [Node], i: usize, first: usize, c: usize)
 
 // Gives node i its children; an end has none.
 fn add_children(ordered: &Ordered, nodes: &mut [Node], i: usize, made: usize) -> usize
-    requires { NextNode ordered.now.mark ordered.now.text.now ordered.now.table.now ordered.now.n nodes.old i made }
-    ensures { NodesMade ordered.now.mark (templates_in ordered.now.text.now ordered.now.table.now ordered.now.n) (order_in ordered.now.table.now) nodes.new (i + 1) result }
+    requires { NextNode ordered.now nodes.old i made }
+    ensures { NodesMade ordered.now.mark (templates_of ordered.now) (order_of ordered.now) nodes.new (i + 1) result }
 {
     if nodes[i].element == END_KEY {
         link_children(nodes, i, made, made);
@@ -119,9 +101,9 @@ fn add_children(ordered: &Ordered, nodes: &mut [Node], i: usize, made: usize) ->
 
 // Gives every node its children, from the root on: how many nodes there are then.
 fn grow_tree(ordered: &Ordered, nodes: &mut [Node]) -> usize
-    requires { Growing ordered.now.mark ordered.now.text.now ordered.now.table.now ordered.now.n nodes.old
-        × Made ordered.now.mark (templates_in ordered.now.text.now ordered.now.table.now ordered.now.n) (order_in ordered.now.table.now) nodes.old 0 1 }
-    ensures { NodesMade ordered.now.mark (templates_in ordered.now.text.now ordered.now.table.now ordered.now.n) (order_in ordered.now.table.now) nodes.new result result }
+    requires { ReadyToBuild ordered.now.mark (templates_of ordered.now) nodes.old
+        × Made ordered.now.mark (templates_of ordered.now) (order_of ordered.now) nodes.old 0 1 }
+    ensures { NodesMade ordered.now.mark (templates_of ordered.now) (order_of ordered.now) nodes.new result result }
 {
     let mut c = 1;
     let mut i = 0;
@@ -133,17 +115,17 @@ fn grow_tree(ordered: &Ordered, nodes: &mut [Node]) -> usize
     c
 }
 
-// Makes the tree of the first n templates of the table at the front of the row: how many nodes it has.
-pub fn build(m: Marks, text: &[u8], table: &Table, n: usize, nodes: &mut [Node]) -> usize
-    requires { Growing m.placeholder text.now table.now n nodes.old }
-    ensures { (result ≤ length nodes.new) × Built m (templates_in text.now table.now n) (take result nodes.new) }
+// Nothing is done: a parameter's type says that bytes are below 256, and a field's does not say it.
+fn bound_bytes(text: &[u8])
+    ensures { AllBytes text.now }
+{}
+
+// Makes the tree of the templates at the front of the row: how many nodes it has.
+pub fn build(ordered: &Ordered, nodes: &mut [Node]) -> usize
+    requires { ReadyToBuild ordered.now.mark (templates_of ordered.now) nodes.old }
+    ensures { Builds ordered.now.mark (templates_of ordered.now) nodes.new result }
 {
-    nodes[0] = make_root(n);
-    let ordered = Ordered {
-        mark: m.placeholder,
-        text,
-        table,
-        n,
-    };
-    grow_tree(&ordered, nodes)
+    bound_bytes(ordered.text);
+    nodes[0] = make_root(ordered.n);
+    grow_tree(ordered, nodes)
 }

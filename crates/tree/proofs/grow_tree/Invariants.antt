@@ -1,12 +1,12 @@
 -- grow_tree gives every node its children. The loop's invariant: `NodesMade`. Its measure: the nodes left that the templates can have.
 use Rattle.std.proofs.Common.{◌+◌, ◌-◌}
-use Rattle.macros.specs.Table.{templates_in, order_in}
+use Rattle.templates.specs.Listed.{templates_of, order_of}
 use Rattle.templates.specs.Count.{beginnings}
 use Rattle.tree.specs.Built.{NodesMade}
 use Rattle.tree.proofs.grow_tree.Given as goal
 
 abbrev pub invariant-loop-i : goal.invariant-loop-i
-invariant-loop-i l = NodesMade l.ordered.mark (templates_in l.ordered.text.now l.ordered.table.now l.ordered.n) (order_in l.ordered.table.now) l.nodes l.i l.c
+invariant-loop-i l = NodesMade l.ordered.mark (templates_of l.ordered) (order_of l.ordered) l.nodes l.i l.c
 
 abbrev pub decreases-loop-i : goal.decreases-loop-i
-decreases-loop-i l = beginnings (templates_in l.ordered.text.now l.ordered.table.now l.ordered.n) + 1 - l.i
+decreases-loop-i l = beginnings (templates_of l.ordered) + 1 - l.i
