@@ -1,4 +1,4 @@
--- The parameters, delimiters and place of a call are read and changed.
+-- The parameters and delimiters of a call are read and changed, and an iteration begins.
 use mathlib.Core.Path.{◌≡◌, refl, sym, ap, ◌∙◌}
 use mathlib.Core.List.{List}
 use Prim.Native.Nat.{ℕ, ◌+◌, ◌-◌, ◌<◌, min}
@@ -15,7 +15,7 @@ use Rattle.call.specs.declared.Kind.{Kind}
 use Rattle.call.specs.declared.Iteration.{Iteration}
 use Rattle.call.specs.declared.Call.{Call}
 use Rattle.call.specs.Call.{Holds, text_of, no_param, texts_of, delimiters_of}
-use Rattle.call.specs.Params.{Reads, Sets, with_delimiter, Delimits, Moves, Enters}
+use Rattle.call.specs.Params.{Reads, Sets, with_delimiter, Delimits, Enters}
 use Rattle.call.proofs.Loops.{loops_entered, placed_entered}
 
 -- ---- the parameters
@@ -59,14 +59,7 @@ module _ {c : Call} {d : ℕ} where
         placed = λ text p. record { number = p.number; next = p.next; depth = p.depth; iterations = p.iterations };
       }
 
--- ---- the place, and a new iteration
-
-pub moves : {c : Call} {next : ℕ} → Moves c next (record c { next = next })
-unfolding resume_at
-moves {c} {next} = record {
-  frame = λ m text. refl;
-  placed = λ text p h. record { number = p.number; next = h; depth = p.depth; iterations = p.iterations };
-}
+-- ---- a new iteration
 
 pub enters : {c : Call} {k : Kind} → length c.iterations ≡ 4 → c.depth < 4
     → Enters c k (record c { iterations = set c.iterations c.depth (record { after = c.next; kind = k }); depth = c.depth + 1 })

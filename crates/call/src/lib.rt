@@ -55,6 +55,7 @@ impl Text {
     }
 
     // A part comes at its end, or it stays as it was where that would pass 200 bytes.
+    #[tactic(auto, using(crate::proofs::Line::appends, crate::proofs::Line::too_long))]
     pub fn append(&mut self, part: &[u8]) -> Result<(), RunFault>
         ensures { Appends self.old part.now result self.new }
     {
@@ -178,6 +179,7 @@ impl Call {
     }
 
     // Parameter d.
+    #[tactic(auto, using(crate::proofs::Calls::reads))]
     pub fn param(&self, d: usize) -> &[u8]
         requires { (1 ≤ d) × (d ≤ 9) }
         ensures { Reads self.now d result.now }
@@ -186,6 +188,7 @@ impl Call {
     }
 
     // Parameter d becomes a part.
+    #[tactic(auto, using(crate::proofs::Calls::sets))]
     pub fn set_param(&mut self, d: usize, part: &[u8])
         requires { (1 ≤ d) × (d ≤ 9) × (length part.now ≤ line_most) }
         ensures { Sets self.old d part.now self.new }
@@ -202,6 +205,7 @@ impl Call {
     }
 
     // It becomes another.
+    #[tactic(auto, using(crate::proofs::Calls::delimits))]
     pub fn set_delimiter(&mut self, d: usize, delimiter: Option<u8>)
         requires { (1 ≤ d) × (d ≤ 9) }
         ensures { Delimits self.old d delimiter self.new }
@@ -211,6 +215,7 @@ impl Call {
     }
 
     // The call goes on at another code line.
+    #[tactic(auto, unfolding(model::specs::Machine::resume_at))]
     pub fn move_to(&mut self, next: usize)
         ensures { Moves self.old next self.new }
     {
@@ -218,6 +223,7 @@ impl Call {
     }
 
     // An iteration begins in front of the next code line.
+    #[tactic(auto, using(crate::proofs::Calls::enters))]
     pub fn enter(&mut self, kind: Kind)
         requires { self.old.depth < nesting_most }
         ensures { Enters self.old kind self.new }

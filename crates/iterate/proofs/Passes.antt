@@ -4,10 +4,9 @@ use mathlib.Core.List.{List, [], ◌∷◌}
 use Prim.Native.Nat.{ℕ, suc, ◌+◌, ◌-◌, ◌≤◌, ◌<◌}
 use native.Mathlib.Omega.{arith}
 use lib.ListN.{length, get_or, set, drop, length-drop, drop_of_length-le, get_or-map}
-use Rattle.std.specs.Prelude.{Option, Some, None, Result, Ok, Err, IsErrAnd}
+use Rattle.std.specs.Prelude.{Option, Some, None, Result, Ok, Err}
 use Rattle.std.proofs.Math.Option as Math
 use Rattle.faults.specs.declared.RunFault.{RunFault}
-use Rattle.faults.specs.Numbers.{run_number}
 use Rattle.model.specs.declared.Marks.{Marks}
 use Rattle.model.specs.Text.{Bytes, part}
 use Rattle.model.specs.Load.{body_at}
@@ -34,18 +33,16 @@ module _ {m : Marks} {text : Bytes} {x : Pieces} {line : Bytes} {r : Result Take
   taken : pass_of m (list_of text x) (rest_of x) ≡ piece_at (text_of x.line) x.from r
   taken = ap (λ (s : Bytes). pass_of m (list_of text x) (drop x.from s)) (sym l) ∙ k.is ∙ ap (λ (s : Bytes). piece_at s x.from r) l
 
-  pub pass_fails : {ps : List Param} {e : RunFault} {s : Result Unit RunFault} → r ≡ Err e → IsErrAnd s (λ f. f ≡ e) → TakesPass m text x ps s x ps
+  pub pass_fails : {ps : List Param} {e : RunFault} {s : Result Unit RunFault} → r ≡ Err e → s ≡ Err e → TakesPass m text x ps s x ps
   unfolding take_pass piece_at taken_step
-  pass_fails {s = Ok v} u g = absurd g
-  pass_fails {ps} {e} {s = Err f} u g =
+  pass_fails {ps} u g =
       let n = rw u at k.fault in
       let t = rw u at taken in
-      record {
+      rw g (record {
         step = λ after ls f w h.
-            ap (λ (o : Math.Option Piece). take_pass x.param o (list_of text x) (text_of x.before) after ls f w) t
-            ∙ ap (λ (n : ℕ). halts n w) (sym n ∙ ap run_number (sym g));
+            ap (λ (o : Math.Option Piece). take_pass x.param o (list_of text x) (text_of x.before) after ls f w) t ∙ ap (λ (n : ℕ). halts n w) (sym n);
         placed = p;
-      }
+      })
 
   pub pass_goes_on : {ps : List Param} {t : Taken} {q : Param} → r ≡ Ok t → Holds (part line x.from t.end) q.text → q.delimiter ≡ t.delimiter
       → TakesPass m text x ps (Ok tt) (record x { from = t.rest }) (set ps (x.param - 1) q)
@@ -105,16 +102,15 @@ module _ {m : Marks} {text : Bytes} {x : Iteration} {ps : List Param} (p : Place
 
   module _ {y : Pieces} (e : x.kind ≡ Kinds.Pieces y) {line : Bytes} (l : line ≡ text_of y.line) where
     module _ {r : Result Unit RunFault} {y' : Pieces} {ps' : List Param} (h : y.from < length line) (t : TakesPass m text y ps r y' ps') where
-      pub pieces_fail : {fault : RunFault} {s : Result (Option ℕ) RunFault} → r ≡ Err fault → IsErrAnd s (λ f. f ≡ fault)
+      pub pieces_fail : {fault : RunFault} {s : Result (Option ℕ) RunFault} → r ≡ Err fault → s ≡ Err fault
           → GoesOn m text x ps s (record { after = x.after; kind = Kinds.Pieces y' }) ps'
       unfolding again_step taken_step
-      pieces_fail {s = Ok v} u g = absurd g
-      pieces_fail {fault} {s = Err k} u g = record {
+      pieces_fail u g = rw g (record {
         step = λ ls f w has. pieces_step m text x ls f w e l h ∙ t.step (body_at m text x.after) ls f w has
-            ∙ ap (λ (z : Result Unit RunFault). taken_step text z y' ps' (body_at m text x.after) ls f w) u ∙ ap (λ (q : RunFault). halts (run_number q) w) (sym g);
+            ∙ ap (λ (z : Result Unit RunFault). taken_step text z y' ps' (body_at m text x.after) ls f w) u;
         placed = record { after = p.after; kind = t.placed };
         within = tt;
-      }
+      })
 
       pub pieces_go_on : {u : Unit} → r ≡ Ok u → GoesOn m text x ps (Ok (Some x.after)) (record { after = x.after; kind = Kinds.Pieces y' }) ps'
       unfolding again_step taken_step
@@ -180,15 +176,13 @@ module _ {m : Marks} {text : Bytes} {c : Call} (p : Placed text c) where
         let d = p.depth in
         placed_entered text c.iterations i x (omega arith) (λ j v. p.iterations j (omega arith)) g.placed j (omega arith)
 
-    pub pass_failed : {fault : RunFault} {s : Result Unit RunFault} → r ≡ Err fault → IsErrAnd s (λ f. f ≡ fault)
+    pub pass_failed : {fault : RunFault} {s : Result Unit RunFault} → r ≡ Err fault → s ≡ Err fault
         → EndsPass m text c s (record c { params = ps; iterations = set c.iterations i x })
     unfolding again_step pass_step
-    pass_failed {s = Ok v} u e = absurd e
-    pass_failed {fault} {s = Err k} u e = record {
-      step = λ w. stepped w ∙ ap (λ (z : Result (Option ℕ) RunFault). again_step m text z x ps (loops_of m text c.iterations i) (frame_of m text c) w) u
-          ∙ ap (λ (q : RunFault). halts (run_number q) w) (sym e);
+    pass_failed u e = rw e (record {
+      step = λ w. stepped w ∙ ap (λ (z : Result (Option ℕ) RunFault). again_step m text z x ps (loops_of m text c.iterations i) (frame_of m text c) w) u;
       placed = record { number = p.number; next = p.next; depth = p.depth; iterations = within };
-    }
+    })
 
     pub another_pass : {after : ℕ} → r ≡ Ok (Some after) → EndsPass m text c (Ok tt) (record c { next = after; params = ps; iterations = set c.iterations i x })
     unfolding again_step pass_step
@@ -224,14 +218,12 @@ module _ {m : Marks} {text : Bytes} {c : Call} {d : ℕ} {line : Bytes} {list en
       ap₂ (λ (s before : Bytes). take_pass d (pass_of m (part text list end) s) (part text list end) before f.next f.loops f w) (sym k.is) old
       ∙ t.step f.next f.loops f w (has m text c)
 
-  pub start_fails : {fault : RunFault} {s : Result Unit RunFault} → r ≡ Err fault → IsErrAnd s (λ f. f ≡ fault) → StartsPass m text c d line list end s (record c { params = ps })
+  pub start_fails : {fault : RunFault} {s : Result Unit RunFault} → r ≡ Err fault → s ≡ Err fault → StartsPass m text c d line list end s (record c { params = ps })
   unfolding taken_step pass_step
-  start_fails {s = Ok v} u e = absurd e
-  start_fails {fault} {s = Err n} u e = record {
-    step = λ w. begun w ∙ ap (λ (z : Result Unit RunFault). taken_step text z x ps (frame_of m text c).next (frame_of m text c).loops (frame_of m text c) w) u
-        ∙ ap (λ (q : RunFault). halts (run_number q) w) (sym e);
+  start_fails u e = rw e (record {
+    step = λ w. begun w ∙ ap (λ (z : Result Unit RunFault). taken_step text z x ps (frame_of m text c).next (frame_of m text c).loops (frame_of m text c) w) u;
     placed = record { number = p.number; next = p.next; depth = p.depth; iterations = p.iterations };
-  }
+  })
 
   pub starts : {u : Unit} {c' : Call} → r ≡ Ok u → Enters (record c { params = ps }) (Kinds.Pieces x) c' → StartsPass m text c d line list end (Ok tt) c'
   unfolding taken_step pass_step resume_at

@@ -107,6 +107,7 @@ pub fn end_pass(marked: &Marked, call: &mut Call) -> Result<(), RunFault>
 }
 
 // The number of passes that a value asks for.
+#[tactic(auto, using(crate::proofs::Repeats::counts))]
 fn count_passes(v: Integer) -> usize
     ensures { CountsPasses v result }
 {

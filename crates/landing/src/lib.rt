@@ -11,6 +11,7 @@ use faults::RunFault;
 use scan::Marked;
 
 // Skips n code lines of a call, and those past its end in its caller.
+#[tactic(auto, using(crate::proofs::Leaves::lands_on, crate::proofs::Leaves::lands_beyond, crate::proofs::Leaves::lands_badly))]
 pub fn land_skip(marked: &Marked, call: &mut Call, n: usize) -> Result<Turn, RunFault>
     requires { call.old.next ≤ length marked.now.text.now }
     ensures { LandsSkip marked.now.marks marked.now.text.now call.old n result call.new }
@@ -25,6 +26,7 @@ pub fn land_skip(marked: &Marked, call: &mut Call, n: usize) -> Result<Turn, Run
 }
 
 // What a turn to a line that a call offered comes to in that call.
+#[tactic(auto, using(crate::proofs::Leaves::turns_back, crate::proofs::Leaves::turns_else))]
 pub fn land(marked: &Marked, call: &mut Call, turn: Turn) -> Result<Turn, RunFault>
     requires { call.old.next ≤ length marked.now.text.now }
     ensures { LandsTurn marked.now.marks marked.now.text.now call.old turn result call.new }

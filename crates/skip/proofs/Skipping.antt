@@ -9,7 +9,7 @@ use lib.IntN.{ℤ, pos, negsuc, nat_abs}
 use mir.Val.{SFits}
 use Rattle.model.specs.declared.Marks.{Marks}
 use Rattle.model.specs.declared.Comparison.{Comparison}
-use Rattle.model.specs.Text.{Bytes, same}
+use Rattle.model.specs.Text.{Bytes}
 use Rattle.model.specs.Store.{Store}
 use Rattle.model.specs.Value.{value_of}
 use Rattle.model.specs.Machine.{skips, stepped, param, skip_by, compares, skip_if, skip_compared, wanted, Outputs}
@@ -18,15 +18,13 @@ use Rattle.state.specs.declared.State.{State}
 use Rattle.state.specs.State.{shared_of, Sound}
 use Rattle.call.specs.declared.Call.{Call}
 use Rattle.call.specs.Call.{frame_of, Placed}
-use Rattle.call.specs.Params.{Reads}
-use Rattle.number.specs.Number.{Valued, width, number_of, InRange}
+use Rattle.number.specs.Number.{width}
 use Rattle.number.proofs.Signed.{read_back, told, told_in}
-use Rattle.std.specs.Prelude.{Some, None, Result, Ok, Err, IsErrAnd, ok_or}
+use Rattle.std.specs.Prelude.{Result, Ok, Err}
 use Rattle.std.specs.Result.{OkIff}
 use Rattle.std.specs.Int.{FitsUnsignedBits}
 use Rattle.faults.specs.declared.RunFault.{RunFault}
 use Rattle.faults.specs.declared.RunFault.TheVariants.{BadSkip, NoValue}
-use Rattle.value.specs.Reads.{Values}
 use Rattle.answer.specs.declared.Turn.TheVariants.{Continues}
 use Rattle.answer.specs.Answers.{Answer}
 use Rattle.answer.specs.Kept.{Comes}
@@ -37,29 +35,16 @@ use Rattle.skip.specs.Skips.{SkipsLines, HasValue, ParamValue, Agrees, SkipsBy, 
 
 -- ---- the value of a parameter
 
-module _ {m : Marks} {c : Call} {d : ℕ} {es : Store} where
-  pub param_values : {t : Bytes} {v : Valued} {r : Result ℤ RunFault} → Reads c d t → Values m es t v → r ≡ ok_or v NoValue → ParamValue m c d es r
-  param_values {t} {v} {r} l g e = record { is = subst (HasValue m c d es) (sym e) (by v g.is g.fits) }
-    where
-      by : (v : Valued) → value_of m es t ≡ number_of v → InRange v → HasValue m c d es (ok_or v NoValue)
-      by (Some z) k f = (f, λ text. ap (value_of m es) (l.is m text) ∙ k)
-      by None k f = (refl, λ text. ap (value_of m es) (l.is m text) ∙ k)
+module _ {m : Marks} {c : Call} {d : ℕ} {es : Store} {r : Result ℤ RunFault} (p : ParamValue m c d es r) where
+  has_value : {z : ℤ} → r ≡ Ok z → (text : Bytes) → value_of m es (param (frame_of m text c) d) ≡ some z
+  has_value e = (subst (HasValue m c d es) e p.is).1
 
-  module _ {r : Result ℤ RunFault} (p : ParamValue m c d es r) where
-    has_value : {z : ℤ} → r ≡ Ok z → (text : Bytes) → value_of m es (param (frame_of m text c) d) ≡ some z
-    has_value e = (subst (HasValue m c d es) e p.is).1
+  -- it is read back from its bits
+  told_value : {z : ℤ} → r ≡ Ok z → read_back z ≡ z
+  told_value {z} e = told_in z (subst (HasValue m c d es) e p.is).0
 
-    -- it is read back from its bits
-    told_value : {z : ℤ} → r ≡ Ok z → read_back z ≡ z
-    told_value {z} e = told_in z (subst (HasValue m c d es) e p.is).0
-
-    no_value : {e : RunFault} → r ≡ Err e → (e ≡ NoValue) × ((text : Bytes) → value_of m es (param (frame_of m text c) d) ≡ none)
-    no_value e = subst (HasValue m c d es) e p.is
-
--- an answer that is an error
-err_as : {r : Answer} {e f : RunFault} → IsErrAnd r (λ x. x ≡ e) → e ≡ f → r ≡ Err f
-err_as {r = Ok t} y k = absurd y
-err_as {r = Err x} y k = ap Err (y ∙ k)
+  no_value : {e : RunFault} → r ≡ Err e → (e ≡ NoValue) × ((text : Bytes) → value_of m es (param (frame_of m text c) d) ≡ none)
+  no_value e = subst (HasValue m c d es) e p.is
 
 -- ---- a skip by a value
 
@@ -94,16 +79,16 @@ module _ {m : Marks} {text : Bytes} {c : Call} {v : ℤ} {r : Answer} {E : Type 
       by (negsuc i) h = absurd (h.0)
 
 module _ {m : Marks} {text : Bytes} {c : Call} {d : ℕ} {s : State} {v : Result ℤ RunFault} {r : Answer} where
-  pub skips-by : {z : ℤ} {c' : Call} → ParamValue m c d s.store v → v ≡ Ok z → SkipsLines m text c (read_back z) r c' → SkipsBy m text c d s r c'
-  skips-by p e f = record {
+  pub skips_by : {z : ℤ} {c' : Call} → ParamValue m c d s.store v → v ≡ Ok z → SkipsLines m text c (read_back z) r c' → SkipsBy m text c d s r c'
+  skips_by p e f = record {
     comes = λ o b q h. comes_as (ap (λ (i : Math.Option ℤ). skip_by i (frame_of m text c) (shared_of s o)) (has_value p e text ∙ ap some (sym (told_value p e)))) (f.comes s o b q h);
   }
 
-  pub skips_fault : {e : RunFault} → ParamValue m c d s.store v → v ≡ Err e → IsErrAnd r (λ x. x ≡ e) → SkipsBy m text c d s r c
+  pub skips_fault : {e : RunFault} → ParamValue m c d s.store v → v ≡ Err e → r ≡ Err e → SkipsBy m text c d s r c
   unfolding skip_by
   skips_fault p e g =
       let z = no_value p e in
-      record { comes = λ o b q h. came_fault h q (err_as g z.0) (ap (λ (i : Math.Option ℤ). skip_by i (frame_of m text c) (shared_of s o)) (z.1 text)) }
+      record { comes = λ o b q h. came_fault h q (g ∙ ap Err z.0) (ap (λ (i : Math.Option ℤ). skip_by i (frame_of m text c) (shared_of s o)) (z.1 text)) }
 
 -- ---- where a test holds
 
@@ -125,11 +110,8 @@ wanted-is true false = refl
 wanted-is false true = refl
 wanted-is false false = refl
 
-pub params-agree : {c : Call} {a b : Bytes} {q : Bool} → Reads c 1 a → Reads c 2 b → q ≡ same a b → Agrees c q
-params-agree l k e = record { is = λ m text. e ∙ ap₂ same (sym (l.is m text)) (sym (k.is m text)) }
-
-pub skips-text : {m : Marks} {text : Bytes} {b q : Bool} {c : Call} {s : State} {r : Answer} {c' : Call} → Agrees c q → SkipsIf m text (beq q b) c s r c' → SkipsText m text b c s r c'
-skips-text {m} {text} {b} {q} {c} {s} e g = record {
+pub skips_text : {m : Marks} {text : Bytes} {b q : Bool} {c : Call} {s : State} {r : Answer} {c' : Call} → Agrees c q → SkipsIf m text (beq q b) c s r c' → SkipsText m text b c s r c'
+skips_text {m} {text} {b} {q} {c} {s} e g = record {
   comes = λ o line p h. comes_as (ap (λ (i : Bool). skip_if m i (frame_of m text c) (shared_of s o)) (sym (wanted-is b q ∙ ap (wanted b) (e.is m text)))) (g.comes o line p h);
 }
 
@@ -143,18 +125,18 @@ compared : (m : Marks) (text : Bytes) (k : Comparison) (c : Call) (s : State) (o
 compared m text k c s o e f = ap₂ (λ (i j : Math.Option ℤ). skip_compared m k i j (frame_of m text c) (shared_of s o)) e f
 
 module _ {m : Marks} {text : Bytes} {k : Comparison} {c : Call} {s : State} {v : Result ℤ RunFault} (p : ParamValue m c 1 s.store v) where
-  pub no_first : {e : RunFault} {r : Answer} → v ≡ Err e → IsErrAnd r (λ x. x ≡ e) → SkipsValue m text k c s r c
+  pub no_first : {e : RunFault} {r : Answer} → v ≡ Err e → r ≡ Err e → SkipsValue m text k c s r c
   unfolding skip_compared
   no_first e g =
       let z = no_value p e in
-      record { comes = λ o line q h. came_fault h q (err_as g z.0) (compared m text k c s o (z.1 text) refl) }
+      record { comes = λ o line q h. came_fault h q (g ∙ ap Err z.0) (compared m text k c s o (z.1 text) refl) }
 
   module _ {a : ℤ} (f : v ≡ Ok a) {u : Result ℤ RunFault} (n : ParamValue m c 2 s.store u) where
-    pub no_second : {e : RunFault} {r : Answer} → u ≡ Err e → IsErrAnd r (λ x. x ≡ e) → SkipsValue m text k c s r c
+    pub no_second : {e : RunFault} {r : Answer} → u ≡ Err e → r ≡ Err e → SkipsValue m text k c s r c
     unfolding skip_compared
     no_second e g =
         let z = no_value n e in
-        record { comes = λ o line q h. came_fault h q (err_as g z.0) (compared m text k c s o (has_value p f text) (z.1 text)) }
+        record { comes = λ o line q h. came_fault h q (g ∙ ap Err z.0) (compared m text k c s o (has_value p f text) (z.1 text)) }
 
     pub skips_value : {b : ℤ} {t : Bool} {r : Answer} {c' : Call} → u ≡ Ok b → t ≡ compares k (read_back a) (read_back b) → SkipsIf m text t c s r c' → SkipsValue m text k c s r c'
     unfolding skip_compared

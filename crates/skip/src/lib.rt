@@ -37,6 +37,7 @@ fn param_value(m: Marks, call: &Call, d: usize, store: &Store) -> Result<Integer
 }
 
 // Whether parameters 1 and 2 are the same text.
+// same_bytes is `==` by the name of document 01's `same`: with `==` here, its proof would stand here once more.
 fn params_agree(call: &Call) -> bool
     ensures { Agrees call.now result }
 {
@@ -44,12 +45,8 @@ fn params_agree(call: &Call) -> bool
 }
 
 // F4 by parameter d.
-pub fn skip_by(
-    marked: &Marked,
-    call: &mut Call,
-    d: usize,
-    s: &State,
-) -> Result<Turn, RunFault>
+#[tactic(auto, using(crate::proofs::Skipping::skips_by))]
+pub fn skip_by(marked: &Marked, call: &mut Call, d: usize, s: &State) -> Result<Turn, RunFault>
     requires { Parameter d × (call.old.next ≤ length marked.now.text.now) }
     ensures { SkipsBy marked.now.marks marked.now.text.now call.old d s.now result call.new }
 {
@@ -58,6 +55,8 @@ pub fn skip_by(
 }
 
 // Where a test holds, a skip by parameter 3.
+// The flag is the test's outcome: without it each of its two callers would have this `if`, with the same two proofs.
+#[tactic(auto, using(crate::proofs::Skipping::skips_where, crate::proofs::Skipping::skips_nowhere))]
 fn skip_if(marked: &Marked, call: &mut Call, holds: bool, s: &State) -> Result<Turn, RunFault>
     requires { call.old.next ≤ length marked.now.text.now }
     ensures { SkipsIf marked.now.marks marked.now.text.now holds call.old s.now result call.new }
@@ -70,12 +69,9 @@ fn skip_if(marked: &Marked, call: &mut Call, holds: bool, s: &State) -> Result<T
 }
 
 // F5: F50 wants equal texts, F51 unequal ones.
-pub fn skip_text(
-    marked: &Marked,
-    call: &mut Call,
-    equal: bool,
-    s: &State,
-) -> Result<Turn, RunFault>
+// What is wanted is a bool, which is compared with what is found: an enum of two would be turned into one first.
+#[tactic(auto, using(crate::proofs::Skipping::skips_text))]
+pub fn skip_text(marked: &Marked, call: &mut Call, equal: bool, s: &State) -> Result<Turn, RunFault>
     requires { call.old.next ≤ length marked.now.text.now }
     ensures { SkipsText marked.now.marks marked.now.text.now equal call.old s.now result call.new }
 {

@@ -9,7 +9,7 @@ pub returns-in_default : goal.returns-in_default
 returns-in_default c = ends_outside c.requires c.in_default.ensures
 
 pub returns-in_err-after : goal.returns-in_err-after
-returns-in_err-after c = pass_failed c.requires c.in-Some.ensures (search rules) c.pass_again.ensures c.in_err-after.was c.from_residual.ensures.1
+returns-in_err-after c = pass_failed c.requires c.in-Some.ensures (search rules) c.pass_again.ensures c.in_err-after.was (search rules)
 
 pub returns-in-Some-2 : goal.returns-in-Some-2
 returns-in-Some-2 c = another_pass c.requires c.in-Some.ensures (search rules) c.pass_again.ensures (c.in_ok-after.was ∙ ap Ok c.in-Some-2.is)

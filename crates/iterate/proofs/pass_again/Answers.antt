@@ -8,7 +8,7 @@ pub returns-in-Count-eq0 : goal.returns-in-Count-eq0
 returns-in-Count-eq0 c = count_ends c.requires c.in-Count-eq0.is c.in-Count-eq0.field-0-test
 
 pub returns-in_err-take_pass-in-Pieces : goal.returns-in_err-take_pass-in-Pieces
-returns-in_err-take_pass-in-Pieces c = pieces_fail c.requires c.in-Pieces.is c.as_bytes.ensures c.if-pieces-as_bytes.true c.take_pass.ensures c.in_err-take_pass-in-Pieces.was c.from_residual.ensures.1
+returns-in_err-take_pass-in-Pieces c = pieces_fail c.requires c.in-Pieces.is c.as_bytes.ensures c.if-pieces-as_bytes.true c.take_pass.ensures c.in_err-take_pass-in-Pieces.was (search rules)
 
 pub returns-in-Pieces-2 : goal.returns-in-Pieces-2
 returns-in-Pieces-2 c = pieces_end c.requires c.in-Pieces.is c.as_bytes.ensures c.if-pieces-as_bytes.false (search rules) c.set.ensures.text c.set.ensures.delimiter
