@@ -1,2 +1,4 @@
--- What an answer says. The laws of each module of src stand with the proofs of its functions.
+-- What an answer says, and why the functions of loading ensure what they do.
 pub mod Answer
+pub mod Laws
+pub mod Macros

@@ -10,6 +10,7 @@ use model::{CODE_LINES_MOST, Effect, LINE_MOST, Marks, NESTING_MOST};
 use scan::find_byte;
 
 // What follows a code line with this effect, where n iterations are open, unless it is malformed or out of place.
+#[tactic(auto, unfolding(model::specs::Load::unmatched, model::specs::Load::open_after, model::specs::Load::is_owner))]
 fn nest(e: Effect, n: usize) -> Option<Next>
     ensures { Nests e n result }
 {
@@ -25,6 +26,7 @@ fn nest(e: Effect, n: usize) -> Option<Next>
 }
 
 // What follows a line with this content: after a template comes code, and a layout is no code.
+#[tactic(auto, unfolding(model::specs::Load::effect_here, model::specs::Load::unmatched, model::specs::Load::open_after, model::specs::Load::is_owner))]
 fn follow(m: Marks, next: Next, content: &[u8]) -> Option<Next>
     ensures { Follows m next content.now result }
 {
@@ -37,6 +39,7 @@ fn follow(m: Marks, next: Next, content: &[u8]) -> Option<Next>
 
 impl Loader {
     // A code line or a layout.
+    #[tactic(auto, using(crate::proofs::Laws::content_is), unfolding(model::specs::Load::code_line, model::specs::Load::lowest, model::specs::Load::unless))]
     pub fn add_code(&mut self, m: Marks, line: &[u8]) -> Seen
         requires { in_body self.old.next ≡ true }
         ensures { AddsCode m self.old line.now self.new result }
@@ -55,16 +58,18 @@ impl Loader {
     }
 
     // A line that begins with mark 3 ends the macro, and with two of them the section; `rest` is what follows the first.
+    #[tactic(auto, using(crate::proofs::Laws::begins_as, crate::proofs::Laws::unclear), unfolding(model::specs::Load::after_line))]
     pub fn end_macro(&mut self, m: Marks, line: &SectionLine, rest: &[u8]) -> Seen
         requires { in_body self.old.next ≡ true }
-        ensures { EndsMacro m self.old line.now.line line.now.next rest.now self.new result }
+        ensures { EndsMacro m self.old line.now.nth line.now.next rest.now self.new result }
     {
         if self.next != Next::Code(0) {
             return Err(LoadFault::BadCode);
         }
         if rest.starts_with(&[m.code]) {
+            // each field by itself: a loader is no loaded text
             return Ok(Some(Loaded {
-                line: line.line,
+                line: line.nth,
                 marks: m,
                 count: self.count,
                 nodes: self.nodes,

@@ -15,6 +15,7 @@ pub struct Head {
 }
 
 // The head of a text that is small enough, without byte 0, and has a legal flag line.
+#[tactic(auto, using(crate::proofs::Laws::lines_empty, scan::proofs::FlagLine::marks_legal, model::proofs::Text::part_front), unfolding(model::specs::Load::load, model::specs::Load::load_lines))]
 pub fn read_text_head(text: &[u8]) -> Result<Head, Refused>
     ensures { ReadsHead text.now result }
 {

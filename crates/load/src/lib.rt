@@ -51,7 +51,7 @@ enum Next {
 #[derive(Clone, Copy)]
 struct SectionLine<'a> {
     // its number
-    line: usize,
+    nth: usize,
     start: usize,
     bytes: &'a [u8],
     // where the next line starts

@@ -14,31 +14,27 @@ use scan::{Marked, read_line};
 
 impl SectionLine<'_> {
     // A fault of this line: at the text's last line a section that isn't ended comes before a limit that is passed.
+    #[tactic(auto, using(scan::proofs::Lines::lines_none, scan::proofs::Lines::lines_at), unfolding(model::specs::Load::lowest_at))]
     fn refuse(&self, text: &[u8], fault: LoadFault) -> Refused
-        ensures { RefusesAt text.now self.now.next fault self.now.line result }
+        ensures { RefusesAt text.now self.now.next fault self.now.nth result }
     {
-        if self.next < text.len() {
-            return Refused {
-                fault,
-                line: self.line,
-            };
-        }
         let lowest = match fault {
-            LoadFault::OverLimit => LoadFault::OpenSection,
+            LoadFault::OverLimit if text.len() <= self.next => LoadFault::OpenSection,
             fault => fault,
         };
         Refused {
             fault: lowest,
-            line: self.line,
+            line: self.nth,
         }
     }
 }
 
 impl Loader {
     // The next line: a template's, or one of a macro's body.
+    #[tactic(auto, using(crate::proofs::Laws::stripped), unfolding(model::specs::Load::line_seen))]
     fn see_line(&mut self, marked: &Marked, line: &SectionLine) -> Seen
         requires { TableSound marked.now.marks marked.now.text.now self.old × LineIn marked.now.text.now line.now.start line.now.bytes.now line.now.next }
-        ensures { SeesLine marked.now.marks marked.now.text.now self.old line.now.line line.now.bytes.now line.now.next self.new result }
+        ensures { SeesLine marked.now.marks marked.now.text.now self.old line.now.nth line.now.bytes.now line.now.next self.new result }
     {
         let m = marked.marks;
         if let Next::Template = self.next {
@@ -52,6 +48,7 @@ impl Loader {
 }
 
 // The macros from the text's second line on, which starts at `first`, up to the section's end.
+#[tactic(auto, using(crate::proofs::Laws::none_inside, crate::proofs::Laws::none_in_order, crate::proofs::Laws::line_in, scan::proofs::Lines::lines_none), unfolding(model::specs::Load::load_from, model::specs::Load::load_on, model::specs::Load::none_read, model::specs::Load::nodes, model::specs::Load::nodes_from, macros::specs::Table::macros_in, macros::specs::Table::templates_in))]
 pub fn load_section(marked: &Marked, first: usize, table: &mut Table) -> Result<Loaded, Refused>
     requires { SectionAt marked.now.text.now first }
     ensures { Loads (load_from marked.now.marks none_read 1 (lines (drop first marked.now.text.now))) marked.now.text.now table.new result }
@@ -71,7 +68,7 @@ pub fn load_section(marked: &Marked, first: usize, table: &mut Table) -> Result<
         let read = read_line(text, at);
         n += 1;
         let line = SectionLine {
-            line: n,
+            nth: n,
             start: at,
             bytes: &text[at..read.end],
             next: read.next,

@@ -21,6 +21,7 @@ fn count_byte(s: &[u8], b: u8) -> usize
 }
 
 // A template, after others, whose tree has so many nodes: where it goes in their order, and how many nodes it adds.
+#[tactic(auto, using(crate::proofs::Macros::counted_by, crate::proofs::Macros::tabled_length, macros::proofs::Entries::templates_in_length), unfolding(model::specs::Load::template_fault, model::specs::Load::lowest))]
 fn weigh_template(ordered: &Ordered, nodes: usize, template: &[u8]) -> Result<Found, LoadFault>
     requires { nodes ≤ nodes_most }
     ensures { Weighs ordered.now.mark (templates_in ordered.now.text.now ordered.now.table.now ordered.now.n) (order_in ordered.now.table.now) nodes template.now result }
@@ -41,10 +42,11 @@ fn weigh_template(ordered: &Ordered, nodes: usize, template: &[u8]) -> Result<Fo
 
 impl Loader {
     // A template's line: the macro that it begins, whose body starts at the next line, is the table's next, and goes to its place in the order.
+    #[tactic(auto, using(crate::proofs::Laws::content_is, crate::proofs::Macros::tabled, macros::proofs::Entries::templates_in_length), unfolding(model::specs::Load::line_seen, model::specs::Load::template_line, model::specs::Load::unless))]
     pub fn add_macro(&mut self, marked: &Marked, line: &SectionLine) -> Seen
         requires table_sound { TableSound marked.now.marks marked.now.text.now self.old × (self.old.next ≡ Template) }
         requires line_in { LineIn marked.now.text.now line.now.start line.now.bytes.now line.now.next }
-        ensures { SeesLine marked.now.marks marked.now.text.now self.old line.now.line line.now.bytes.now line.now.next self.new result }
+        ensures { SeesLine marked.now.marks marked.now.text.now self.old line.now.nth line.now.bytes.now line.now.next self.new result }
     {
         let m = marked.marks;
         let stop = find_byte(line.bytes, 0, line.bytes.len(), m.source);
@@ -59,7 +61,7 @@ impl Loader {
         let entry = Entry {
             start: line.start,
             len: template.len(),
-            line: line.line,
+            line: line.nth,
             body: line.next,
         };
         self.table.put_macro(self.count, entry);

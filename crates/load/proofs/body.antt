@@ -1,2 +1,0 @@
--- A line of a body: its laws, and the proofs of its functions.
-pub mod Laws
