@@ -1,5 +1,5 @@
 -- The tree that is built of a loaded text's table is the tree of the text's templates.
-use mathlib.Core.Path.{◌≡◌, sym, ◌∙◌, subst}
+use mathlib.Core.Path.{◌≡◌, refl, sym, ◌∙◌, subst}
 use mathlib.Core.List.{List, []}
 use Prim.Native.Nat.{ℕ, ◌≤◌}
 use native.Mathlib.Omega.{arith}
@@ -16,7 +16,7 @@ use Rattle.nodes.specs.declared.Node.{Node}
 use Rattle.nodes.specs.SideBySide.{SideBySide, HoldsTree}
 use Rattle.macros.specs.Table.{templates_in, macros_in}
 use Rattle.macros.proofs.Entries.{macros-templates, templates_in_length}
-use Rattle.tree.specs.Built.{ReadyToBuild, Growing, Built}
+use Rattle.tree.specs.Built.{ReadyToBuild, Built, Builds}
 use Rattle.std.specs.Prelude.{Ok}
 use Rattle.load.specs.declared.Loaded.{Loaded}
 use Rattle.load.specs.Answer.{loaded_of, Loads}
@@ -42,7 +42,7 @@ module _ {text : Bytes} {t : Prepared} (h : Loads (load text) text t.table (Ok t
   legal = load_legal text (loaded_of text t.table r) h.is
 
   -- the templates are ready for their tree, in a row of 2,048 nodes or more
-  ready : {row : List Node} → 2048 ≤ length row → ReadyToBuild r.marks.placeholder listed row
+  pub ready : {row : List Node} → 2048 ≤ length row → ReadyToBuild r.marks.placeholder listed row
   ready u = record {
     few = omega (arith, templates_in_length text t.table r.count, h.sound.inside.entries.few);
     short = λ k. subst (λ (ts : List Bytes). length (get_or ts k []) ≤ 200) same (legal.1.short k);
@@ -50,10 +50,6 @@ module _ {text : Bytes} {t : Prepared} (h : Loads (load text) text t.table (Ok t
     room = omega (arith, loads_counted h, loads_nodes h);
     small = omega (arith, loads_counted h, loads_nodes h);
   }
-
-  -- so it can be built there
-  pub can_build : {row : List Node} → 2048 ≤ length row → Growing r.marks.placeholder text t.table r.count row
-  can_build u = record { entries = h.sound.inside.entries; ready = ready u; in_order = h.sound.in_order }
 
   -- as many nodes are built as are counted
   built_counted : (row : List Node) (c : ℕ) → c ≤ length row → Built r.marks listed (take c row) → c ≡ r.nodes
@@ -74,10 +70,11 @@ module _ {text : Bytes} {t : Prepared} (h : Loads (load text) text t.table (Ok t
   }
 
   -- the text is prepared
-  pub prepared : {row : List Node} {c : ℕ} → (c ≤ length row) × Built r.marks listed (take c row) → IsPrepared text row t
-  prepared {row} {c} (u, b) =
-      let e = built_counted row c u b in
-      record { loads = h; has_tree = has_tree row (subst (λ (n : ℕ). n ≤ length row) e u) (subst (λ (n : ℕ). Built r.marks listed (take n row)) e b) }
+  pub prepared : {row : List Node} {c : ℕ} → Builds r.marks.placeholder listed row c → IsPrepared text row t
+  prepared {row} {c} b =
+      let u = b.built r.marks refl in
+      let e = built_counted row c b.within u in
+      record { loads = h; has_tree = has_tree row (subst (λ (n : ℕ). n ≤ length row) e b.within) (subst (λ (n : ℕ). Built r.marks listed (take n row)) e u) }
 
 -- a prepared text has its tree in the row
 pub holds-tree : {text : Bytes} {row : List Node} {t : Prepared} → IsPrepared text row t → (u : Load.Loaded) → load text ≡ loaded u → HoldsTree u row

@@ -8,6 +8,7 @@ ghost use Rattle.prepare.specs.Prepares.{Prepares};
 use load::{Loaded, Refused, load};
 use macros::Table;
 use nodes::Node;
+use templates::Ordered;
 use tree::build;
 
 // A text that is loaded, with the table of its macros.
@@ -24,6 +25,12 @@ pub fn prepare(text: &[u8], nodes: &mut [Node]) -> Result<Prepared, Refused>
 {
     let mut table = Table::default();
     let loaded = load(text, &mut table)?;
-    build(loaded.marks, text, &table, loaded.count, nodes);
+    let ordered = Ordered {
+        mark: loaded.marks.placeholder,
+        text,
+        table: &table,
+        n: loaded.count,
+    };
+    build(&ordered, nodes);
     Ok(Prepared { loaded, table })
 }

@@ -1,9 +1,9 @@
 -- prepare builds the tree of a text that is loaded; a text that is refused has none.
-use Rattle.prepare.proofs.Trees.{can_build, prepared}
+use Rattle.prepare.proofs.Trees.{ready, prepared}
 use Rattle.prepare.proofs.prepare.Goals as goal
 
 pub build-requires : goal.build-requires
-build-requires c = can_build {t = record { loaded = c.in_ok-loaded.loaded; table = c.load.new.table }} (rw c.in_ok-loaded.was at c.load.ensures) c.requires
+build-requires c = ready {t = record { loaded = c.in_ok-loaded.loaded; table = c.load.new.table }} (rw c.in_ok-loaded.was at c.load.ensures) c.requires
 
 pub returns : goal.returns
 returns c = prepared {t = record { loaded = c.in_ok-loaded.loaded; table = c.load.new.table }} (rw c.in_ok-loaded.was at c.load.ensures) c.build.ensures
