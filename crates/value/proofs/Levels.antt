@@ -357,8 +357,8 @@ valued {s = s} c g =
     let e = ap whole (c.is (5 * (length s + 1)) (omega arith)) in
     record { is = sym (g.is ∙ e); number = g.number ∙ ap value_fault e; fits = g.fits }
 
-pub no-value : {m : Marks} {es : Store} {s : List ℕ} {v : Parsing} → Whole m es s v 0 → v ≡ None → Values m es s None
-no-value {s = s} c q = valued c (whole_failed s q)
+pub no_value : {m : Marks} {es : Store} {s : List ℕ} {v : Parsing} → Whole m es s v 0 → v ≡ None → Values m es s None
+no_value {s = s} c q = valued c (whole_failed s q)
 
 pub value_read : {m : Marks} {es : Store} {s : List ℕ} {v : Parsing} {p : Parsed} → Whole m es s v 0 → v ≡ Some p → {r : Valued} → Gives r (whole (read_of s (Some p))) → Values m es s r
 value_read c q g = valued c (rw q g)

@@ -1,6 +1,4 @@
 -- Laws, in order.
-pub mod Chain
 pub mod Names
-pub mod Leading
 pub mod Operands
 pub mod Levels

@@ -83,6 +83,9 @@ module _ {m : Marks} {s : List ℕ} {at : ℕ} where
       pub naming_more : q ≡ false → Naming m s at (i + 1)
       naming_more e = record { is = sym (goes_on m s i inside (sym tested ∙ e)) ∙ n.is; upto = omega arith }
 
+-- the loop of name_end goes by these
+pub ruleset naming = (naming_none, naming_mark, naming_more, naming_ended)
+
 -- a name is split from what follows at its length
 name_splits : (m : Marks) (l : List ℕ) → name_of m l ≡ (take (name_length m l) l, drop (name_length m l) l)
 unfolding name_of name_length
@@ -111,9 +114,9 @@ module _ {m : Marks} {s : List ℕ} {at e : ℕ} (n : EndsName m s at e) where
 -- ---- the text stored under it
 
 module _ {es : Store} {name : List ℕ} {r : Found} (m : Marks) (s : GetsText es name r) where
-  pub not-stored : r ≡ None → Gives None (of_stored m (find name es))
+  pub not_stored : r ≡ None → Gives None (of_stored m (find name es))
   unfolding of_stored
-  not-stored e = gives_value (rw (← s.is, e)) tt
+  not_stored e = gives_value (rw (← s.is, e)) tt
 
   pub stored_value : {t : List ℕ} → r ≡ Some t → {v : Valued} → Gives v (stored_number m t) → Gives v (of_stored m (find name es))
   unfolding of_stored

@@ -52,15 +52,15 @@ module _ {s : List ℕ} {at : ℕ} {n : Numeral} (u : Numerals s at n) where
   pub numeral_read : at < length s → is_digit (get_or s at 0) ≡ true → {z : ℤ} → n.value ≡ Some z → ReadsValue s (at + 1) (Some (record { value = to_z width (of_z width z); end = n.end })) (numeral_at (drop at s))
   numeral_read l d q = reads_ended s (u.past l d) u.upto u.rest (rw q at u.gives)
 
-  pub no-numeral : n.value ≡ None → ReadsValue s (at + 1) None (numeral_at (drop at s))
-  no-numeral q = reads_none s _ (rw q at u.gives)
+  pub no_numeral : n.value ≡ None → ReadsValue s (at + 1) None (numeral_at (drop at s))
+  no_numeral q = reads_none s _ (rw q at u.gives)
 
 module _ {m : Marks} {s : List ℕ} {at e : ℕ} (n : EndsName m s at e) (st : Store) {v : Valued} (g : Gives v (of_stored m (find (part s at e) st))) where
   pub name_read : at < length s → is_mark m (get_or s at 0) ≡ false → {z : ℤ} → v ≡ Some z → ReadsValue s (at + 1) (Some (record { value = to_z width (of_z width z); end = e })) (name_at m st (drop at s))
   name_read l d {z} q = reads_ended s (name_past n l d) n.upto (name_rest n) {z = z} (rw (name_is n) (rw q at g))
 
-  pub no-name : v ≡ None → ReadsValue s (at + 1) None (name_at m st (drop at s))
-  no-name q = reads_none s (name_of m (drop at s)).1 (rw (name_is n) (rw q at g))
+  pub no_name : v ≡ None → ReadsValue s (at + 1) None (name_at m st (drop at s))
+  no_name q = reads_none s (name_of m (drop at s)).1 (rw (name_is n) (rw q at g))
 
 -- ---- the whole text
 

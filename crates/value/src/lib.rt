@@ -39,6 +39,7 @@ pub struct Parsed {
 }
 
 // Whether a byte is one of the marks 6 to 12.
+#[tactic(auto, using(crate::proofs::Names::marks))]
 fn is_mark(m: Marks, b: u8) -> bool
     ensures { result ≡ is_mark m b }
 {
@@ -61,6 +62,7 @@ struct Source<'a> {
 
 impl Source<'_> {
     // Where the name that begins at `at` ends: at the next mark or the text's end.
+    #[tactic(auto, using(crate::proofs::Names::naming))]
     fn name_end(&self, at: usize) -> usize
         requires { at ≤ length self.now.text.now }
         ensures { EndsName self.now.m self.now.text.now at result }
@@ -74,6 +76,7 @@ impl Source<'_> {
     }
 
     // How an expression begins: it is empty, or has a sign, or its first product stands there.
+    #[tactic(auto, unfolding(crate::specs::Place::start_at))]
     fn start(&self, at: usize) -> Join
         requires { at ≤ length self.now.text.now }
         ensures { Joins self.now.text.now at result (start_at self.now.m self.now.text.now at) }
@@ -95,6 +98,7 @@ impl Source<'_> {
     }
 
     // Whether `one` or `two` stands at `at`, and by which step it goes on then.
+    #[tactic(auto, unfolding(crate::specs::Place::join_at))]
     fn next(&self, at: usize, one: u8, first: Step, two: u8, second: Step) -> Join
         requires { at ≤ length self.now.text.now }
         ensures { Joins self.now.text.now at result (join_at self.now.text.now at one first two second) }
@@ -113,6 +117,7 @@ impl Source<'_> {
     }
 
     // What the operand at `at` begins with.
+    #[tactic(auto, unfolding(crate::specs::Place::lead_at))]
     fn opening(&self, at: usize) -> Option<Lead>
         requires { at ≤ length self.now.text.now }
         ensures { Leads self.now.m self.now.text.now at result (lead_at self.now.m self.now.text.now at) }
@@ -134,6 +139,7 @@ impl Source<'_> {
     }
 
     // The value before the right bracket, and the offset after it.
+    #[tactic(auto, unfolding(crate::specs::Place::closed_at))]
     fn close(&self, v: Parsed) -> Option<Parsed>
         ensures { result ≡ closed_at self.now.m self.now.text.now v }
     {
@@ -150,6 +156,7 @@ impl Source<'_> {
     }
 
     // The value with no byte after it.
+    #[tactic(auto, using(crate::proofs::Operands::whole_left, crate::proofs::Operands::whole_all))]
     fn all_read(&self, v: Parsed) -> Option<Integer>
         ensures { Gives result (whole (read_of self.now.text.now (Some v))) }
     {
@@ -160,6 +167,7 @@ impl Source<'_> {
     }
 
     // The value of the text stored under a name.
+    #[tactic(auto, using(crate::proofs::Names::not_stored, crate::proofs::Names::stored_value))]
     fn find_value(&self, name: &[u8]) -> Option<Integer>
         ensures { Gives result (of_stored self.now.m (find name.now self.now.store.now)) }
     {
@@ -167,6 +175,7 @@ impl Source<'_> {
     }
 
     // The digits at `at`.
+    #[tactic(auto, using(crate::proofs::Operands::no_numeral))]
     fn read_numeral(&self, at: usize) -> Option<Parsed>
         requires { (at < length self.now.text.now) × (is_digit (get_or self.now.text.now at 0) ≡ true) }
         ensures { ReadsValue self.now.text.now (at + 1) result (numeral_at (drop at self.now.text.now)) }
@@ -179,6 +188,7 @@ impl Source<'_> {
     }
 
     // The name at `at`.
+    #[tactic(auto, using(crate::proofs::Operands::no_name))]
     fn read_name(&self, at: usize) -> Option<Parsed>
         requires { (at < length self.now.text.now) × (is_mark self.now.m (get_or self.now.text.now at 0) ≡ false) }
         ensures { ReadsValue self.now.text.now (at + 1) result (name_at self.now.m self.now.store.now (drop at self.now.text.now)) }
@@ -259,6 +269,7 @@ impl Source<'_> {
 }
 
 // The value of `text`, with the names that are stored.
+#[tactic(auto, using(crate::proofs::Levels::no_value))]
 pub fn value(m: Marks, store: &Store, text: &[u8]) -> Option<Integer>
     ensures { Values m store.now text.now result }
 {

@@ -23,25 +23,25 @@ expression-loop-j-preserved t c =
     levels.going_on c.loop-j.invariant c.in-Go.is c.product.ensures c.in_ok-v-in-Go.was c.next-j.ensures (search rules) c.apply.ensures c.in_ok-sum-in-Go.was (search rules)
 
 pub operand-returns-in_err-opening : goal.operand-returns-in_err-opening
-operand-returns-in_err-opening t c = rw c.from_residual.ensures (levels.nothing c.args.self.now.m c.args.self.now.store.now c.args.self.now.text.now c.opening.ensures c.in_err-opening.was)
+operand-returns-in_err-opening t c = rw c.from_residual.ensures (levels.nothing _ _ _ c.opening.ensures c.in_err-opening.was)
 
 pub operand-returns-in-Digits : goal.operand-returns-in-Digits
 operand-returns-in-Digits t c =
-    levels.digits_read c.args.self.now.m c.args.self.now.store.now c.args.self.now.text.now c.opening.ensures (c.in_ok-opening.was ∙ ap Some c.in-Digits.is) c.read_numeral.ensures
+    levels.digits_read _ _ _ c.opening.ensures (c.in_ok-opening.was ∙ ap Some c.in-Digits.is) c.read_numeral.ensures
 
 pub operand-returns-in-Name : goal.operand-returns-in-Name
 operand-returns-in-Name t c =
-    levels.name_read c.args.self.now.m c.args.self.now.store.now c.args.self.now.text.now c.opening.ensures (c.in_ok-opening.was ∙ ap Some c.in-Name.is) c.read_name.ensures
+    levels.name_read _ _ _ c.opening.ensures (c.in_ok-opening.was ∙ ap Some c.in-Name.is) c.read_name.ensures
 
 pub operand-returns-in_ok-expression-in-Bracket : goal.operand-returns-in_ok-expression-in-Bracket
 operand-returns-in_ok-expression-in-Bracket t c =
-    levels.bracketed c.args.self.now.m c.args.self.now.store.now c.args.self.now.text.now c.opening.ensures (c.in_ok-opening.was ∙ ap Some c.in-Bracket.is)
+    levels.bracketed _ _ _ c.opening.ensures (c.in_ok-opening.was ∙ ap Some c.in-Bracket.is)
     c.expression.ensures c.in_ok-expression-in-Bracket.was c.close.ensures
 
 pub operand-returns-in_err-expression-in-Bracket : goal.operand-returns-in_err-expression-in-Bracket
 operand-returns-in_err-expression-in-Bracket t c =
     rw c.from_residual-in_err-expression-in-Bracket.ensures
-    (levels.unread c.args.self.now.m c.args.self.now.store.now c.args.self.now.text.now c.opening.ensures (c.in_ok-opening.was ∙ ap Some c.in-Bracket.is)
+    (levels.unread _ _ _ c.opening.ensures (c.in_ok-opening.was ∙ ap Some c.in-Bracket.is)
     c.expression.ensures c.in_err-expression-in-Bracket.was)
 
 pub product-loop-j-init : goal.product-loop-j-init
