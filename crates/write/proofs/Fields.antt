@@ -1,13 +1,14 @@
 -- The text of a layout: its fields and its other bytes.
-use mathlib.Core.Path.{◌≡◌, refl, sym, ap, ap₂, subst, ◌∙◌}
+use mathlib.Core.Path.{◌≡◌, refl, sym, ap, ap₂, ◌∙◌}
 use mathlib.Core.Bool.{Bool, true, false, not, cond, ◌&&◌}
 use mathlib.Core.List.{List, [], ◌∷◌, ◌++◌, append_assoc, append-nil}
 use Prim.Native.Nat.{ℕ, zero, suc, ◌+◌, ◌-◌, ◌≤◌, ◌<◌, min}
 use native.Mathlib.Omega.{arith}
 use borrow.Author.Tests.{ltb-false, leb-true, leb-false, eqb-false, eq-eqb, ne_eqb}
 use lib.Dec.{eqb, leb, ltb}
-use lib.ListN.{length, get_or, set, take, drop, replicate, length-append, length-replicate, drop_of_length-le}
-use lib.Seq.{take-length, drop-drop, length-take-le}
+use lib.ListN.{length, get_or, set, take, drop, replicate, length-append, length-drop, drop_of_length-le}
+use lib.Seq.{take-length, take_at, drop-drop, length-take-le}
+use borrow.Rule.Slice.PartMut.{mid_of, post_of, put_mid}
 use Rattle.std.specs.Prelude.{Option, Some, None, position}
 use Rattle.std.specs.Option.{unwrap_or}
 use Rattle.model.specs.declared.Marks.{Marks}
@@ -15,13 +16,12 @@ use Rattle.model.specs.Text.{Bytes, part}
 use Rattle.model.specs.Machine.{Frame, param, field, fields}
 use Rattle.model.proofs.Choices.{when_true, when_false}
 use Rattle.model.proofs.Text.{part_length, part-rest}
-use Rattle.buffer.specs.Pasted.{Pasted}
-use Rattle.rendering.specs.Added.{AddsAt}
-use Rattle.rendering.proofs.Added.{adds_as, adds_none, adds_copy, adds_store, adds_more, adds_length}
+use Rattle.buffer.specs.Written.{Written}
+use Rattle.buffer.proofs.Written.{written_none, written-length, written-take, written-drop, written_store}
 use Rattle.call.specs.declared.Call.{Call}
 use Rattle.call.specs.Call.{frame_of}
 use Rattle.call.specs.Params.{Reads}
-use Rattle.write.specs.Layout.{is_field, NamesField, param_of, layout_of, run_length, PutsField, PutsPart}
+use Rattle.write.specs.Layout.{is_field, NamesField, param_of, layout_of, run_length, FillsField, PutsPart}
 
 -- ---- one field
 
@@ -68,16 +68,19 @@ pub reads_param : {c : Call} {d : ℕ} {s : Bytes} → Reads c d s → param_of 
 unfolding param
 reads_param r = r.is (record { source = 0; placeholder = 0; code = 0; escape = 0; blank = 0; left = 0; plus = 0; minus = 0; times = 0; divide = 0; right = 0 }) []
 
--- a parameter cut, or with blanks after it
-pub puts_field : {blank : ℕ} {c : Call} {d n len : ℕ} {s o : Bytes} {w : ℕ} {o₁ o₂ : Bytes} → Reads c d s → len ≡ min (length s) n → Pasted o w (take len s) (length (take len s)) o₁
-    → Pasted o₁ (w + len) (replicate (n - len) blank) (n - len) o₂ → w + n ≤ length o → PutsField blank c d o w n o₂
-puts_field {blank} {c} {d} {n} {len} {s} {o} {w} {o₁} {o₂} l e p q room =
-    let e₁ : length (take len s) ≡ len = length-take-le len s (omega arith) in
-    let b : length (replicate (n - len) blank) ≡ n - len = length-replicate (n - len) blank in
-    let g : AddsAt o w (take len s) len o₁ = adds_as (adds_copy p (omega arith)) refl e₁ in
-    let t = adds_length g in
-    let h : AddsAt o₁ (w + len) (replicate (n - len) blank) (n - len) o₂ = adds_as (adds_copy (subst (λ (k : ℕ). Pasted o₁ (w + len) (replicate (n - len) blank) k o₂) (sym b) q) (omega arith)) refl b in
-    record { adds = adds_as (adds_more g h) (sym (ap (λ (x : Bytes). field blank n x) (reads_param l) ∙ field_min blank n len s (omega arith))) (omega arith) }
+-- a parameter cut, or with blanks after it: a are the bytes that are copied, f those that are blanks
+pub fills_field : {blank : ℕ} {c : Call} {d len : ℕ} {s o a f : Bytes} → Reads c d s → len ≡ min (length s) (length o) → a ≡ take len s
+    → f ≡ replicate (length (mid_of len (length (a ++ drop len o) - len) (a ++ drop len o))) blank → FillsField blank c d o (put_mid len (length (a ++ drop len o) - len) (a ++ drop len o) f)
+fills_field {blank} {c} {d} {len} {s} {o} {a} {f} l e g h =
+    let x : Bytes = a ++ drop len o in
+    let n : length a ≡ len = ap (λ (y : Bytes). length y) g ∙ length-take-le len s (omega arith) in
+    let w : length x ≡ length o = omega (arith, length-append a (drop len o), length-drop len o) in
+    let k : length (mid_of len (length x - len) x) ≡ length o - len = omega (arith, part_length x len (length x) (omega arith)) in
+    let none : post_of len (length x - len) x ≡ [] = drop_of_length-le (drop len x) (omega (arith, length-drop len x)) in
+    record {
+      is = ap₂ (λ (y z : Bytes). y ++ z) (take_at a (drop len o) len n ∙ g) (ap (λ (y : Bytes). f ++ y) none ∙ append-nil f ∙ h ∙ ap (λ (i : ℕ). replicate i blank) k)
+          ∙ sym (ap (λ (y : Bytes). field blank (length o) y) (reads_param l) ∙ field_min blank (length o) len s e);
+    }
 
 -- ---- all of them
 
@@ -185,24 +188,47 @@ module _ (m : Marks) (f : Frame) (b : ℕ) where
           let z : n ≡ n + run_length b (x ∷ s) = omega (arith, e) in
           fields-next m f b n x s (h 0) (eqb-false x b q) ∙ ap₂ (λ (k j : ℕ). after k j) z (sym e)
 
+-- ---- what is written behind what is written
+
+-- what the rest of a list becomes
+pub written_behind : {o front : Bytes} {i : ℕ} {out bytes : Bytes} {r : ℕ} {rest : Bytes} → Written o front i out → Written (mid_of i (length out - i) out) bytes r rest
+    → Written o (front ++ bytes) (i + r) (put_mid i (length out - i) out rest)
+written_behind {o} {front} {i} {out} {bytes} {r} {rest} a b =
+    let none : post_of i (length out - i) out ≡ [] = drop_of_length-le (drop i out) (omega (arith, length-drop i out)) in
+    let n = written-length a in
+    let k = part_length out i (length out) (omega arith) in
+    let z : i ≤ i + r = omega arith in
+    let tail : drop r (mid_of i (length out - i) out) ≡ drop (i + r) o = ap (λ (x : Bytes). drop r x) (part-rest out i) ∙ drop-drop r i out ∙ written-drop a (i + r) z in
+    record {
+      is = ap₂ (λ (x y : Bytes). x ++ y) (written-take a) (ap (λ (x : Bytes). rest ++ x) none ∙ append-nil rest ∙ b.is ∙ ap (λ (x : Bytes). bytes ++ x) tail)
+          ∙ sym (append_assoc front bytes (drop (i + r) o));
+      long = length-append front bytes ∙ omega (arith, a.long, b.long);
+      fits = omega (arith, a.fits, b.fits);
+    }
+
 -- ---- a part of a layout
 
-pub part_field : {m : Marks} {s : Bytes} {c : Call} {o : Bytes} {w : ℕ} → 0 < length s → {r : Option ℕ} → NamesField (get_or s 0 0) r → {d n : ℕ} {o' : Bytes} → ((i : ℕ) → get_or s i 0 < 256) → r ≡ Some d
-    → n ≡ run_length (get_or s 0 0) s → PutsField m.blank c d o w n o' → PutsPart m s c o w n o'
+pub part_field : {m : Marks} {s : Bytes} {c : Call} {o : Bytes} → 0 < length s → length s ≤ length o → {r : Option ℕ} → NamesField (get_or s 0 0) r → {d n : ℕ} {f : Bytes} → ((i : ℕ) → get_or s i 0 < 256) → r ≡ Some d
+    → n ≡ run_length (get_or s 0 0) s → FillsField m.blank c d (take n o) f → PutsPart m s c o n (f ++ drop n o)
 unfolding param
-part_field {s = []} h k bytes e y p = absurd (omega arith)
-part_field {m} {s = x ∷ s} {c} h k {d} {n} bytes e y p =
+part_field {s = []} h w k bytes e y p = absurd (omega arith)
+part_field {m} {s = x ∷ s} {c} {o} h w k {d} {n} bytes e y p =
     let f : Frame = frame_of m [] c in
     let l = run_more x x s (eq-eqb x x refl) in
     let most = run_most x (x ∷ s) in
     let z : 1 + run_length x s ≡ n = omega arith in
     let v : suc (run_length x s) ≡ n = omega arith in
+    let long : length (take n o) ≡ n = length-take-le n o (omega arith) in
     record {
       bytes = field m.blank n (param_of c d);
       is = fields-field m f x s k.small (k.names d e).0 ∙ fields-run m f x 1 s (λ i. bytes (suc i))
           ∙ ap₂ (λ (a j : ℕ). field m.blank a (param f (x - 48)) ++ fields m f 256 0 (drop j (x ∷ s))) z v
           ∙ ap (λ (j : ℕ). field m.blank n (param_of c j) ++ layout_of m (drop n (x ∷ s)) c) (sym (k.names d e).1);
-      adds = p.adds;
+      written = record {
+        is = ap (λ (a : Bytes). a ++ drop n o) (p.is ∙ ap (λ (i : ℕ). field m.blank i (param_of c d)) long);
+        long = field-long m.blank n (param_of c d);
+        fits = omega arith;
+      };
       from = omega arith;
       upto = omega arith;
     }
@@ -212,55 +238,50 @@ first_byte : (s : Bytes) → 0 < length s → s ≡ get_or s 0 0 ∷ drop 1 s
 first_byte [] h = absurd (omega arith)
 first_byte (x ∷ s) h = refl
 
-module _ {m : Marks} {s : Bytes} {c : Call} {o : Bytes} {w : ℕ} (h : 0 < length s) {r : Option ℕ} (n : NamesField (get_or s 0 0) r) where
-  pub part_byte : r ≡ None → w + length s ≤ length o → PutsPart m s c o w 1 (set o w (get_or s 0 0))
-  part_byte e room = record {
-    bytes = get_or s 0 0 ∷ [];
-    is = ap (λ (x : Bytes). layout_of m x c) (first_byte s h) ∙ fields_byte m (frame_of m [] c) (get_or s 0 0) (drop 1 s) n.small (n.none e);
-    adds = adds_store (get_or s 0 0) (omega arith);
-    from = omega arith;
-    upto = omega arith;
-  }
+pub part_byte : {m : Marks} {s : Bytes} {c : Call} {o : Bytes} {r : Option ℕ} → 0 < length s → length s ≤ length o → NamesField (get_or s 0 0) r → r ≡ None → PutsPart m s c o 1 (set o 0 (get_or s 0 0))
+part_byte {m} {s} {c} {o} h w n e = record {
+  bytes = get_or s 0 0 ∷ [];
+  is = ap (λ (x : Bytes). layout_of m x c) (first_byte s h) ∙ fields_byte m (frame_of m [] c) (get_or s 0 0) (drop 1 s) n.small (n.none e);
+  written = written_store (get_or s 0 0) (written_none o 0 (omega arith)) (omega arith);
+  from = omega arith;
+  upto = omega arith;
+}
 
 -- ---- the parts one after the other
 
 -- the layout's first i bytes are written
-pub record LayoutSoFar (m : Marks) (s : Bytes) (c : Call) (o₀ : Bytes) (w i : ℕ) (o : Bytes) : Type 0 where
+pub record LayoutSoFar (m : Marks) (s : Bytes) (c : Call) (o₀ : Bytes) (i : ℕ) (o : Bytes) : Type 0 where
   pub bytes : Bytes
   pub is : layout_of m s c ≡ bytes ++ layout_of m (drop i s) c
-  pub adds : AddsAt o₀ w bytes i o
+  pub written : Written o₀ bytes i o
   pub upto : i ≤ length s
 
 -- a layout's bytes
 pub layout-long : (m : Marks) (s : Bytes) (c : Call) → length (layout_of m s c) ≡ length s
 layout-long m s c = fields-long m (frame_of m [] c) 256 0 s ∙ omega arith
 
-pub laying_none : {m : Marks} {s : Bytes} {c : Call} {o : Bytes} {w : ℕ} → w + length (layout_of m s c) ≤ length o → LayoutSoFar m s c o w 0 o
-laying_none h = record { bytes = []; is = refl; adds = adds_none (omega arith); upto = omega arith }
+pub laying_none : {m : Marks} {s : Bytes} {c : Call} {o : Bytes} → LayoutSoFar m s c o 0 o
+laying_none {o = o} = record { bytes = []; is = refl; written = written_none o 0 (omega arith); upto = omega arith }
 
-module _ {m : Marks} {s : Bytes} {c : Call} {o₀ : Bytes} {w i : ℕ} {o : Bytes} (p : LayoutSoFar m s c o₀ w i o) where
+module _ {m : Marks} {s : Bytes} {c : Call} {o₀ : Bytes} {i : ℕ} {o : Bytes} (p : LayoutSoFar m s c o₀ i o) where
   -- what a part asks
-  pub laying_room : w + length (layout_of m s c) ≤ length o₀ → w + i + length (part s i (length s)) ≤ length o
-  laying_room h = omega (arith, layout-long m s c, adds_length p.adds, p.upto, part_length s i (length s) (omega arith))
+  pub laying_room : length o₀ ≡ length (layout_of m s c) → length (part s i (length s)) ≤ length (part o i (length o))
+  laying_room h = omega (arith, layout-long m s c, written-length p.written, part_length s i (length s) (omega arith), part_length o i (length o) (omega arith))
 
-  pub laying_there : i < length s → 0 < length (part s i (length s))
-  laying_there h = omega (arith, part_length s i (length s) (omega arith))
-
-  pub laying_more : {r : ℕ} {o' : Bytes} → PutsPart m (part s i (length s)) c o (w + i) r o' → LayoutSoFar m s c o₀ w (i + r) o'
-  laying_more {r} {o'} q =
+  pub laying_more : {r : ℕ} {rest : Bytes} → PutsPart m (part s i (length s)) c (part o i (length o)) r rest → LayoutSoFar m s c o₀ (i + r) (put_mid i (length o - i) o rest)
+  laying_more {r} q =
       let e : part s i (length s) ≡ drop i s = part-rest s i in
       let z : drop r (part s i (length s)) ≡ drop (i + r) s = ap (λ (x : Bytes). drop r x) e ∙ drop-drop r i s in
       record {
         bytes = p.bytes ++ q.bytes;
         is = p.is ∙ ap (λ (x : Bytes). p.bytes ++ layout_of m x c) (sym e) ∙ ap (λ (x : Bytes). p.bytes ++ x) (q.is ∙ ap (λ (x : Bytes). q.bytes ++ layout_of m x c) z)
             ∙ sym (append_assoc p.bytes q.bytes (layout_of m (drop (i + r) s) c));
-        adds = adds_more p.adds q.adds;
+        written = written_behind p.written q.written;
         upto = omega (arith, q.upto, p.upto, part_length s i (length s) (omega arith));
       }
 
-  pub laying_all : length s ≤ i → AddsAt o₀ w (layout_of m s c) (length (layout_of m s c)) o
+  pub laying_all : length o₀ ≡ length (layout_of m s c) → length s ≤ i → o ≡ layout_of m s c
   unfolding fields field
-  laying_all h =
-      let u = p.upto in
-      let z : i ≡ length (layout_of m s c) = omega (arith, layout-long m s c) in
-      adds_as p.adds (sym (p.is ∙ ap (λ (x : Bytes). p.bytes ++ layout_of m x c) (drop_of_length-le s h) ∙ append-nil p.bytes)) z
+  laying_all n h =
+      let none : drop i o₀ ≡ [] = drop_of_length-le o₀ (omega (arith, layout-long m s c)) in
+      p.written.is ∙ ap (λ (x : Bytes). p.bytes ++ x) none ∙ sym (p.is ∙ ap (λ (x : Bytes). p.bytes ++ layout_of m x c) (drop_of_length-le s h))

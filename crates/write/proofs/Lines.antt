@@ -2,19 +2,26 @@
 use mathlib.Core.Path.{◌≡◌, refl, sym, ap, subst, ◌∙◌}
 use mathlib.Core.Bool.{Bool, true, false}
 use mathlib.Core.Option.{none, some}
-use mathlib.Core.List.{List, []}
-use Prim.Native.Nat.{ℕ, ◌+◌, ◌≤◌}
+use mathlib.Core.List.{List, [], ◌∷◌, ◌++◌}
+use Prim.Native.Nat.{ℕ, ◌+◌, ◌-◌, ◌≤◌}
 use native.Mathlib.Omega.{arith}
+use borrow.Author.Tests.{leb-true, leb-false}
+use borrow.Rule.Slice.PartMut.{mid_of, put_mid, put_same, take_put}
 use lib.ListN.{length, take}
+use lib.Seq.{length-take-le}
 use Rattle.std.specs.Prelude.{Result, Ok, Err}
 use mathlib.Core.Option as Math
 use Rattle.faults.specs.declared.RunFault.{RunFault}
+use Rattle.faults.specs.declared.RunFault.TheVariants.{NoRoom}
 use Rattle.model.specs.declared.Marks.{Marks}
 use Rattle.model.specs.declared.Channel.{Channel}
 use Rattle.model.specs.declared.Channel.TheVariants.{Nowhere, First, Second}
 use Rattle.model.specs.Text.{Bytes}
 use Rattle.model.specs.Report.{Tally}
 use Rattle.model.specs.Machine.{Outputs, outputs, Frame, Shared, continues, appended, with_first, with_second, wrote, goes_written, write_to, running, ended, state_with, stepped, passed, pass_through}
+use Rattle.model.proofs.Text.{part_length}
+use Rattle.buffer.proofs.Written.{written_none, written-length, written-take, written-drop}
+use Rattle.write.proofs.Fields.{written_behind}
 use Rattle.model.proofs.Choices.{when_true, when_false, false-not-true}
 use Rattle.state.specs.declared.State.{State}
 use Rattle.state.specs.State.{shared_of, state_of, with_written, Sound}
@@ -27,6 +34,30 @@ use Rattle.answer.proofs.Following.{extends_none, follows_itself}
 use Rattle.answer.proofs.Coming.{comes_as, came_fault}
 use Rattle.answer.proofs.Expansion.{skip-none}
 use Rattle.write.specs.Output.{has_room, Puts, has_room_on, Writes, PassesThrough, done_with}
+
+-- ---- one output
+
+-- an output o becomes o' with the line l and a byte 10 after its first w bytes; or there is no room for them, and nothing changes
+pub record PutsAfter (l o : Bytes) (w : ℕ) (r : Result ℕ RunFault) (o' : Bytes) : Type 0 where
+  pub fits : has_room l w o ≡ true → (r ≡ Ok (length l + 1)) × (take (w + (length l + 1)) o' ≡ take w o ++ (l ++ (10 ∷ []))) × Extends o w o' (w + (length l + 1))
+  pub full : has_room l w o ≡ false → (r ≡ Err NoRoom) × (o' ≡ o)
+
+-- what is put to the rest of an output
+pub puts_after : {l o : Bytes} {w : ℕ} {r : Result ℕ RunFault} {rest : Bytes} → w ≤ length o → Puts l (mid_of w (length o - w) o) r rest → PutsAfter l o w r (put_mid w (length o - w) o rest)
+puts_after {l} {o} {w} {r} {rest} h p =
+    let n = length-take-le w o h in
+    let k = part_length o w (length o) (omega arith) in
+    record {
+      fits = λ e.
+          let b = leb-true _ _ e in
+          let z = p.fits (omega arith) in
+          let v = written_behind (written_none o w h) z.1 in
+          (z.0, written-take v, record { front = take_put w (length o - w) o rest h; rest = written-drop v _ (omega arith); long = written-length v; more = omega arith; fits = v.fits });
+      full = λ e.
+          let b = leb-false _ _ e in
+          let z = p.full (omega arith) in
+          (z.0, ap (λ (x : Bytes). put_mid w (length o - w) o x) z.1 ∙ put_same w (length o - w) o);
+    }
 
 -- ---- a channel
 
@@ -41,19 +72,16 @@ writes_nowhere {ch} {l} {s} {o} e h k = subst (λ (x : Channel). Writes x l s o 
 
 module _ {ch : Channel} {l : Bytes} {s : State} where
   -- the line is written to the first output
-  pub writes_first : {o o' b : Bytes} {r : Result ℕ RunFault} {w : ℕ} → ch ≡ First → s.second ≤ length b → r ≡ Ok w → Puts l o s.written r o'
-      → Writes ch l s (outputs o b) (Ok tt) (with_written s w s.second) (outputs o' b)
+  pub writes_first : {o o' b : Bytes} {r : Result ℕ RunFault} {n : ℕ} → ch ≡ First → s.second ≤ length b → r ≡ Ok n → PutsAfter l o s.written r o'
+      → Writes ch l s (outputs o b) (Ok tt) (with_written s (s.written + n) s.second) (outputs o' b)
   unfolding wrote appended with_first
-  writes_first {o} {o'} {b} {r} {w} e h u p =
-      subst (λ (x : Channel). Writes x l s (outputs o b) (Ok tt) (with_written s w s.second) (outputs o' b)) (sym e) (by (has_room l s.written o) refl)
+  writes_first {o} {o'} {b} {r} {n} e h u p =
+      subst (λ (x : Channel). Writes x l s (outputs o b) (Ok tt) (with_written s (s.written + n) s.second) (outputs o' b)) (sym e) (by (has_room l s.written o) refl)
     where
-      n : ℕ
-      n = s.written + length l + 1
-
-      by : (k : Bool) → has_room l s.written o ≡ k → Writes First l s (outputs o b) (Ok tt) (with_written s w s.second) (outputs o' b)
+      by : (k : Bool) → has_room l s.written o ≡ k → Writes First l s (outputs o b) (Ok tt) (with_written s (s.written + n) s.second) (outputs o' b)
       by true k =
           let q = p.fits k in
-          let z : w ≡ n = (let y = q.0 in cc) in
+          let z : s.written + n ≡ s.written + (length l + 1) = (let y = q.0 in cc) in
           record {
             fits = λ _. (
               refl,
@@ -67,19 +95,16 @@ module _ {ch : Channel} {l : Bytes} {s : State} where
       by false k = absurd (let q = (p.full k).0 in cc)
 
   -- or to the second
-  pub writes_second : {o b b' : Bytes} {r : Result ℕ RunFault} {w : ℕ} → ch ≡ Second → s.written ≤ length o → r ≡ Ok w → Puts l b s.second r b'
-      → Writes ch l s (outputs o b) (Ok tt) (with_written s s.written w) (outputs o b')
+  pub writes_second : {o b b' : Bytes} {r : Result ℕ RunFault} {n : ℕ} → ch ≡ Second → s.written ≤ length o → r ≡ Ok n → PutsAfter l b s.second r b'
+      → Writes ch l s (outputs o b) (Ok tt) (with_written s s.written (s.second + n)) (outputs o b')
   unfolding wrote appended with_second
-  writes_second {o} {b} {b'} {r} {w} e h u p =
-      subst (λ (x : Channel). Writes x l s (outputs o b) (Ok tt) (with_written s s.written w) (outputs o b')) (sym e) (by (has_room l s.second b) refl)
+  writes_second {o} {b} {b'} {r} {n} e h u p =
+      subst (λ (x : Channel). Writes x l s (outputs o b) (Ok tt) (with_written s s.written (s.second + n)) (outputs o b')) (sym e) (by (has_room l s.second b) refl)
     where
-      n : ℕ
-      n = s.second + length l + 1
-
-      by : (k : Bool) → has_room l s.second b ≡ k → Writes Second l s (outputs o b) (Ok tt) (with_written s s.written w) (outputs o b')
+      by : (k : Bool) → has_room l s.second b ≡ k → Writes Second l s (outputs o b) (Ok tt) (with_written s s.written (s.second + n)) (outputs o b')
       by true k =
           let q = p.fits k in
-          let z : w ≡ n = (let y = q.0 in cc) in
+          let z : s.second + n ≡ s.second + (length l + 1) = (let y = q.0 in cc) in
           record {
             fits = λ _. (
               refl,
@@ -93,7 +118,7 @@ module _ {ch : Channel} {l : Bytes} {s : State} where
       by false k = absurd (let q = (p.full k).0 in cc)
 
   -- there is no room in the first
-  pub no_room_first : {o o' b : Bytes} {r : Result ℕ RunFault} {fault : RunFault} → ch ≡ First → s.written ≤ length o → s.second ≤ length b → r ≡ Err fault → Puts l o s.written r o'
+  pub no_room_first : {o o' b : Bytes} {r : Result ℕ RunFault} {fault : RunFault} → ch ≡ First → s.written ≤ length o → s.second ≤ length b → r ≡ Err fault → PutsAfter l o s.written r o'
       → Writes ch l s (outputs o b) (Err fault) s (outputs o' b)
   unfolding wrote appended with_first
   no_room_first {o} {o'} {b} {r} {fault} e h h' u p =
@@ -110,7 +135,7 @@ module _ {ch : Channel} {l : Bytes} {s : State} where
           }
 
   -- or in the second
-  pub no_room_second : {o b b' : Bytes} {r : Result ℕ RunFault} {fault : RunFault} → ch ≡ Second → s.written ≤ length o → s.second ≤ length b → r ≡ Err fault → Puts l b s.second r b'
+  pub no_room_second : {o b b' : Bytes} {r : Result ℕ RunFault} {fault : RunFault} → ch ≡ Second → s.written ≤ length o → s.second ≤ length b → r ≡ Err fault → PutsAfter l b s.second r b'
       → Writes ch l s (outputs o b) (Err fault) s (outputs o b')
   unfolding wrote appended with_second
   no_room_second {o} {b} {b'} {r} {fault} e h h' u p =
@@ -128,10 +153,10 @@ module _ {ch : Channel} {l : Bytes} {s : State} where
 
 -- a line without a reading is written, or there is no room for it
 module _ {line : Bytes} {s : State} {o o' : Bytes} {r : Result ℕ RunFault} where
-  pub passes_through : {w : ℕ} → r ≡ Ok w → Puts line o s.written r o' → PassesThrough line s o (Ok tt) (with_written s w s.second) o'
+  pub passes_through : {n : ℕ} → r ≡ Ok n → PutsAfter line o s.written r o' → PassesThrough line s o (Ok tt) (with_written s (s.written + n) s.second) o'
   passes_through u p = record { writes = λ b h. writes_first refl h u p }
 
-  pub passes_none : {fault : RunFault} → r ≡ Err fault → s.written ≤ length o → Puts line o s.written r o' → PassesThrough line s o (Err fault) s o'
+  pub passes_none : {fault : RunFault} → r ≡ Err fault → s.written ≤ length o → PutsAfter line o s.written r o' → PassesThrough line s o (Err fault) s o'
   passes_none u h p = record { writes = λ b k. no_room_first refl h k u p }
 
 -- ---- what a line that is written comes to

@@ -4,7 +4,7 @@ use Rattle.std.specs.List.{position_or_len}
 use Rattle.model.specs.declared.Marks.{Marks}
 use Rattle.model.specs.Text.{Bytes}
 use Rattle.model.specs.Machine.{field, fields}
-use Rattle.rendering.specs.Added.{AddsAt}
+use Rattle.buffer.specs.Written.{Written}
 use Rattle.call.specs.declared.Call.{Call}
 use Rattle.call.specs.Call.{texts_of, frame_of}
 
@@ -30,14 +30,14 @@ layout_of m s c = fields m (frame_of m [] c) 256 0 s
 abbrev pub run_length : ℕ → Bytes → ℕ
 run_length b s = position_or_len (λ x. not (x == b)) s
 
--- parameter d, cut or filled to n bytes, comes after the first w of o
-pub record PutsField (blank : ℕ) (c : Call) (d : ℕ) (o : Bytes) (w n : ℕ) (o' : Bytes) : Type 0 where
-  pub adds : AddsAt o w (field blank n (param_of c d)) n o'
+-- a field o becomes parameter d, cut or filled
+pub record FillsField (blank : ℕ) (c : Call) (d : ℕ) (o o' : Bytes) : Type 0 where
+  pub is : o' ≡ field blank (length o) (param_of c d)
 
--- the field or byte that the layout s begins with, with the parameters of c, comes after the first w of o, which becomes o'; it has r bytes
-pub record PutsPart (m : Marks) (s : Bytes) (c : Call) (o : Bytes) (w r : ℕ) (o' : Bytes) : Type 0 where
+-- the field or byte that the layout s begins with, with the parameters of c, comes to the front of o, which becomes o'; it has r bytes
+pub record PutsPart (m : Marks) (s : Bytes) (c : Call) (o : Bytes) (r : ℕ) (o' : Bytes) : Type 0 where
   pub bytes : Bytes
   pub is : layout_of m s c ≡ bytes ++ layout_of m (drop r s) c
-  pub adds : AddsAt o w bytes r o'
+  pub written : Written o bytes r o'
   pub from : 0 < r
   pub upto : r ≤ length s

@@ -1,8 +1,9 @@
 -- Bytes that come at the end of what is written, and lines of them.
-use Rattle.std.specs.Prelude.{◌≡◌, Bool, true, false, [], ◌∷◌, ◌++◌, ℕ, ◌+◌, ◌≤◌, leb, length, take, Result, Ok, Err}
+use Rattle.std.specs.Prelude.{◌≡◌, Bool, true, false, [], ◌∷◌, ◌++◌, ℕ, ◌+◌, ◌≤◌, ◌<◌, leb, length, take, Result, Ok, Err}
 use Rattle.std.proofs.Math.Option.{none, some}
 use Rattle.faults.specs.declared.RunFault.{RunFault}
 use Rattle.faults.specs.declared.RunFault.TheVariants.{NoRoom}
+use Rattle.buffer.specs.Written.{Written}
 use Rattle.model.specs.declared.Channel.{Channel}
 use Rattle.model.specs.declared.Channel.TheVariants.{Nowhere, First, Second}
 use Rattle.model.specs.Text.{Bytes}
@@ -11,7 +12,7 @@ use Rattle.state.specs.declared.State.{State}
 use Rattle.state.specs.State.{with_written, shared_of}
 use Rattle.answer.specs.declared.Turn.TheVariants.{Back}
 use Rattle.answer.specs.Answers.{Answer, rooms_of}
-use Rattle.answer.specs.Kept.{Extends, ExtendsBoth}
+use Rattle.answer.specs.Kept.{ExtendsBoth}
 
 -- ---- one output
 
@@ -19,10 +20,10 @@ use Rattle.answer.specs.Kept.{Extends, ExtendsBoth}
 abbrev pub has_room : Bytes → ℕ → Bytes → Bool
 has_room l w o = leb (length (take w o) + length l + 1) (length o)
 
--- the line l and a byte 10 come after the first w bytes of o, up to a place; or there is no room for them, and nothing changes
-pub record Puts (l o : Bytes) (w : ℕ) (r : Result ℕ RunFault) (o' : Bytes) : Type 0 where
-  pub fits : has_room l w o ≡ true → (r ≡ Ok (w + length l + 1)) × (take (w + length l + 1) o' ≡ take w o ++ (l ++ (10 ∷ []))) × Extends o w o' (w + length l + 1)
-  pub full : has_room l w o ≡ false → (r ≡ Err NoRoom) × (o' ≡ o)
+-- the line l and a byte 10 come to the front of what is left of an output, o, and are r bytes; or there is no room for them, and nothing changes
+pub record Puts (l o : Bytes) (r : Result ℕ RunFault) (o' : Bytes) : Type 0 where
+  pub fits : length l < length o → (r ≡ Ok (length l + 1)) × Written o (l ++ (10 ∷ [])) (length l + 1) o'
+  pub full : length o ≤ length l → (r ≡ Err NoRoom) × (o' ≡ o)
 
 -- ---- both
 

@@ -1,11 +1,9 @@
 // A layout with the parameters in its fields.
 
-ghost use Rattle.std.specs.Prelude.{◌≡◌, ◌+◌, ◌-◌, ◌≤◌, ◌<◌, length, replicate};
-ghost use Rattle.write.specs.Layout.{layout_of, NamesField, run_length, PutsField, PutsPart};
-ghost use Rattle.buffer.specs.Pasted.{Pasted};
+ghost use Rattle.std.specs.Prelude.{◌≡◌, ◌≤◌, ◌<◌, length};
+ghost use Rattle.write.specs.Layout.{layout_of, NamesField, run_length, FillsField, PutsPart};
 
 use super::Content;
-use buffer::copy;
 use call::Call;
 use model::Marks;
 
@@ -24,31 +22,31 @@ impl<'a> Content for Layout<'a> {
         self.text.len()
     }
 
-    fn add_to(&self, output: &mut [u8], w: usize) {
+    fn fill(&self, out: &mut [u8]) {
         let text = self.text;
-        // a turn adds a field or a byte, and says how long it is: no range
+        // a turn writes a field or a byte, and says how long it is: no range
         let mut i = 0;
         while i < text.len() {
-            i += add_part(self.m, &text[i..], self.call, output, w + i);
+            i += put_part(self.m, &text[i..], self.call, &mut out[i..]);
         }
     }
 }
 
-// The field or the byte that a layout begins with comes after the first w bytes of the output; the answer is how many bytes it has.
-fn add_part(m: Marks, text: &[u8], call: &Call, output: &mut [u8], w: usize) -> usize
+// The field or the byte that a layout begins with comes to the front of a slice; the answer is how many bytes it has.
+fn put_part(m: Marks, text: &[u8], call: &Call, out: &mut [u8]) -> usize
     requires there { 0 < length text.now }
-    requires at_in_bounds { w + length text.now ≤ length output.old }
-    ensures { PutsPart m text.now call.now output.old w result output.new }
+    requires out_long { length text.now ≤ length out.old }
+    ensures { PutsPart m text.now call.now out.old result out.new }
 {
     let b = text[0];
     match name_field(b) {
         Some(d) => {
             let n = run_length(text, b);
-            add_field(m.blank, call, d, output, w, n);
+            fill_field(m.blank, call, d, &mut out[..n]);
             n
         }
         None => {
-            output[w] = b;
+            out[0] = b;
             1
         }
     }
@@ -71,22 +69,13 @@ fn run_length(text: &[u8], b: u8) -> usize
     text.iter().position(|&x| x != b).unwrap_or(text.len())
 }
 
-// Parameter d in a field of n bytes: cut, or filled with blanks.
-fn add_field(blank: u8, call: &Call, d: usize, output: &mut [u8], at: usize, n: usize)
-    requires le_d { (1 ≤ d) × (d ≤ 9) }
-    requires n_in_bounds { at + n ≤ length output.old }
-    ensures { PutsField blank call.now d output.old at n output.new }
+// A field becomes parameter d: cut, or filled with blanks.
+fn fill_field(blank: u8, call: &Call, d: usize, out: &mut [u8])
+    requires { (1 ≤ d) × (d ≤ 9) }
+    ensures { FillsField blank call.now d out.old out.new }
 {
     let param = call.param(d);
-    let len = param.len().min(n);
-    copy(output, at, &param[..len]);
-    fill(output, at + len, n - len, blank);
-}
-
-// The byte b, n times from offset `at` on.
-fn fill(output: &mut [u8], at: usize, n: usize, b: u8)
-    requires { at + n ≤ length output.old }
-    ensures { Pasted output.old at (replicate n b) n output.new }
-{
-    output[at..at + n].fill(b);
+    let len = param.len().min(out.len());
+    out[..len].copy_from_slice(&param[..len]);
+    out[len..].fill(blank);
 }

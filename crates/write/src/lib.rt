@@ -1,21 +1,19 @@
 // What is written to an output: a line, or a layout with the parameters in its fields, and a byte 10 after it.
 #![tactic(auto)]
 
-ghost use Rattle.std.specs.Prelude.{◌≡◌, ◌+◌, ◌≤◌, length};
+ghost use Rattle.std.specs.Prelude.{◌≡◌, ◌≤◌, length};
 ghost use Rattle.write.specs.Output.{Puts, Writes, PassesThrough};
-ghost use Rattle.rendering.specs.Added.{AddsAt};
 ghost use Rattle.model.specs.Machine.{outputs};
 ghost use Rattle.model.specs.Text.{Bytes};
 
 mod layout;
 
-use buffer::copy;
 use faults::RunFault;
 pub use layout::Layout;
 use model::Channel;
 use state::State;
 
-// What is written as a line: it says how many bytes it has, and adds them to an output.
+// What is written as a line: it says how many bytes it has, and fills a slice of so many with them.
 pub trait Content {
     ghost bytes: { Self → Bytes };
 
@@ -23,10 +21,10 @@ pub trait Content {
     fn count(&self) -> usize
         ensures { result ≡ length (bytes self.now) };
 
-    // They come after the first w bytes of an output, which has room for them.
-    fn add_to(&self, output: &mut [u8], w: usize)
-        requires { w + length (bytes self.now) ≤ length output.old }
-        ensures { AddsAt output.old w (bytes self.now) (length (bytes self.now)) output.new };
+    // A slice of so many bytes becomes them.
+    fn fill(&self, out: &mut [u8])
+        requires { length out.old ≡ length (bytes self.now) }
+        ensures { out.new ≡ bytes self.now };
 }
 
 // A line as it is.
@@ -42,24 +40,23 @@ impl<'a> Content for Line<'a> {
         self.bytes.len()
     }
 
-    fn add_to(&self, output: &mut [u8], w: usize) {
-        copy(output, w, self.bytes);
+    fn fill(&self, out: &mut [u8]) {
+        out.copy_from_slice(self.bytes);
     }
 }
 
-// A content and a byte 10 come after the first w bytes of an output. The answer is how many it then has; without room for them the run ends
-// with 13.
-fn put<C: Content>(content: &C, output: &mut [u8], w: usize) -> Result<usize, RunFault>
-    requires { w ≤ length output.old }
-    ensures { Puts (C.bytes content.now) output.old w result output.new }
+// A content and a byte 10 come to the front of what is left of an output. The answer is how many bytes they are; without room for them the
+// run ends with 13.
+fn put<C: Content>(content: &C, left: &mut [u8]) -> Result<usize, RunFault>
+    ensures { Puts (C.bytes content.now) left.old result left.new }
 {
     let n = content.count();
-    if output.len() - w <= n {
+    if left.len() <= n {
         return Err(RunFault::NoRoom);
     }
-    content.add_to(output, w);
-    output[w + n] = b'\n';
-    Ok(w + n + 1)
+    content.fill(&mut left[..n]);
+    left[n] = b'\n';
+    Ok(n + 1)
 }
 
 // A content and a byte 10 after it go to a channel. Without room for them nothing changes, and the run ends with 13.
@@ -75,8 +72,8 @@ pub fn write<C: Content>(
 {
     match ch {
         Channel::Nowhere => {}
-        Channel::First => s.written = put(content, output, s.written)?,
-        Channel::Second => s.second = put(content, second, s.second)?,
+        Channel::First => s.written += put(content, &mut output[s.written..])?,
+        Channel::Second => s.second += put(content, &mut second[s.second..])?,
     }
     Ok(())
 }
@@ -86,6 +83,6 @@ pub fn pass_through(line: &[u8], output: &mut [u8], s: &mut State) -> Result<(),
     requires { s.old.written ≤ length output.old }
     ensures { PassesThrough line.now s.old output.old result s.new output.new }
 {
-    s.written = put(&Line { bytes: line }, output, s.written)?;
+    s.written += put(&Line { bytes: line }, &mut output[s.written..])?;
     Ok(())
 }

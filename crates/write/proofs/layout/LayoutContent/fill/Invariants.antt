@@ -2,10 +2,10 @@
 use lib.ListN.{length}
 use Prim.Native.Nat.{◌-◌}
 use Rattle.write.proofs.Fields.{LayoutSoFar}
-use Rattle.write.proofs.layout.LayoutContent.add_to.Given as goal
+use Rattle.write.proofs.layout.LayoutContent.fill.Given as goal
 
 abbrev pub invariant-loop-i : goal.invariant-loop-i
-invariant-loop-i l = LayoutSoFar l.self.m l.text l.self.call.now l.initial.output l.w l.i l.output
+invariant-loop-i l = LayoutSoFar l.self.m l.text l.self.call.now l.initial.out l.i l.out
 
 abbrev pub decreases-loop-i : goal.decreases-loop-i
 decreases-loop-i l = length l.text - l.i
