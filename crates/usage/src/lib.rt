@@ -8,7 +8,7 @@ ghost use Rattle.model.specs.Report.{one_more_of, row_bytes};
 ghost use Rattle.rendering.specs.Prints.{RoomFor, Prints};
 ghost use Rattle.usage.specs.Counts.{ReadyToReport, PrintsReport};
 
-use macros::Table;
+use macros::Entry;
 use model::MACROS_MOST;
 use rendering::{add_bytes, add_decimal};
 
@@ -34,14 +34,14 @@ fn add_row(report: &mut [u8], at: usize, line: usize, count: usize) -> usize
     add_bytes(report, end, b"\n")
 }
 
-// The report of the first n macros of the table, at the front of its room; the answer is its length.
-pub fn print_report(table: &Table, n: usize, counts: &[usize], report: &mut [u8]) -> usize
-    requires { ReadyToReport table.now n counts.now report.old }
-    ensures { PrintsReport table.now n counts.now report.old result report.new }
+// The report of these macros, at the front of its room; the answer is its length.
+pub fn print_report(entries: &[Entry], counts: &[usize], report: &mut [u8]) -> usize
+    requires { ReadyToReport entries.now counts.now report.old }
+    ensures { PrintsReport entries.now counts.now report.old result report.new }
 {
     let mut at = add_bytes(report, 0, b"template,calls\n");
-    for k in 0..n {
-        at = add_row(report, at, table.line_of(k), counts[k]);
+    for (entry, &count) in entries.iter().zip(counts) {
+        at = add_row(report, at, entry.line, count);
     }
     add_row(report, at, 0, counts[MACROS_MOST])
 }

@@ -1,19 +1,25 @@
 -- print_report adds the head, a row a turn, and the last row: each has room, and with the last one the report is whole.
+use mathlib.Core.Logic.{inl, inr, ⊎_elim}
 use borrow.Author.Rules.{rules}
+use lib.ListN.{length-append}
 use Rattle.usage.proofs.Report.{reporting_none, next_room, reporting_more, last_room, reporting_all}
 use Rattle.usage.proofs.print_report.Goals as goal
 
-pub loop-k-init : goal.loop-k-init
-loop-k-init c = search (reporting_none, rules)
+pub loop-entry-init : goal.loop-entry-init
+loop-entry-init c = reporting_none c.requires c.add_bytes-at.ensures (search rules) (search rules) (search rules)
 
 pub add_row-at-requires : goal.add_row-at-requires
-add_row-at-requires c = search (next_room, rules)
+add_row-at-requires c = let h = c.in-Some.ensures.steps in next_room c.loop-entry.invariant c.requires h.0 h.1
 
-pub loop-k-preserved : goal.loop-k-preserved
-loop-k-preserved c = search (reporting_more, c.add_row-at.ensures)
+pub loop-entry-preserved : goal.loop-entry-preserved
+loop-entry-preserved c =
+    let h = c.in-Some.ensures.steps in
+    rw length-append (reporting_more c.loop-entry.invariant c.add_row-at.ensures h.0 h.1)
 
 pub add_row-requires : goal.add_row-requires
 add_row-requires c = search last_room
 
 pub returns : goal.returns
-returns c = search (reporting_all, rules)
+returns c =
+    let ended = ⊎_elim (λ a. inl a.1.0) (λ a. inr a.1.0) c.in-None.ensures.steps in
+    reporting_all c.loop-entry.invariant c.requires c.add_bytes-at.ensures ended c.add_row.ensures
