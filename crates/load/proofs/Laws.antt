@@ -29,7 +29,7 @@ lines_empty text z = lines_none text 0 (omega arith)
 pub line_in : {text : Bytes} {at end next : ℕ} {bytes : Bytes} → LineAt text at end next → bytes ≡ part text at end → LineIn text at bytes next
 line_in {text} {at} {end} {next} {bytes} h e =
     let n : at + length bytes ≡ end = omega (arith, ap length e, part_length text at end (omega (arith, h.high, h.within)), h.low) in
-    record { high = omega (arith, n, h.high); ahead = h.ahead; within = h.within; stand = rw n e; is = rw e h.is }
+    record { high = omega (arith, n, h.high); within = h.within; is = rw n e }
 
 -- its content: what precedes the first of a byte
 pub content_is : {s : Bytes} {b stop : ℕ} → FindsByte s 0 (length s) b stop → take stop s ≡ up_to b s

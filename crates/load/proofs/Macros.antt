@@ -89,7 +89,7 @@ module _ {m : Marks} {text : Bytes} {l : Loader} {start next : ℕ} {bytes c : B
 
       template_is : part text start (start + length c) ≡ c
       template_is =
-          let p : part text start (start + stop) ≡ take stop bytes = sym (part-take text start (start + length bytes) stop (omega (arith, f.high))) ∙ ap (take stop) (sym b.stand) in
+          let p : part text start (start + stop) ≡ take stop bytes = sym (part-take text start (start + length bytes) stop (omega (arith, f.high))) ∙ ap (take stop) (sym b.is) in
           ap (λ x. part text start (start + x)) long ∙ p ∙ sym z
 
       abbrev new-macro : Macro

@@ -1,5 +1,5 @@
 -- What a line comes to, as the model's values: a loader stands for the model's progress.
-use Rattle.std.specs.Prelude.{◌≡◌, Bool, true, false, Option, Some, None, Result, Ok, Err, ℕ, ◌+◌, ◌≤◌, ◌<◌, ◌∷◌, length, drop}
+use Rattle.std.specs.Prelude.{◌≡◌, Bool, true, false, Option, Some, None, Result, Ok, Err, ℕ, ◌+◌, ◌≤◌, length, drop}
 use Rattle.model.specs.Limits.{nodes_most}
 use Rattle.model.specs.declared.Marks.{Marks}
 use Rattle.model.specs.Text.{Bytes, part, lines}
@@ -50,13 +50,11 @@ pub record TableSound (m : Marks) (text : Bytes) (l : Loader) : Type 0 where
   pub tree : l.nodes ≤ nodes_most
   pub in_order : InOrder m.placeholder (templates_in text l.table l.count) (order_in l.table)
 
--- the bytes are the text's line at `start`, after which the next one starts at `next`
+-- the bytes stand in the text from `start` on, before the place `next`
 pub record LineIn (text : Bytes) (start : ℕ) (bytes : Bytes) (next : ℕ) : Type 0 where
   pub high : start + length bytes ≤ next
-  pub ahead : start < next
   pub within : next ≤ length text
-  pub stand : bytes ≡ part text start (start + length bytes)
-  pub is : lines (drop start text) ≡ bytes ∷ lines (drop next text)
+  pub is : bytes ≡ part text start (start + length bytes)
 
 -- the loader k that is left where line n, after which the next one starts at `next`, came to r; l was it before
 abbrev pub Left : Marks → Bytes → Loader → ℕ → ℕ → Loader → LineSeen → Type 0
