@@ -15,6 +15,7 @@ use Rattle.pass.specs.declared.Taken.{Taken}
 use Rattle.pass.specs.Pass.{piece_at, Takes}
 use Rattle.call.specs.declared.Text.{Text}
 use Rattle.call.specs.declared.Param.{Param}
+use Rattle.call.specs.declared.Span.{Span}
 use Rattle.call.specs.declared.Pieces.{Pieces}
 use Rattle.call.specs.declared.Kind.{Kind}
 use Rattle.call.specs.declared.Kind.TheVariants as Kinds
@@ -205,27 +206,27 @@ module _ {m : Marks} {text : Bytes} {c : Call} (p : Placed text c) where
 
 -- ---- start_pass
 
-module _ {m : Marks} {text : Bytes} {c : Call} {d : ℕ} {line : Bytes} {list end : ℕ} {l : Text} {r : Result Unit RunFault} {x : Pieces} {ps : List Param}
+module _ {m : Marks} {text : Bytes} {c : Call} {d : ℕ} {line : Bytes} {list : Span} {l : Text} {r : Result Unit RunFault} {x : Pieces} {ps : List Param}
     (p : Placed text c) (k : Holds line l)
-    (t : TakesPass m text (record { param = d; list = record { start = list; end = end }; from = 0; line = l; before = (get_or c.params (d - 1) no_param).text }) c.params r x ps) where
+    (t : TakesPass m text (record { param = d; list = list; from = 0; line = l; before = (get_or c.params (d - 1) no_param).text }) c.params r x ps) where
   begun : (w : Shared)
-      → take_pass d (pass_of m (part text list end) line) (part text list end) (param (frame_of m text c) d) (frame_of m text c).next (frame_of m text c).loops (frame_of m text c) w
+      → take_pass d (pass_of m (part text list.start list.end) line) (part text list.start list.end) (param (frame_of m text c) d) (frame_of m text c).next (frame_of m text c).loops (frame_of m text c) w
       ≡ taken_step text r x ps (frame_of m text c).next (frame_of m text c).loops (frame_of m text c) w
   unfolding param
   begun w =
       let f : Frame = frame_of m text c in
       let old : param f d ≡ text_of (get_or c.params (d - 1) no_param).text = get_or-map (λ p. text_of p.text) c.params (d - 1) no_param in
-      ap₂ (λ (s before : Bytes). take_pass d (pass_of m (part text list end) s) (part text list end) before f.next f.loops f w) (sym k.is) old
+      ap₂ (λ (s before : Bytes). take_pass d (pass_of m (part text list.start list.end) s) (part text list.start list.end) before f.next f.loops f w) (sym k.is) old
       ∙ t.step f.next f.loops f w (has m text c)
 
-  pub start_fails : {fault : RunFault} {s : Result Unit RunFault} → r ≡ Err fault → s ≡ Err fault → StartsPass m text c d line list end s (record c { params = ps })
+  pub start_fails : {fault : RunFault} {s : Result Unit RunFault} → r ≡ Err fault → s ≡ Err fault → StartsPass m text c d line list.start list.end s (record c { params = ps })
   unfolding taken_step pass_step
   start_fails u e = rw e (record {
     step = λ w. begun w ∙ ap (λ (z : Result Unit RunFault). taken_step text z x ps (frame_of m text c).next (frame_of m text c).loops (frame_of m text c) w) u;
     placed = record { number = p.number; next = p.next; depth = p.depth; iterations = p.iterations };
   })
 
-  pub starts : {u : Unit} {c' : Call} → r ≡ Ok u → Enters (record c { params = ps }) (Kinds.Pieces x) c' → StartsPass m text c d line list end (Ok tt) c'
+  pub starts : {u : Unit} {c' : Call} → r ≡ Ok u → Enters (record c { params = ps }) (Kinds.Pieces x) c' → StartsPass m text c d line list.start list.end (Ok tt) c'
   unfolding taken_step pass_step resume_at
   starts {c' = c'} u e = record {
     step = λ w. begun w ∙ ap (λ (z : Result Unit RunFault). taken_step text z x ps (frame_of m text c).next (frame_of m text c).loops (frame_of m text c) w) u

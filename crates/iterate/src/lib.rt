@@ -1,6 +1,7 @@
 // The iterations of a call: begun, gone on with and ended (document 01, "A call's code"). Asked is that what the call says lies in the text
 // (`Placed`; start_repeat asks it of the next code line alone), and where an iteration is begun, that fewer than four are open; start_pass
 // asks too that its parameter's number is 1 to 9, that its line has at most 200 bytes and that its list of delimiters lies in the text.
+// That a call lies in the text is asked, and is no fact of the type, since a call borrows no text.
 #![tactic(auto)]
 
 ghost use Rattle.std.specs.Prelude.{◌≡◌, ◌≤◌, ◌<◌, length};

@@ -1,4 +1,5 @@
 // Where a skip of lines ends in a call, and what a turn comes to in the call that offered a line (document 01, "Skips").
+// Asked is that the call's place lies in the text: it is no fact of the type, since a call borrows no text.
 #![tactic(auto)]
 
 ghost use Rattle.std.specs.Prelude.{◌≤◌, length};

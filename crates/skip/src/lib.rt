@@ -1,4 +1,6 @@
 // Skips of code lines, by a value or where a test holds (document 01, "A call's code").
+// Asked is that the call's place lies in the text: it is no fact of the type, since a call borrows no text.
+// marked, call and s are three parameters: a struct of them would hold a `&mut`, and each clause would name the call behind its field.
 #![tactic(auto)]
 
 ghost use Rattle.std.specs.Prelude.{◌≤◌, length};
