@@ -27,6 +27,7 @@ pub struct Scanned {
 }
 
 // The line's first atom from `at` on. The depth is carried along from byte to byte, so no byte is read twice.
+// `at` stays beside the line: fit goes on from places of one line, and numbers what it took up by them.
 pub fn scan_atom(line: &[u8], at: usize, left: u8, right: u8) -> Scanned
     ensures { AtomAt (brackets left right) line.now at result }
 {

@@ -89,6 +89,7 @@ impl Notes {
     fn read_pieces(&self, template: usize) -> Reading
         ensures { result ≡ reading_of self.now template }
     {
+        // two of five fields: a struct of the two in both would put one more name before each piece
         Reading {
             template,
             starts: self.starts,
@@ -100,6 +101,7 @@ impl Notes {
     fn choose(&self, reading: Option<Reading>) -> Choice
         ensures { result ≡ choice_of self.now reading }
     {
+        // two of five fields again, which the searches count one by one
         Choice {
             reading,
             places: self.places,
@@ -126,6 +128,7 @@ fn number_place(end: usize, node: usize, at: usize) -> usize
 }
 
 // The key of the element that leads on at a place of a line: the byte's, or the template's end.
+// `at` stays beside the line: it is half of a place, and places are numbered by it.
 fn element_at(line: &[u8], at: usize) -> u16
     ensures { element_of result ≡ element_at line.now at }
 {
@@ -137,6 +140,7 @@ fn element_at(line: &[u8], at: usize) -> u16
 
 // The place of the node and the position `at`: it is taken up unless it is dead, and dead where it leads nowhere. The node's height and what is
 // left of the line fall from search to search.
+// The five searches have the same parameters: a struct of the two `&mut` would have to say at each call that both are the caller's.
 #[cycle(search)]
 fn search(task: &Task, dead: &mut [u8], notes: &mut Notes, node: usize, at: usize) -> Option<usize>
     requires { Asks task.now.nodes.now dead.old task.now.line.now node at }
@@ -156,6 +160,7 @@ fn search(task: &Task, dead: &mut [u8], notes: &mut Notes, node: usize, at: usiz
 }
 
 // From a place by the next byte or the line's end, else by a placeholder, else by an atom more.
+// Asks, here and in the other four, speaks of the node and the position, which change with each search: it is no fact of the task.
 #[cycle(search)]
 fn take_up(task: &Task, dead: &mut [u8], notes: &mut Notes, node: usize, at: usize) -> Option<usize>
     requires { Asks task.now.nodes.now dead.old task.now.line.now node at }
@@ -172,6 +177,7 @@ fn take_up(task: &Task, dead: &mut [u8], notes: &mut Notes, node: usize, at: usi
 }
 
 // To the child for the next byte, or for the template's end.
+// Parameters and fact as in search and take_up: `at` is a place of the line, and of `dead` each search asks the same.
 #[cycle(search)]
 fn search_byte(
     task: &Task,
@@ -193,6 +199,7 @@ fn search_byte(
 }
 
 // To the placeholder's child, where a piece starts.
+// Parameters and fact as in search and take_up.
 #[cycle(search)]
 fn search_piece(
     task: &Task,
@@ -212,6 +219,7 @@ fn search_piece(
 }
 
 // An atom more in the open piece, if the node is a placeholder's.
+// Parameters and fact as in search and take_up.
 #[cycle(search)]
 fn search_atom(
     task: &Task,
@@ -242,6 +250,7 @@ pub fn first_reading(m: Marks, nodes: &[Node], count: usize, dead: &mut [u8], li
     ensures { Chooses m nodes.now count line.now result }
 {
     clear(dead, count * (line.len() + 1));
+    // by hand, since Default says of an array what each element is, and the law of the search begins with the rows themselves
     let mut notes = Notes {
         starts: [0; 9],
         lens: [0; 9],
@@ -249,6 +258,7 @@ pub fn first_reading(m: Marks, nodes: &[Node], count: usize, dead: &mut [u8], li
         bytes: 0,
         rest: 0,
     };
+    // of the marks the two brackets alone go along
     let task = Task {
         left: m.left,
         right: m.right,

@@ -22,6 +22,7 @@ pub enum Step {
 }
 
 // The value of an amount with or without a minus.
+// The flag chooses no step: a minus and an amount are what a number is written as.
 fn sign(minus: bool, amount: u64) -> Option<Integer>
     ensures { Gives result (checked (with_sign minus (pos amount))) }
 {
@@ -75,7 +76,7 @@ fn add_digit(amount: u64, b: u8) -> u64
         .saturating_add(u64::from(b - b'0'))
 }
 
-// Digits: the number that they write, as far as u64 holds it, and where they end.
+// Digits: the number that they write, up to the largest that is held, and where they end.
 #[derive(Clone, Copy)]
 pub struct Run {
     pub amount: u64,
@@ -109,6 +110,7 @@ pub struct Numeral {
 }
 
 // The number that the digits from `at` on write.
+// A slice from `at` on would be no plainer: where they end is an offset of the text, from which callers go on.
 pub fn read_number(s: &[u8], at: usize) -> Numeral
     requires { at ≤ length s.now }
     ensures { Numerals s.now at result }
@@ -121,6 +123,7 @@ pub fn read_number(s: &[u8], at: usize) -> Numeral
 }
 
 // The value of 1 to DIGITS_MOST digits.
+// The flag chooses no step: it is the sign that stood before the digits.
 fn read_signed(digits: &[u8], minus: bool) -> Option<Integer>
     ensures { Gives result (signed_number minus digits.now) }
 {

@@ -34,6 +34,7 @@ impl Taken {
 }
 
 // With a list of delimiters, a pass takes the shortest row of atoms that stands before one of them or the end.
+// `at` stays beside the line: a call keeps the place where its next pass goes on, and answers are places of the same line.
 fn take_atoms(m: Marks, line: &[u8], at: usize, list: &[u8]) -> Result<Taken, RunFault>
     requires at_in_bounds { at ≤ length line.now }
     requires list_nonzero { 0 < length list.now }
@@ -59,6 +60,7 @@ fn take_atoms(m: Marks, line: &[u8], at: usize, list: &[u8]) -> Result<Taken, Ru
 }
 
 // With no list, a pass takes one character, or nothing at the line's end.
+// As in take_atoms, `at` is the place that the call keeps.
 fn take_character(line: &[u8], at: usize) -> Result<Taken, RunFault>
     requires { at ≤ length line.now }
     ensures { TakesCharacter line.now at result }
@@ -72,6 +74,7 @@ fn take_character(line: &[u8], at: usize) -> Result<Taken, RunFault>
 
 // What a pass takes from the line, from `at` on. It finds nothing to take where with a list a bracket begins no atom, and without one a
 // character is malformed.
+// As in take_atoms, `at` is the place that the call keeps.
 pub fn take_piece(m: Marks, line: &[u8], at: usize, list: &[u8]) -> Result<Taken, RunFault>
     requires { at ≤ length line.now }
     ensures { Takes m line.now at list.now result }

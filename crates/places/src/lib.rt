@@ -22,6 +22,7 @@ pub fn set_dead(row: &mut [u8], x: usize)
 }
 
 // No place with a number below n is dead: the bytes of these places become 0, and no byte more.
+// n counts places and not bytes, so that no slice of the row says it.
 pub fn clear(row: &mut [u8], n: usize)
     requires { n ≤ 8 * length row.old }
     ensures { ClearsBits row.old row.new n }

@@ -8,6 +8,7 @@ ghost use Rattle.rendering.specs.Prints.{RoomFor, Prints};
 use buffer::{copy, write_decimal};
 
 // Bytes as they are.
+// The slice and the offset stay two parameters: as a struct of a `&mut` slice each clause would name what lies behind its field.
 pub fn add_bytes(out: &mut [u8], at: usize, bytes: &[u8]) -> usize
     requires { RoomFor out.old at bytes.now }
     ensures { Prints out.old at bytes.now result out.new }
@@ -17,6 +18,7 @@ pub fn add_bytes(out: &mut [u8], at: usize, bytes: &[u8]) -> usize
 }
 
 // A number in decimal.
+// Two parameters, as in add_bytes: a clause is about the whole slice, before and after.
 pub fn add_decimal(out: &mut [u8], at: usize, n: u64) -> usize
     requires { RoomFor out.old at (decimal n) }
     ensures { Prints out.old at (decimal n) result out.new }

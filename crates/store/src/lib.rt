@@ -48,6 +48,7 @@ struct Entry<'a> {
 }
 
 // The entry that begins at offset at.
+// An offset stays beside the memory, here and below: where an entry ends the next begins, and the clauses speak of the whole memory.
 fn read_entry(memory: &[u8], at: usize) -> Entry<'_>
     requires { at + 2 + get_or memory.now at 0 + get_or memory.now (at + 1) 0 ≤ length memory.now }
     ensures { EntryAt memory.now at result }
@@ -98,6 +99,7 @@ enum Part {
 }
 
 // Nothing is stored yet.
+// Kept stays a clause, here and below: the value of a Store is the list of its names, and these functions speak of its bytes.
 fn empty(memory: &[u8]) -> Index
     requires { length memory.now ≡ store_least }
     ensures { Holds memory.now result [] }
@@ -163,6 +165,7 @@ fn replace(
     }
     buffer::shift(memory, end, next, tail);
     buffer::copy(memory, from, text);
+    // the `requires` says that it is below 256; what u8::try_from would refuse cannot be
     memory[at + 1] = text.len() as u8;
     Ok(Index {
         used: end + tail,
@@ -187,6 +190,7 @@ fn append_entry(memory: &mut [u8], index: Index, name: &[u8], text: &[u8]) -> Re
     if 8194 + 2 * count < end {
         return Err(Full);
     }
+    // the `requires` says that both are below 256; what u8::try_from would refuse cannot be
     memory[used] = name.len() as u8;
     memory[used + 1] = text.len() as u8;
     buffer::copy(memory, from, name);
