@@ -63,3 +63,6 @@ module _ {a b : ℤ} (f : SFits width a) (g : SFits width b) where
   pub greater : lt_z (read_back b) (read_back a) ≡ compares Greater a b
   unfolding compares
   greater = rw (told f, told g) (is-less b a)
+
+-- what the goals of compare go by
+pub ruleset comparing = (equal, unequal, less, greater)

@@ -3,7 +3,6 @@ use mathlib.Core.Path.{◌≡◌, refl, sym, ap, ◌∙◌}
 use mathlib.Core.Bool.{Bool, true, false, not, ◌&&◌}
 use mathlib.Core.List.{List, [], ◌∷◌}
 use Prim.Native.Nat.{ℕ, zero, suc, ◌+◌, ◌*◌, ◌-◌, ◌≤◌, ◌<◌}
-use native.Mathlib.Nat.{le_refl}
 use native.Mathlib.Numerals.{add-one}
 use native.Mathlib.Omega.{arith}
 use borrow.Author.Tests.{leb-true, leb-false, le-leb, lt-leb, eq-eqb, ne_eqb, not-true, not-false}
@@ -70,9 +69,6 @@ cap_early a (x ∷ l) = go (is_digit x) refl (λ n. cap_early n l)
 -- ---- the loop that reads digits
 
 module _ {s : List ℕ} {at : ℕ} where
-  pub reading-none : at ≤ length s → DigitsRead s at 0 at
-  reading-none h = record { amounts = refl; rest = refl; from = le_refl _; upto = h; small = omega arith }
-
   module _ {amount i : ℕ} (r : DigitsRead s at amount i) where
     stops : number amount (drop i s) ≡ (amount, drop i s) → DigitRun s at (record { amount = amount; end = i })
     stops e =
@@ -199,3 +195,12 @@ module _ (m : Marks) where
 
   pub stored-plain : (s : List ℕ) {v : Valued} → 1 ≤ length s → (get_or s 0 0 ≡ m.minus → ⊥) → Gives v (signed_number false s) → Gives v (stored_number m s)
   stored-plain s h n g = rw (by-plain s h n) g
+
+-- what the goals of read_digits go by
+pub ruleset reading = (reading-more, reading_other, reading_ended)
+
+-- what the goals of read_signed go by
+pub ruleset signed = (no_digit, too_many, cut_short, all_read)
+
+-- what the goals of read_stored go by
+pub ruleset storing = (stored-none, stored_minus, stored-plain)

@@ -3,19 +3,15 @@
 --     checked_in, checked_out     the range, as the one test of `checked`
 --     plain_fits     a value without its sign
 use mathlib.Core.Path.{◌≡◌, refl, sym, ap, ◌∙◌}
-use mathlib.Core.Bool.{false}
 use mathlib.Core.Option.{Option, none, some}
 use Prim.Native.Nat.{◌+◌, ◌^◌, ◌≤◌, ◌<◌}
 use native.Mathlib.Omega.{arith}
-use lib.Dec.{T}
-use lib.IntN.{ℤ, pos, negsuc, nat_abs}
-use lib.Signed.{mag, lt_z, non_neg}
-use mir.Syntax.{w64}
-use mir.Val.{SFits, Fits, hbits, to_z, of_z}
+use lib.IntN.{ℤ, pos, negsuc}
+use lib.Signed.{mag}
+use mir.Val.{SFits, hbits, to_z, of_z}
 use mir.Facts.{to_z-of_z}
 use Rattle.model.specs.Limits.{largest}
 use Rattle.model.specs.Value.{value_fault, FitsWidth, checked}
-use Rattle.model.proofs.Choices.{false-not-true}
 use Rattle.model.proofs.Range.{checked_kept, checked-none}
 use Rattle.number.specs.Number.{width, end, number_of, valued_fault, InRange, Gives, Valued}
 use Rattle.std.specs.Prelude.{Some, None}
@@ -59,13 +55,3 @@ valued-fault None = refl
 
 pub gives_value : {r : Valued} {o : Option ℤ} → number_of r ≡ o → InRange r → Gives r o
 gives_value {r} e f = record { is = e; number = valued-fault r ∙ ap value_fault e; fits = f }
-
--- ---- below 0 or not
-above_zero : (v : ℤ) → SFits width v → lt_z v (pos 0) ≡ false → T (non_neg v) × Fits w64 (nat_abs v)
-above_zero (pos n) f e = (tt, record { fits = omega (arith, f.sfits) })
-above_zero (negsuc n) f e = false-not-true (sym e)
-
--- a value without its sign, as the code computes it
-module _ {v : ℤ} (f : SFits width v) where
-  pub plain_fits : lt_z (read_back v) (pos 0) ≡ false → T (non_neg (read_back v)) × Fits w64 (nat_abs (read_back v))
-  plain_fits e = rw (told f) (above_zero v f (rw (told f) at e))

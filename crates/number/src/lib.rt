@@ -23,6 +23,7 @@ pub enum Step {
 
 // The value of an amount with or without a minus.
 // The flag chooses no step: a minus and an amount are what a number is written as.
+#[tactic(auto, using(crate::proofs::Steps::gives_amount, crate::proofs::Steps::gives_minus))]
 fn sign(minus: bool, amount: u64) -> Option<Integer>
     ensures { Gives result (checked (with_sign minus (pos amount))) }
 {
@@ -34,6 +35,7 @@ fn sign(minus: bool, amount: u64) -> Option<Integer>
 }
 
 // What a step makes of the value so far, a, and the next value, b.
+#[tactic(auto, using(crate::proofs::Steps::gives_checked, crate::proofs::Steps::gives_quotient, crate::proofs::Signed::told))]
 pub fn apply(k: Step, a: Integer, b: Integer) -> Option<Integer>
     ensures { Gives result (step_value k a b) }
 {
@@ -48,6 +50,7 @@ pub fn apply(k: Step, a: Integer, b: Integer) -> Option<Integer>
 }
 
 // Whether two values compare as function 6 asks.
+#[tactic(auto, using(crate::proofs::Compared::comparing))]
 pub fn compare(o: Comparison, a: Integer, b: Integer) -> bool
     ensures { result ≡ compares o a b }
 {
@@ -60,6 +63,7 @@ pub fn compare(o: Comparison, a: Integer, b: Integer) -> bool
 }
 
 // Whether a byte is a digit.
+#[tactic(auto, unfolding(model::specs::Text::is_digit))]
 pub fn is_digit(b: u8) -> bool
     ensures { result ≡ is_digit b }
 {
@@ -67,6 +71,7 @@ pub fn is_digit(b: u8) -> bool
 }
 
 // The amount with one more digit.
+#[tactic(auto, using(crate::proofs::Digits::digit_bounds))]
 fn add_digit(amount: u64, b: u8) -> u64
     requires { is_digit b ≡ true }
     ensures { result ≡ saturated (amount * 10 + (b - 48)) }
@@ -84,6 +89,7 @@ pub struct Run {
 }
 
 // The digits from `at` on. A slice from there would be no plainer: where they end is an offset of the text, from which callers go on.
+#[tactic(auto, using(crate::proofs::Digits::reading))]
 fn read_digits(s: &[u8], at: usize) -> Run
     requires { at ≤ length s.now }
     ensures { DigitRun s.now at result }
@@ -124,6 +130,7 @@ pub fn read_number(s: &[u8], at: usize) -> Numeral
 
 // The value of 1 to DIGITS_MOST digits.
 // The flag chooses no step: it is the sign that stood before the digits.
+#[tactic(auto, using(crate::proofs::Digits::signed))]
 fn read_signed(digits: &[u8], minus: bool) -> Option<Integer>
     ensures { Gives result (signed_number minus digits.now) }
 {
@@ -142,6 +149,7 @@ fn read_signed(digits: &[u8], minus: bool) -> Option<Integer>
 }
 
 // The value of a stored text: an optional minus and 1 to DIGITS_MOST digits.
+#[tactic(auto, using(crate::proofs::Digits::storing))]
 pub fn read_stored(m: Marks, s: &[u8]) -> Option<Integer>
     ensures { Gives result (stored_number m s.now) }
 {
@@ -155,6 +163,7 @@ pub fn read_stored(m: Marks, s: &[u8]) -> Option<Integer>
 }
 
 // A value in decimal: its bytes are `&out[0..r]` for the answer r.
+#[tactic(auto, using(crate::proofs::Writing::writes_plain, crate::proofs::Writing::writes_minus, crate::proofs::Signed::told))]
 pub fn write_value(m: Marks, v: Integer, out: &mut [u8]) -> usize
     requires { 21 ≤ length out.old }
     ensures { WritesValue m v result out.new }

@@ -39,9 +39,6 @@ use Rattle.value.proofs.Operands.{reads_above, whole_failed}
 pub ended_at : {r : Parsing} {μ lo : ℕ} {s : List ℕ} {F : ℕ → Read} {p : Parsed} → r ≡ Some p → ReadsAbove μ lo s r F → (lo ≤ p.end) × (p.end ≤ length s)
 ended_at q c = rw q at c.ends
 
-pub ended_before : {r : Parsing} {μ lo : ℕ} {s : List ℕ} {F : ℕ → Read} {p : Parsed} → r ≡ Some p → ReadsAbove μ lo s r F → p.end ≤ length s
-ended_before q c = (ended_at q c).1
-
 wider : (r : Parsing) (lo lo' hi : ℕ) → lo ≤ lo' → EndsWithin lo' hi r → EndsWithin lo hi r
 wider (Some p) lo lo' hi l w = (le_trans l w.0, w.1)
 wider None lo lo' hi l w = tt
@@ -148,9 +145,6 @@ module _ {s : List ℕ} {L : Level s} {μ lo : ℕ} {F : ℕ → Read} {at : ℕ
 
       -- a turn goes forward
       module _ {j' : Join} (u : Joins s v.end j' (L.more v.end)) where
-        pub going_less : length s - place_of j' < length s - place_of j
-        going_less = omega (arith, placed q, ended_at w b, u.from, u.upto)
-
         pub going_on : mag v.value < end → {x : Valued} → Gives x (step_value k so_far (to_z width (of_z width v.value))) → {z : ℤ} → x ≡ Some z → mag z < end → Going L μ lo F at (to_z width (of_z width z)) j'
         going_on in-v made p in-z = record {
           from = omega (arith, going.from, placed q, ended_at w b, u.from);
@@ -161,12 +155,6 @@ module _ {s : List ℕ} {L : Level s} {μ lo : ℕ} {F : ℕ → Read} {at : ℕ
 -- ---- what is known of the text at an operand
 
 module _ {m : Marks} {s : List ℕ} {at : ℕ} {l o : Leading} (lead : Leads m s at l o) where
-  pub at_digits : l ≡ Some Digits → (at < length s) × (is_digit (get_or s at 0) ≡ true)
-  at_digits q = rw q at lead.to
-
-  pub at_name : l ≡ Some Name → (at < length s) × (is_mark m (get_or s at 0) ≡ false)
-  at_name q = rw q at lead.to
-
   pub inside : {i : ℕ} → l ≡ Some (Bracket i) → (i ≡ at + 1) × (i ≤ length s)
   inside q = rw q at lead.to
 
