@@ -33,7 +33,7 @@ use Rattle.answer.proofs.Expansion.{skip-none}
 use Rattle.write.specs.Output.{Writes}
 use Rattle.write.proofs.Lines.{wrote_on}
 use Rattle.finish.specs.Leaves.{WritesLayoutLine, Saves, Repeats}
-use Rattle.copying.specs.Copies.{ReadyToCopy, CopiesInput}
+use Rattle.copying.specs.Copies.{CopiesInput}
 use Rattle.skip.specs.Skips.{SkipsBy, SkipsText, SkipsValue}
 use Rattle.carry.specs.Carries.{ReadyToFinish, Finishes}
 
@@ -42,9 +42,6 @@ use Rattle.carry.specs.Carries.{ReadyToFinish, Finishes}
 module _ {code : Bytes} {c : Call} {k : Ending} {line : Bytes} (y : ReadyToFinish code c k line) where
   at_ending : {j : Ending} → k ≡ j → ReadyToFinish code c j line
   at_ending e = subst (λ (j : Ending). ReadyToFinish code c j line) e y
-
-  pub assign_parameter : {d : ℕ} → k ≡ Assign d → Parameter d
-  assign_parameter e = (at_ending e).ranged
 
   pub iterate_parameter : {d p : ℕ} → k ≡ Iterate d p → Parameter d
   iterate_parameter e = (at_ending e).ranged.0
@@ -60,9 +57,6 @@ module _ {code : Bytes} {c : Call} {k : Ending} {line : Bytes} (y : ReadyToFinis
   pub repeat_depth : k ≡ Repeat → c.depth < 4
   unfolding effect_of
   repeat_depth e = (at_ending e).depth refl
-
-pub copy-ready : {text : Bytes} {s : State} {o : Outputs} → Sound text s o → ReadyToCopy text s o
-copy-ready h = record { within = h.within; lines = h.lines; written = h.written; second = h.second }
 
 -- ---- what they come to
 

@@ -1,33 +1,22 @@
 -- finish_code does what the ending says: each arm is its leaf's.
 use mathlib.Core.Path.{refl}
 use borrow.Author.Rules.{rules}
-use Rattle.carry.proofs.Endings.{assign_parameter, iterate_parameter, iterate_within, iterate_depth, repeat_depth, copy-ready}
+use Rattle.carry.proofs.Endings.{iterate_parameter, iterate_within, iterate_depth, repeat_depth}
 use Rattle.carry.proofs.Endings.{ends_offer, ends_assign, ends_iterate, ends_stop, ends_write, ends_layout, ends_copy, ends_save, ends_skip, ends_text, ends_value, ends_repeat, ends_again, ends_leave, ends_malformed}
 use Rattle.carry.proofs.finish_code.Goals as goal
 
-pub set_param-requires : goal.set_param-requires
-set_param-requires c =
+pub start_pass-requires-clause-depth_lt_nesting_most : goal.start_pass-requires-clause-depth_lt_nesting_most
+start_pass-requires-clause-depth_lt_nesting_most c =
     let ready = c.requires.ready in
-    let d = assign_parameter ready c.in-Assign.is in
-    (d.least, d.most, ready.short)
+    let d = iterate_parameter ready c.in-Iterate.is in
+    (iterate_depth ready c.in-Iterate.is, (d.least, d.most))
 
-pub start_pass-requires : goal.start_pass-requires
-start_pass-requires c =
+pub start_pass-requires-clause-line_len_bound : goal.start_pass-requires-clause-line_len_bound
+start_pass-requires-clause-line_len_bound c =
     let pre = c.requires in
-    let e = c.in-Iterate.is in
-    let d = iterate_parameter pre.ready e in
     let code = c.args.code in
-    let within = iterate_within pre.ready c.args.marked.now.text.now code.start code.end refl pre.code_in_bounds.0 e in
-    record {
-      placed = pre.sound.1;
-      depth_lt_nesting_most = (iterate_depth pre.ready e, (d.least, d.most));
-      line_len_bound = (pre.ready.short, (within, pre.code_in_bounds.1));
-    }
-
-pub copy_input-requires : goal.copy_input-requires
-copy_input-requires c =
-    let sound = c.requires.sound in
-    (sound.1, copy-ready sound.0)
+    let within = iterate_within pre.ready c.args.marked.now.text.now code.start code.end refl pre.code_in_bounds.0 c.in-Iterate.is in
+    (pre.ready.short, (within, pre.code_in_bounds.1))
 
 pub repeat-requires : goal.repeat-requires
 repeat-requires c =

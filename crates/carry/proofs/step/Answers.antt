@@ -2,10 +2,8 @@
 -- carried out.
 use mathlib.Core.Path.{refl}
 use native.Mathlib.Nat.{pos_of_ne-zero}
-use native.Mathlib.Omega.{arith}
 use Rattle.scan.proofs.Places.{code_line}
 use Rattle.carry.proofs.Carrying.{ready, carries_halt, carries_finish}
-use Rattle.build.proofs.Callers.{builds_sound}
 use Rattle.carry.proofs.Stepping.{counted_sound, few_open, steps_back, steps_spent, steps_on}
 use Rattle.carry.proofs.step.Goals as goal
 
@@ -19,13 +17,6 @@ returns-then-s-eq0 c =
     let pre = c.requires in
     steps_spent pre.1 c.read_code.ensures pre.0 c.args.line.now c.in-Some.is c.if-s-eq0.true refl
 
-pub build_line-requires : goal.build_line-requires
-build_line-requires c =
-    let pre = c.requires in
-    let moved = c.move_to.ensures.placed _ pre.1.placed (code_line c.read_code.ensures c.in-Some.is).within in
-    let sound = counted_sound pre.0 (pos_of_ne-zero c.if-s-eq0.false) c.count_event.ensures in
-    record { symbols = sound.symbols; number = moved.number }
-
 pub returns-in_err-ending : goal.returns-in_err-ending
 returns-in_err-ending c =
     let pre = c.requires in
@@ -34,18 +25,10 @@ returns-in_err-ending c =
     let halts = carries_halt c.build_line.ensures c.in_err-ending.was (counted_sound pre.0 some_fuel c.count_event.ensures) moved c.from_residual.ensures.1 in
     steps_on pre.1 c.read_code.ensures _ c.build_line.new.line c.in-Some.is some_fuel c.move_to.ensures c.count_event.ensures halts
 
-pub finish_code-requires : goal.finish_code-requires
-finish_code-requires c =
-    let pre = c.requires in
-    let code = code_line c.read_code.ensures c.in-Some.is in
-    let moves = c.move_to.ensures in
-    let builds = c.build_line.ensures in
-    let sound = counted_sound pre.0 (pos_of_ne-zero c.if-s-eq0.false) c.count_event.ensures in
-    record {
-      sound = (builds_sound builds sound, moves.placed _ pre.1.placed code.within);
-      code_in_bounds = (code.low, omega (arith, code.high, code.within));
-      ready = ready builds c.in_ok-ending.was c.as_bytes.ensures (few_open pre.1 c.read_code.ensures c.in-Some.is moves);
-    }
+pub finish_code-requires-clause-ready : goal.finish_code-requires-clause-ready
+finish_code-requires-clause-ready c =
+    let few = few_open c.requires.1 c.read_code.ensures c.in-Some.is c.move_to.ensures in
+    ready c.build_line.ensures c.in_ok-ending.was c.as_bytes.ensures few
 
 pub returns : goal.returns
 returns c =
