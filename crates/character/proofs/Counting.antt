@@ -52,10 +52,6 @@ pub record Counting (s : Bytes) (at n : ℕ) (v : Option ℕ) : Type 0 where
   pub small : IfSome v (λ u. u ≤ 1114111)
   pub is : counted_from 0 None (points s) ≡ counted_from n v (points (drop at s))
 
--- it holds at first
-pub counting_begins : {s : Bytes} → Counting s 0 0 None
-counting_begins = record { few = omega arith; high = omega arith; small = tt; is = refl }
-
 module _ {s : Bytes} {at n : ℕ} {v : Option ℕ} {r : Found} (c : Counting s at n v) (k : ReadsCharacter s at r) where
   -- past a character
   pub counting_goes_on : {d : Character} → r ≡ Ok (Some d) → Counting s (at + d.len) (n + 1) (Some d.code)

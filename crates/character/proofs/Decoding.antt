@@ -1,12 +1,12 @@
 -- The character at a place, by its first byte and its form.
 use mathlib.Core.Path.{◌≡◌, refl, ap, ap₂, sym, ◌∙◌, subst}
-use mathlib.Core.Bool.{Bool, true, false, ◌&&◌}
+use mathlib.Core.Bool.{Bool, true, ◌&&◌}
 use mathlib.Core.Option.{Option, none, some}
 use mathlib.Core.List.{[], ◌∷◌}
-use Prim.Native.Nat.{ℕ, suc, ◌+◌, ◌-◌, ◌*◌, ◌≤◌, ◌<◌}
+use Prim.Native.Nat.{ℕ, suc, ◌+◌, ◌-◌, ◌≤◌, ◌<◌}
 use native.Mathlib.Numerals.{add-one}
 use native.Mathlib.Omega.{arith}
-use borrow.Author.Tests.{le-leb, lt-leb, ne_eqb}
+use borrow.Author.Tests.{le-leb}
 use lib.Dec.{eqb, leb}
 use lib.ListN.{length, get_or, take, drop, drop_of_length-le, length-drop, length-append}
 use lib.Seq.{drop-cons, drop-drop, take_at, take-length, drop_at}
@@ -35,128 +35,6 @@ second_tail a b =
 
     narrower : (l h : ℕ) → 128 ≤ l → h ≤ 191 → P (leb l b && leb b h)
     narrower l h x y e = let k = between l h b e in rw (le-leb 128 b (omega (arith, k.0)), le-leb b 191 (omega (arith, k.1)))
-
--- the test of a byte after the first of three or four, by the first
-pub second_after : (v a b : ℕ) → a ≡ v → is_second v b ≡ is_second a b
-second_after v a b e = ap (λ (x : ℕ). is_second x b) (sym e)
-
--- any other first byte asks for a byte after the first, no more
-pub second_other : (a b : ℕ) → ¬ (a ≡ 224) → ¬ (a ≡ 237) → ¬ (a ≡ 240) → ¬ (a ≡ 244) → is_tail b ≡ is_second a b
-unfolding is_second
-second_other a b p q r s = rw (ne_eqb a 224 p, ne_eqb a 237 q, ne_eqb a 240 r, ne_eqb a 244 s, is_second) refl
-
--- two tests of which one fails
-pub fails_left : {p : Bool} (q : Bool) → p ≡ false → (p && q) ≡ false
-fails_left q e = ap (λ (x : Bool). x && q) e
-
-pub fails_right : (p : Bool) {q : Bool} → q ≡ false → (p && q) ≡ false
-fails_right true e = e
-fails_right false e = refl
-
--- ---- decode, by the range of the first byte
-
-module _ {a v : ℕ} where
-  pub decodes_one : (s : Bytes) → a ≤ 127 → v ≡ a → Ok (record { code = v; len = 1 }) ≡ read_of (character (a ∷ s))
-  unfolding character
-  decodes_one s h e = rw (e, le-leb a 127 h, character) refl
-
-  pub decodes_two : (s : Bytes) → 194 ≤ a → a ≤ 223 → 1 ≤ length s → is_tail (get_or s 0 0) ≡ true → v ≡ (a - 192) * 64 + (get_or s 0 0 - 128)
-      → Ok (record { code = v; len = 2 }) ≡ read_of (character (a ∷ s))
-  unfolding character of_two
-  decodes_two [] h k n t e = absurd (omega arith)
-  decodes_two (b ∷ s) h k n t e = rw (e, lt-leb a 127 (omega arith), le-leb 194 a h, le-leb a 223 k, t, character, of_two) refl
-
-  pub decodes_three : (s : Bytes) → 224 ≤ a → a ≤ 239 → 2 ≤ length s → is_second a (get_or s 0 0) ≡ true → is_tail (get_or s 1 0) ≡ true
-      → v ≡ (a - 224) * 4096 + (get_or s 0 0 - 128) * 64 + (get_or s 1 0 - 128) → Ok (record { code = v; len = 3 }) ≡ read_of (character (a ∷ s))
-  unfolding character of_three
-  decodes_three [] h k n p q e = absurd (omega arith)
-  decodes_three (b ∷ []) h k n p q e = absurd (omega arith)
-  decodes_three (b ∷ c ∷ s) h k n p q e =
-      rw (e, lt-leb a 127 (omega arith), le-leb 194 a (omega arith), lt-leb a 223 (omega arith), le-leb 224 a h, le-leb a 239 k, p, q, character, of_three) refl
-
-  pub decodes_four : (s : Bytes) → 240 ≤ a → a ≤ 244 → 3 ≤ length s → is_second a (get_or s 0 0) ≡ true → is_tail (get_or s 1 0) ≡ true → is_tail (get_or s 2 0) ≡ true
-      → v ≡ (a - 240) * 262144 + (get_or s 0 0 - 128) * 4096 + (get_or s 1 0 - 128) * 64 + (get_or s 2 0 - 128)
-      → Ok (record { code = v; len = 4 }) ≡ read_of (character (a ∷ s))
-  unfolding character of_four
-  decodes_four [] h k n p q r e = absurd (omega arith)
-  decodes_four (b ∷ []) h k n p q r e = absurd (omega arith)
-  decodes_four (b ∷ c ∷ []) h k n p q r e = absurd (omega arith)
-  decodes_four (b ∷ c ∷ d ∷ s) h k n p q r e =
-      rw (
-        e,
-        lt-leb a 127 (omega arith),
-        le-leb 194 a (omega arith),
-        lt-leb a 223 (omega arith),
-        le-leb 224 a (omega arith),
-        lt-leb a 239 (omega arith),
-        le-leb 240 a h,
-        le-leb a 244 k,
-        p,
-        q,
-        r,
-        character,
-        of_four,
-      ) refl
-
--- no form: a byte that begins none, and bytes that are cut off or fail the form's tests
-module _ {a : ℕ} where
-  pub decodes_none : (s : Bytes) → 127 < a → a < 194 → Err (record {}) ≡ read_of (character (a ∷ s))
-  unfolding character
-  decodes_none s h k = rw (lt-leb a 127 h, lt-leb 194 a k, lt-leb 224 a (omega arith), lt-leb 240 a (omega arith), character) refl
-
-  pub decodes_past : (s : Bytes) → 244 < a → Err (record {}) ≡ read_of (character (a ∷ s))
-  unfolding character
-  decodes_past s h =
-      rw (
-        lt-leb a 127 (omega arith),
-        le-leb 194 a (omega arith),
-        lt-leb a 223 (omega arith),
-        le-leb 224 a (omega arith),
-        lt-leb a 239 (omega arith),
-        le-leb 240 a (omega arith),
-        lt-leb a 244 h,
-        character,
-      ) refl
-
-  pub decodes_no_two : (s : Bytes) → 194 ≤ a → a ≤ 223 → (1 ≤ length s → is_tail (get_or s 0 0) ≡ false) → Err (record {}) ≡ read_of (character (a ∷ s))
-  unfolding character of_two
-  decodes_no_two s h k t = rw (lt-leb a 127 (omega arith), le-leb 194 a h, le-leb a 223 k, character) (by s t)
-    where
-      by : (s : Bytes) → (1 ≤ length s → is_tail (get_or s 0 0) ≡ false) → Err (record {}) ≡ read_of (of_two a s)
-      by [] t = refl
-      by (b ∷ s) t = rw (t (omega arith), of_two) refl
-
-  pub decodes_no_three : (s : Bytes) → 224 ≤ a → a ≤ 239 → (2 ≤ length s → (is_second a (get_or s 0 0) && is_tail (get_or s 1 0)) ≡ false)
-      → Err (record {}) ≡ read_of (character (a ∷ s))
-  unfolding character of_three
-  decodes_no_three s h k t = rw (lt-leb a 127 (omega arith), le-leb 194 a (omega arith), lt-leb a 223 (omega arith), le-leb 224 a h, le-leb a 239 k, character) (by s t)
-    where
-      by : (s : Bytes) → (2 ≤ length s → (is_second a (get_or s 0 0) && is_tail (get_or s 1 0)) ≡ false) → Err (record {}) ≡ read_of (of_three a s)
-      by [] t = refl
-      by (b ∷ []) t = refl
-      by (b ∷ c ∷ s) t = rw (t (omega arith), of_three) refl
-
-  pub decodes_no_four : (s : Bytes) → 240 ≤ a → a ≤ 244
-      → (3 ≤ length s → (is_second a (get_or s 0 0) && (is_tail (get_or s 1 0) && is_tail (get_or s 2 0))) ≡ false) → Err (record {}) ≡ read_of (character (a ∷ s))
-  unfolding character of_four
-  decodes_no_four s h k t =
-      rw (
-        lt-leb a 127 (omega arith),
-        le-leb 194 a (omega arith),
-        lt-leb a 223 (omega arith),
-        le-leb 224 a (omega arith),
-        lt-leb a 239 (omega arith),
-        le-leb 240 a h,
-        le-leb a 244 k,
-        character,
-      ) (by s t)
-    where
-      by : (s : Bytes) → (3 ≤ length s → (is_second a (get_or s 0 0) && (is_tail (get_or s 1 0) && is_tail (get_or s 2 0))) ≡ false)
-          → Err (record {}) ≡ read_of (of_four a s)
-      by [] t = refl
-      by (b ∷ []) t = refl
-      by (b ∷ c ∷ []) t = refl
-      by (b ∷ c ∷ d ∷ s) t = rw (t (omega arith), of_four) refl
 
 -- ---- the bounds
 

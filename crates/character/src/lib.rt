@@ -39,6 +39,7 @@ pub struct Counted {
 }
 
 // Whether b is a byte after the first: 80 to BF.
+#[tactic(auto, unfolding(model::specs::Utf8::is_tail))]
 fn is_tail(b: u8) -> bool
     ensures { result ≡ is_tail b }
 {
@@ -46,6 +47,7 @@ fn is_tail(b: u8) -> bool
 }
 
 // Whether b may follow the first byte a of three or four: nothing overlong, no surrogate, nothing above 10FFFF.
+#[tactic(auto, unfolding(model::specs::Utf8::is_second))]
 fn is_second(a: u8, b: u8) -> bool
     ensures { result ≡ is_second a b }
 {
@@ -59,6 +61,7 @@ fn is_second(a: u8, b: u8) -> bool
 }
 
 // The six bits that a byte after the first adds to the code point.
+#[tactic(auto, using(model::proofs::Utf8::tail_is))]
 fn take_bits(b: u8) -> usize
     requires { is_tail b ≡ true }
     ensures { (result ≡ b - 128) × (result < 64) }
@@ -67,6 +70,7 @@ fn take_bits(b: u8) -> usize
 }
 
 // The character whose first byte is a, where `rest` follows that.
+#[tactic(auto, using(crate::proofs::Decoding::second_tail), unfolding(model::specs::Utf8::character, model::specs::Utf8::of_two, model::specs::Utf8::of_three, model::specs::Utf8::of_four))]
 fn decode(a: u8, rest: &[u8]) -> Result<Character, Malformed>
     ensures { result ≡ read_of (character (a ∷ rest.now)) }
 {
@@ -97,6 +101,7 @@ fn decode(a: u8, rest: &[u8]) -> Result<Character, Malformed>
 }
 
 // The character of s from `at` on, or none where nothing is left.
+#[tactic(auto, using(crate::proofs::Decoding::reads_nothing))]
 pub fn read_character(s: &[u8], at: usize) -> Result<Option<Character>, Malformed>
     ensures { ReadsCharacter s.now at result }
 {
@@ -107,6 +112,7 @@ pub fn read_character(s: &[u8], at: usize) -> Result<Option<Character>, Malforme
 }
 
 // The characters of s, from the first to the last.
+#[tactic(auto, using(crate::proofs::Counting::counting_goes_on, crate::proofs::Counting::counting_ends))]
 pub fn count_characters(s: &[u8]) -> Result<Counted, Malformed>
     ensures { CountsCharacters s.now result }
 {

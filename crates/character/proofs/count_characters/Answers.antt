@@ -1,15 +1,8 @@
 -- count_characters counts character after character. The loop keeps `Counting`: the characters up to `at` are counted, and those from there on
 -- give the rest. The measure is the length of the text less `at`.
-use mathlib.Core.Path.{ap, ◌∙◌}
-use Rattle.std.specs.Prelude.{Ok}
-use Rattle.character.proofs.Counting.{counting_goes_on, counting_fails, counting_ends}
+
+use Rattle.character.proofs.Counting.{counting_fails}
 use Rattle.character.proofs.count_characters.Goals as goal
 
 pub returns-in_err-found : goal.returns-in_err-found
 returns-in_err-found c = counting_fails c.loop-found.invariant c.read_character.ensures c.in_err-found.was c.from_residual.ensures.0
-
-pub loop-found-preserved : goal.loop-found-preserved
-loop-found-preserved c = counting_goes_on c.loop-found.invariant c.read_character.ensures (c.in_ok-found.was ∙ ap Ok c.in-Some.is)
-
-pub returns : goal.returns
-returns c = counting_ends c.loop-found.invariant c.read_character.ensures (c.in_ok-found.was ∙ ap Ok c.in_default.is)

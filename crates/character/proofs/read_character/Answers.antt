@@ -1,11 +1,7 @@
 -- read_character: nothing, or what decode reads there.
-use borrow.Author.Rules.{rules}
 use native.Mathlib.Omega.{arith}
-use Rattle.character.proofs.Decoding.{reads_nothing, reads_one, reads_malformed}
+use Rattle.character.proofs.Decoding.{reads_one, reads_malformed}
 use Rattle.character.proofs.read_character.Goals as goal
-
-pub returns-then-s-at : goal.returns-then-s-at
-returns-then-s-at c = search (reads_nothing, rules)
 
 pub returns-in_err-decode : goal.returns-in_err-decode
 returns-in_err-decode c = reads_malformed (omega arith) c.decode.ensures c.in_err-decode.was c.from_residual.ensures.0
