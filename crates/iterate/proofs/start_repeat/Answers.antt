@@ -1,9 +1,6 @@
--- start_repeat begins an iteration, or skips past it.
-use Rattle.iterate.proofs.Repeats.{repeat_skips, repeat_begins}
+-- start_repeat skips past an iteration that makes no pass.
+use Rattle.iterate.proofs.Repeats.{repeat_skips}
 use Rattle.iterate.proofs.start_repeat.Goals as goal
 
 pub returns-in-None : goal.returns-in-None
 returns-in-None c = repeat_skips c.ranges.v c.count_passes.ensures c.in-None.ensures c.past_loop.ensures c.move_to.ensures
-
-pub returns-in-Some : goal.returns-in-Some
-returns-in-Some c = repeat_begins c.ranges.v c.count_passes.ensures c.in-Some.ensures c.enter.ensures
