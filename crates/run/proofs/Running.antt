@@ -21,9 +21,7 @@ use Rattle.buffer.proofs.Written.{written-length}
 use Rattle.store.specs.Names.{ListsNames}
 use Rattle.state.specs.declared.State.{State}
 use Rattle.state.specs.State.{state_of, Sound}
-use Rattle.faults.specs.declared.Fault.{Fault}
-use Rattle.faults.specs.declared.Fault.TheVariants as Faults
-use Rattle.faults.specs.Numbers.{fault_number}
+use Rattle.faults.specs.Numbers.{load_number}
 use Rattle.load.specs.declared.Loaded.{Loaded}
 use Rattle.load.specs.declared.Refused.{Refused}
 use Rattle.std.specs.Prelude as Prelude
@@ -41,7 +39,7 @@ use Rattle.answer.specs.Answers.{Answer, end_number, result_after}
 use Rattle.answer.specs.Kept.{Extends}
 use Rattle.input.specs.Expands.{Expands}
 use Rattle.model.specs.Runs.{Runs}
-use Rattle.run.specs.Inner.{basis_of, ReadyToRun, start_of, EndsRun}
+use Rattle.run.specs.Inner.{ReadyToRun, start_of, EndsRun}
 
 -- ---- the same answer for an equal result
 
@@ -76,11 +74,11 @@ unfolding ran_as no_output
 refused_as e f = λ i. record { number = e i; line = f i; events = 0; output = 0; second = 0; store = 0; report = 0 }
 
 -- a text that is refused
-pub refused_runs : (text : Bytes) (row : List Node) {t : Prelude.Result Prepared Refused} {f : Refused} (fuel : ℕ) {output second store report : Bytes} {e : Fault} {r : Ran} → Prepares text row t → t ≡ Err f
-    → e ≡ Faults.Load f.fault → r ≡ ran_as (no_run (fault_number e) f.line) → Runs (run fuel (rooms (length output) (length second)) (load text)) output second store report r output second store report
+pub refused_runs : (text : Bytes) (row : List Node) {t : Prelude.Result Prepared Refused} {f : Refused} (fuel : ℕ) {output second store report : Bytes} {k : ℕ} {r : Ran} → Prepares text row t → t ≡ Err f
+    → k ≡ load_number f.fault → r ≡ ran_as (no_run k f.line) → Runs (run fuel (rooms (length output) (length second)) (load text)) output second store report r output second store report
 unfolding run
 refused_runs text row {f = f} fuel {output = output} {second = second} p z n e =
-    same_runs (ap (run fuel (rooms (length output) (length second))) (sym (rw z at p))) (refuses (e ∙ ap (λ (k : Fault). ran_as (no_run (fault_number k) f.line)) n))
+    same_runs (ap (run fuel (rooms (length output) (length second))) (sym (rw z at p))) (refuses (e ∙ ap (λ (k : ℕ). ran_as (no_run k f.line)) n))
 
 -- ---- a text that is prepared is ready for its expansion
 
@@ -135,7 +133,7 @@ module _ {text : Bytes} {row : List Node} {bodies : List ℕ} {t : Prepared} (y 
   abbrev u : Load.Loaded
   u = loaded_of text t.table t.loaded
 
-  pub prepared : Book.Prepared (basis_of text row bodies t)
+  pub prepared : Book.Prepared l.marks text row l.nodes bodies
   prepared = record { table = u; book = y.book }
 
   -- how many macros it has
@@ -164,7 +162,7 @@ module _ {text : Bytes} {row : List Node} {bodies : List ℕ} {t : Prepared} (y 
     starts_counted f = subst (λ (z : State). Counts (replicate 129 0) z.fuel) (sym is) (counts_start f)
 
     module _ {output second : Bytes} {q : Answer} {s' : State} {output' second' : Bytes} {counts' : List ℕ}
-        (e : Expands (basis_of text row bodies t) s (outputs output second) (replicate 129 0) q s' (outputs output' second') counts') where
+        (e : Expands l.marks text row l.nodes bodies s (outputs output second) (replicate 129 0) q s' (outputs output' second') counts') where
       begins : ◌≡◌ {A = Next} (running (initial u)) (running (state_of text none [] (tally_in u (replicate 129 0)) (start_of l fuel) (outputs output second)))
       unfolding initial no_output
       begins = λ i. running (record {
@@ -178,8 +176,8 @@ module _ {text : Bytes} {row : List Node} {bodies : List ℕ} {t : Prepared} (y 
         tally = sym (counts_none u.macros y.book.few) i;
       })
 
-      expands : Expands (basis_of text row bodies t) (start_of l fuel) (outputs output second) (replicate 129 0) q s' (outputs output' second') counts'
-      expands = subst (λ (z : State). Expands (basis_of text row bodies t) z (outputs output second) (replicate 129 0) q s' (outputs output' second') counts') is e
+      expands : Expands l.marks text row l.nodes bodies (start_of l fuel) (outputs output second) (replicate 129 0) q s' (outputs output' second') counts'
+      expands = subst (λ (z : State). Expands l.marks text row l.nodes bodies z (outputs output second) (replicate 129 0) q s' (outputs output' second') counts') is e
 
       -- what the run of the loaded text comes to
       whole : result_after u (tally_in u counts') q s' (outputs output' second') ≡ run fuel (rooms (length output) (length second)) (load text)

@@ -12,32 +12,27 @@ ghost use Rattle.model.specs.Results.{ran_as};
 ghost use Rattle.prepare.specs.Prepares.{Prepares};
 ghost use Rattle.model.specs.Runs.{Runs};
 ghost use Rattle.usage.specs.Counts.{ReadyToReport, PrintsReport};
-ghost use Rattle.faults.specs.Numbers.{fault_number};
 ghost use Rattle.answer.specs.Answers.{end_number};
 ghost use Rattle.run.specs.Inner.{ReadyToRun, start_of, EndsRun};
 ghost use Rattle.model.specs.Limits.{store_least, dead_least, report_least, fuel_most};
 
 use answer::Turn;
-use faults::{Fault, RunFault};
+use faults::RunFault;
 use input::expand_input;
 use load::{Loaded, Refused};
-use matching::Script;
 use model::Ran;
 use nodes::Node;
 use prepare::Prepared;
-use scan::Marked;
 use state::State;
 use store::Store;
 use usage::{COUNTS_SIZE, print_report};
 
-// Why no run began, and a line; nothing is written.
-// `as u64`: C reads numbers of 64 bits, and From makes none of a usize.
-#[tactic(auto, unfolding(model::specs::Results::ran_as, model::specs::Machine::no_output))]
-pub fn refuse(fault: Fault, line: usize) -> Ran
-    ensures { result ≡ ran_as (no_run (fault_number fault) line) }
+// A number and a line; nothing is written.
+pub fn refuse(number: usize, line: usize) -> Ran
+    ensures { result ≡ ran_as (no_run number line) }
 {
     Ran {
-        number: usize::from(fault) as u64,
+        number: number as u64,
         line: line as u64,
         events: 0,
         output: 0,
@@ -64,7 +59,7 @@ fn start(loaded: Loaded, fuel: usize) -> State
     }
 }
 
-// The number of the fault that ended a run, or 0, as C reads it.
+// The number of the fault that ended a run, or 0.
 fn number_end(ended: Result<Turn, RunFault>) -> usize
     ensures { result ≡ end_number ended }
 {
@@ -122,16 +117,18 @@ fn run_loaded(
     let loaded = t.loaded;
     let mut s = start(loaded, fuel);
     let mut counts = [0usize; COUNTS_SIZE];
-    let script = Script {
-        marked: Marked {
-            marks: loaded.marks,
-            text,
-        },
+    let ended = expand_input(
+        loaded.marks,
+        text,
         nodes,
-        count: loaded.nodes,
+        loaded.nodes,
+        dead,
         bodies,
-    };
-    let ended = expand_input(&script, dead, output, second, &mut counts, &mut s);
+        output,
+        second,
+        &mut counts,
+        &mut s,
+    );
     let reported = report_uses(t, &counts, report);
     end(ended, reported, &s, store)
 }

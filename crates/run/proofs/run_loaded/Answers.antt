@@ -2,15 +2,12 @@
 use Rattle.run.proofs.Running.{prepared, starts_sound, starts_counted, report_ready, loaded_runs}
 use Rattle.run.proofs.run_loaded.Goals as goal
 
-pub invariant_of-script : goal.invariant_of-script
-invariant_of-script c = prepared c.requires.0
-
 pub expand_input-ended-requires : goal.expand_input-ended-requires
 expand_input-ended-requires c =
     let ready = c.requires.0 in
     let begins = c.start-s.ensures in
     let few = c.requires.1 in
-    (starts_sound ready begins few, c.requires.3, starts_counted ready begins few)
+    (prepared ready, starts_sound ready begins few, c.requires.3, starts_counted ready begins few)
 
 pub report_uses-reported-requires : goal.report_uses-reported-requires
 report_uses-reported-requires c = report_ready c.requires.0 c.expand_input-ended.ensures.counted c.requires.4
