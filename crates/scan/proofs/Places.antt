@@ -16,9 +16,8 @@ use Rattle.model.specs.declared.Marks.{Marks}
 use Rattle.scan.specs.declared.Line.{Line}
 use Rattle.model.specs.Text.{Bytes, part, starts_with, up_to, lines}
 use Rattle.model.specs.Load.{body_of, body_at}
-use Rattle.model.proofs.Choices.{false-not-true}
 use Rattle.model.proofs.Text.{part_length, part-rest, part_empty, part_cons, part-take}
-use Rattle.scan.specs.Lines.{line_at, FindsByte, Begins, LineAt, FindsEnd, ContentAt, BeginsMarked, CodeLine, CodeAt}
+use Rattle.scan.specs.Lines.{line_at, FindsByte, LineAt, FindsEnd, ContentAt, BeginsMarked, CodeLine, CodeAt}
 use Rattle.scan.proofs.Lines.{up_to_stops, up_to_goes_on, up_to_front, up_to_short, up_to_long, lines_at, body_none, body_ends, body_goes_on}
 
 -- ---- find_byte
@@ -76,7 +75,7 @@ found_by {s} {from} {to} {b} {p} {r} h k e q =
     by true t = refl
     by false t = omega (arith, ltb-false _ _ t, up_to_long b (part s from to), up_to_short b (part s from to), part_length s from to k)
 
--- ---- begins_with
+-- ---- a byte at the front
 
 -- std's test for one byte at the front
 pub starts-with : (b : ℕ) (s : Bytes) → pointwise eqb (b ∷ []) (take 1 s) ≡ starts_with b s
@@ -87,15 +86,6 @@ starts-with b (x ∷ s) = by (eqb b x) refl
     by : (c : Bool) → eqb b x ≡ c → eqb b x && true ≡ eqb x b
     by true e = rw e (sym (eq-eqb x b (sym (eqb-true b x e))))
     by false e = rw e (sym (ne_eqb x b (λ z. eqb-false b x e (sym z))))
-
--- a part that begins with a byte has one
-pub begins_inside : (text : Bytes) (at end : ℕ) {b : ℕ} {r : Bool} → Begins (part text at end) b r → r ≡ true → at + 1 ≤ end
-unfolding starts_with
-begins_inside text at end {b} h e = by (ltb at end) refl
-  where
-    by : (c : Bool) → ltb at end ≡ c → at + 1 ≤ end
-    by true t = omega (arith, ltb-true at end t)
-    by false t = false-not-true (sym (ap (starts_with b) (part_empty text at end (ltb-false at end t))) ∙ sym h.is ∙ e)
 
 -- ---- read_line
 

@@ -21,10 +21,6 @@ pub record FindsByte (s : Bytes) (from to b r : ℕ) : Type 0 where
 pub record Has (s : Bytes) (b : ℕ) (r : Bool) : Type 0 where
   pub is : r ≡ has b s
 
--- whether s begins with b
-pub record Begins (s : Bytes) (b : ℕ) (r : Bool) : Type 0 where
-  pub is : r ≡ starts_with b s
-
 -- the line at `at` is text[at..end], and the next one starts at `next`
 pub record LineAt (text : Bytes) (at end next : ℕ) : Type 0 where
   pub low : at ≤ end

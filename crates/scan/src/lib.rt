@@ -4,7 +4,7 @@
 
 ghost use Rattle.std.specs.Prelude.{◌≡◌, ◌∷◌, ◌+◌, ◌≤◌, ◌<◌, length, min};
 ghost use Rattle.model.specs.Legal.{operators};
-ghost use Rattle.scan.specs.Lines.{FindsByte, Has, Begins, LineAt, FindsEnd, ContentAt, BeginsMarked, CodeAt, PlainByte, AllPlain, AllDiffer, LegalMarks, MarksAt};
+ghost use Rattle.scan.specs.Lines.{FindsByte, Has, LineAt, FindsEnd, ContentAt, BeginsMarked, CodeAt, PlainByte, AllPlain, AllDiffer, LegalMarks, MarksAt};
 
 use model::Marks;
 
@@ -36,13 +36,6 @@ pub fn has_byte(s: &[u8], b: u8) -> bool
     ensures { Has s.now b result }
 {
     s.contains(&b)
-}
-
-// Whether s begins with b.
-pub fn begins_with(s: &[u8], b: u8) -> bool
-    ensures { Begins s.now b result }
-{
-    s.starts_with(&[b])
 }
 
 // The place after the byte 10 at `stop`, or the end of the text. std's `min` says the same, and takes 2 to 7 % more in a walk over lines.

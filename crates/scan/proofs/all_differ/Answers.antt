@@ -1,16 +1,10 @@
 -- all_differ is the test `distinct`: no byte before the rest stands again after it.
 use borrow.Author.Rules.{rules}
-use Rattle.scan.proofs.FlagLine.{differing_begins, after-less, differ_on, differ_fails, differ_all}
+use Rattle.scan.proofs.FlagLine.{differ_on, differ_fails, differ_all}
 use Rattle.scan.proofs.all_differ.Goals as goal
-
-pub loop-rest-init : goal.loop-rest-init
-loop-rest-init c = search differing_begins
 
 pub returns-then-has_byte : goal.returns-then-has_byte
 returns-then-has_byte c = search (differ_fails, rules)
-
-pub loop-rest-smaller : goal.loop-rest-smaller
-loop-rest-smaller c = search (after-less, rules)
 
 pub loop-rest-preserved : goal.loop-rest-preserved
 loop-rest-preserved c = search (differ_on, rules)

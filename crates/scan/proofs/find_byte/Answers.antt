@@ -1,10 +1,7 @@
 -- find_byte finds the first b from `from` on, or `to`: the loop has passed no b.
 use borrow.Author.Rules.{rules}
-use Rattle.scan.proofs.Places.{seeking_begins, seeking_goes_on, found_there, found_nowhere}
+use Rattle.scan.proofs.Places.{seeking_goes_on, found_there, found_nowhere}
 use Rattle.scan.proofs.find_byte.Goals as goal
-
-pub loop-i-init : goal.loop-i-init
-loop-i-init c = search (seeking_begins, rules)
 
 pub returns-then-s-i : goal.returns-then-s-i
 returns-then-s-i c = search (found_there, rules)

@@ -1,10 +1,7 @@
 -- find_end finds where a content ends: the loop has passed no mark and no byte 10.
 use borrow.Author.Rules.{rules}
-use Rattle.scan.proofs.Places.{scanning_begins, scanning_goes_on, end_mark, end_line, end-text}
+use Rattle.scan.proofs.Places.{scanning_goes_on, end_mark, end_line, end-text}
 use Rattle.scan.proofs.find_end.Goals as goal
-
-pub loop-i-init : goal.loop-i-init
-loop-i-init c = search (scanning_begins, rules)
 
 pub returns-then-b-mark : goal.returns-then-b-mark
 returns-then-b-mark c = search (end_mark, rules)
