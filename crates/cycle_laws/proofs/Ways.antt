@@ -19,7 +19,6 @@ use Rattle.model.specs.Load.{templates, Loaded, no_macro}
 use Rattle.model.specs.Report.{Tally, no_lines}
 use Rattle.model.specs.Machine.{Rooms, Outputs, outputs, Frame, running, pass_through}
 use Rattle.model.proofs.Frames.{NextOk}
-use Rattle.nodes.specs.declared.Node.{Node}
 use Rattle.state.specs.declared.State.{State}
 use Rattle.state.specs.State.{state_of, Sound, counted_event, with_call}
 use Rattle.call.specs.declared.Call.{Call}

@@ -7,13 +7,11 @@ use mathlib.Core.List.{List}
 use Prim.Native.Nat.{ℕ, ◌-◌, ◌≤◌, ◌<◌}
 use native.Mathlib.Omega.{arith}
 use lib.ListN.{length, get_or}
-use Rattle.model.specs.declared.Marks.{Marks}
 use Rattle.model.specs.Text.{Bytes}
 use Rattle.model.specs.Reading.{Reading as ReadingOf, chosen}
 use Rattle.model.specs.Load.{templates, Loaded}
 use Rattle.model.specs.Report.{one_more_of, tallied}
 use Rattle.model.proofs.Loading.{templates-length}
-use Rattle.nodes.specs.declared.Node.{Node}
 use Rattle.fit.specs.declared.Choice.{Choice}
 use Rattle.fit.specs.declared.Reading.{Reading}
 use Rattle.fit.specs.Chosen.{TreeAt, Chosen, Chooses}

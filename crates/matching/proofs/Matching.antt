@@ -20,8 +20,7 @@ use Rattle.call.specs.Call.{frame_of}
 use Rattle.call.proofs.Reading.{opens_reading}
 use Rattle.fit.specs.declared.Choice.{Choice}
 use Rattle.fit.specs.declared.Reading.{Reading}
-use Rattle.fit.specs.Chosen.{Fits, TreeAt, Chosen, Chooses}
-use Rattle.fit.proofs.Asking.{can_fit}
+use Rattle.fit.specs.Chosen.{TreeAt, Chosen, Chooses}
 use Rattle.matching.specs.Book.{Basis, Book, Prepared}
 use Rattle.matching.specs.Matches.{opened, Opening, Opened, Calls}
 
