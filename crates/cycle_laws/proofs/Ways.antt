@@ -254,9 +254,6 @@ module _ {m : Marks} {text : Bytes} {c : Call} {s : State} {o : Outputs} {b : By
   pub offer_less : s₁.fuel < s.fuel
   offer_less = steps.less (offer_open q e)
 
-  pub offer_placed : c₁.next ≤ length text
-  offer_placed = offer_stays.placed.next
-
 module _ {w : Basis} {c : Call} {s : State} {o : Outputs} {b : Bytes} {q : Answer} {s₁ : State} {c₁ : Call} {o₁ : Outputs} (steps : Steps w.marks w.text c s o b q s₁ c₁ o₁) where
   -- it offers nothing
   pub advance_takes : {depth : ℕ} {cs : List ℕ} {a : Answer} → Counts cs s.fuel → is_offer q ≡ false → a ≡ q
@@ -319,11 +316,6 @@ pub record Running (w : Basis) (depth : ℕ) (f₀ : Frame) (s₀ : State) (o₀
   pub same : (t : Loaded) → Book w t → (fs : List Frame) → length fs ≡ depth
       → comes_to s₀.fuel (rooms_of o₀) t (running (state_of w.text none (f₀ ∷ fs) (tally_in t cs₀) s₀ o₀))
       ≡ comes_to s.fuel (rooms_of o₀) t (running (state_of w.text none (frame_of w.marks w.text c ∷ fs) (tally_in t cs) s o))
-
--- the call begins
-pub running_starts : {w : Basis} {depth : ℕ} {c : Call} {s : State} {o : Outputs} {cs : List ℕ}
-    → Sound w.text s o → Counts cs s.fuel → Open w.marks w.text c → Running w depth (frame_of w.marks w.text c) s o cs c s o cs
-running_starts sound kept h = record { follows = follows_itself sound; counted = kept; is_open = h; same = λ _ _ _ _. refl }
 
 module _ {w : Basis} {depth : ℕ} {f₀ : Frame} {s₀ : State} {o₀ : Outputs} {cs₀ : List ℕ} {c : Call} {s : State} {o : Outputs} {cs : List ℕ}
     (i : Running w depth f₀ s₀ o₀ cs₀ c s o cs) where

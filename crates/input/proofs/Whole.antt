@@ -5,7 +5,7 @@ use mathlib.Core.Option.{none, some}
 use Rattle.std.specs.Prelude.{Ok, Err}
 use Rattle.faults.specs.declared.RunFault.TheVariants.{LongInput}
 use mathlib.Core.List.{List, []}
-use Prim.Native.Nat.{ℕ, ◌+◌, ◌-◌, ◌≤◌, ◌<◌}
+use Prim.Native.Nat.{ℕ, ◌+◌, ◌≤◌, ◌<◌}
 use native.Mathlib.Omega.{arith}
 use borrow.Author.Tests.{le-leb, lt-leb}
 use lib.ListN.{length, drop_of_length-le}
@@ -21,7 +21,7 @@ use Rattle.answer.specs.declared.Turn.{Turn}
 use Rattle.answer.specs.declared.Turn.TheVariants.{Continues, Offers, Back, Ends}
 use Rattle.answer.specs.Answers.{Answer, is_left, is_end, lines_back, settle, next_of, rooms_of, comes_to}
 use Rattle.answer.specs.Kept.{ExtendsBoth}
-use Rattle.answer.proofs.Following.{both_none, extends_more, rooms_kept}
+use Rattle.answer.proofs.Following.{extends_more, rooms_kept}
 use Rattle.answer.proofs.Expansion.{next_back, next_ends}
 use Rattle.usage.specs.Counts.{Counts}
 use Rattle.matching.specs.Book.{Basis, Book, tally_in}
@@ -48,10 +48,6 @@ pub record Expanding (w : Basis) (s₀ : State) (o₀ : Outputs) (cs₀ : List �
   pub extends : ExtendsBoth o₀ s₀ o s
   pub same : (t : Loaded) → Book w t
       → comes_to s₀.fuel (rooms_of o₀) t (running (state_of w.text none [] (tally_in t cs₀) s₀ o₀)) ≡ comes_to s.fuel (rooms_of o₀) t (running (state_of w.text none [] (tally_in t cs) s o))
-
-pub expanding_starts : {w : Basis} {s : State} {o : Outputs} {cs : List ℕ} → Sound w.text s o → Counts cs s.fuel
-    → Expanding w s o cs s o cs
-expanding_starts h kept = record { sound = h; counted = kept; extends = both_none h; same = λ t b. refl }
 
 -- the state with lines read, each with a byte at least, is sound
 moved_sound : {text : Bytes} {s : State} {at line : ℕ} {o : Outputs} → Sound text s o → at ≤ length text → line + s.at ≤ s.line + at → Sound text (with_input s at line) o
@@ -128,9 +124,6 @@ module _ {v w : Basis} {s₀ : State} {o₀ : Outputs} {cs₀ : List ℕ} {s : S
       module _ {n : ℕ} {z : State} (er : r ≡ Ok (Back n)) (d : DropsLines v.text n s' z) where
         drops : DropsLines w.text (lines_back r) s' z
         drops = subst (λ (x : Answer). DropsLines w.text (lines_back x) s' z) (sym er) (subst (λ (u : Basis). DropsLines u.text n s' z) e d)
-
-        pub input_less : length w.text - z.at < length w.text - s.at
-        input_less = omega (arith, k.follows.from, content.ahead, content.within, drops.from)
 
         -- the run goes on in the input
         pub expanding_on : Expanding w s₀ o₀ cs₀ z o' cs'

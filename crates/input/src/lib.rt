@@ -18,6 +18,7 @@ use state::State;
 
 // Drops n input lines, or all that are left: they are read and not measured.
 // n counts lines, and is no place of the text: a slice would not say it.
+#[tactic(auto, using(crate::proofs::Lines::dropping_more, crate::proofs::Lines::input_ends))]
 fn drop_lines(text: &[u8], n: usize, s: &mut State)
     requires { (s.old.at ≤ length text.now) × (s.old.line + length text.now ≤ fuel_most + s.old.at) }
     ensures { DropsLines text.now n s.old s.new }

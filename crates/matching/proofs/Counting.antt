@@ -28,29 +28,6 @@ place_found e = sym (ap chosen_place e)
 place-passed : {c : Option Reading} → c ≡ None → 128 ≡ chosen_place c
 place-passed e = sym (ap chosen_place e)
 
--- it is that of a count
-place-within : (c : Option Reading) → IfSome c (λ r. r.template < 128) → chosen_place c < 129
-place-within None h = omega arith
-place-within (Some x) h = omega (arith, h)
-
--- ---- a line counted, or none
-
--- what the count asks
-pub place-counted : (c : Option Reading) {counts : List ℕ} {fuel k : ℕ} → Counts counts fuel → IfSome c (λ r. r.template < 128) → k ≡ chosen_place c → k < length counts
-place-counted c h below e = omega (arith, place-within c below, h.long)
-
-pub room_counted : {counts : List ℕ} {fuel : ℕ} → Counts counts fuel → 0 < fuel → (k : ℕ) → get_or counts k 0 < 1000000
-room_counted h e k = counts_room h e k
-
-module _ {c : Option Reading} {fuel : ℕ} {counts : List ℕ} where
-  -- no fuel is left
-  pub counts_spent : fuel ≤ 0 → CountsDecided c fuel counts counts
-  counts_spent e = record { spent = λ _. refl; counted = λ k. absurd (omega arith) }
-
-  -- some is
-  pub counts_one : {k : ℕ} {counts' : List ℕ} → 0 < fuel → k ≡ chosen_place c → counts' ≡ one_more_of k counts → CountsDecided c fuel counts counts'
-  counts_one some_fuel e h = record { spent = λ z. absurd (omega arith); counted = λ _. h ∙ ap (λ (k : ℕ). one_more_of k counts) e }
-
 -- ---- what callers take
 
 -- a template that is chosen has its count

@@ -1,21 +1,18 @@
 -- Each way through an offer, a body and a code line, by its law.
 use Rattle.std.proofs.Common.{refl, sym, ap, ◌∙◌, subst, arith}
 use borrow.Author.Rules.{rules}
-use lib.ListN.{length}
-use Rattle.model.specs.Text.{Bytes}
 use Rattle.matching.proofs.Matching.{choice_opening}
 use Rattle.matching.proofs.Counting.{choice_below}
 use Rattle.matching.specs.Book.{Prepared}
-use Rattle.cycle_laws.proofs.Ways.{chosen_by, opened_by, steps_by, lands_by, offer_fails, offer_passes, offer_opens, called_sound, called_less, called_counts, called_open, offer_enters, offer_placed, offer_less, turns_else, advance_takes, advance_fails, advance_lands, running_starts, running_on, body_left}
+use Rattle.cycle_laws.proofs.Ways.{chosen_by, opened_by, steps_by, lands_by, offer_fails, offer_passes, offer_opens, called_sound, called_less, called_counts, called_open, offer_enters, turns_else, advance_takes, advance_fails, advance_lands, running_on, body_left}
 use Rattle.answer.specs.Answers.{is_offer}
 use Rattle.std.specs.Prelude.{Ok}
-use Rattle.usage.proofs.Counts.{counts_less}
 use Rattle.cycle.proofs.+calls.Goals as goal
 
 -- ---- a line is offered
 
 pub offer-count_decided-requires : goal.offer-count_decided-requires
-offer-count_decided-requires t c = (c.requires.4, choice_below c.script.invariant c.first_reading-found.ensures)
+offer-count_decided-requires t c = search (choice_below, rules)
 
 pub offer-returns-in_err-decide : goal.offer-returns-in_err-decide
 offer-returns-in_err-decide t c =
@@ -52,9 +49,6 @@ offer-returns t c =
 
 -- ---- a body
 
-pub body-loop-turn-init : goal.body-loop-turn-init
-body-loop-turn-init t c = running_starts c.requires.0 c.requires.4 c.requires.1
-
 pub body-returns-in_err-turn : goal.body-returns-in_err-turn
 body-returns-in_err-turn t c = body_left c.loop-turn.invariant c.in_err-turn.ensures refl (search rules)
 
@@ -71,23 +65,6 @@ advance-returns-in_err-turn t c = advance_takes (steps_by c.script.view_is c.in_
 
 pub advance-returns-in_default : goal.advance-returns-in_default
 advance-returns-in_default t c = advance_takes (steps_by c.script.view_is c.in_ok-turn.ensures) c.requires.4 (turns_else _ c.in_default.not-Offers) refl
-
-pub advance-offer-requires : goal.advance-offer-requires
-advance-offer-requires t c =
-    let offers = ap (λ z. is_offer (Ok z)) c.in-Offers.is in
-    let steps = steps_by c.script.view_is c.in_ok-turn.ensures in (
-      omega (arith, offer_less steps offers, c.decreases),
-      (
-        steps.follows.sound,
-        omega (arith, ap (λ (l : Bytes). length l) c.as_bytes.ensures, steps.short),
-        omega (arith, c.requires.2),
-        c.requires.3,
-        counts_less c.requires.4 steps.follows.fuel,
-      ),
-    )
-
-pub advance-land-requires : goal.advance-land-requires
-advance-land-requires t c = offer_placed c.in_ok-turn.ensures (ap (λ z. is_offer (Ok z)) c.in-Offers.is)
 
 pub advance-returns-in_err-offered : goal.advance-returns-in_err-offered
 advance-returns-in_err-offered t c =

@@ -5,7 +5,7 @@ use Rattle.input.proofs.Whole.{expands_over, expands_long, expands_ended, ends_e
 use Rattle.input.proofs.expand_input.Goals as goal
 
 pub returns-then-content-gt-LINE_MOST : goal.returns-then-content-gt-LINE_MOST
-returns-then-content-gt-LINE_MOST c = expands_long c.script.view_is c.loop-s.invariant c.read_input-line.ensures c.set_input.ensures c.if-content-gt-LINE_MOST.true
+returns-then-content-gt-LINE_MOST c = search (expands_long, rules)
 
 pub returns-in_err-turn : goal.returns-in_err-turn
 returns-in_err-turn c =
@@ -21,4 +21,4 @@ loop-s-preserved c =
     expanding_on c.script.view_is c.loop-s.invariant c.read_input-line.ensures c.set_input.ensures c.if-content-gt-LINE_MOST.false c.offer.ensures (search rules) c.drop_lines.ensures
 
 pub returns : goal.returns
-returns c = expands_over c.script.view_is c.loop-s.invariant c.loop-s-test.false
+returns c = search (expands_over, rules)
