@@ -1,5 +1,5 @@
 -- The looks for a child: std's binary search among a node's children, whose keys rise, and the last of them, where the placeholder child stands.
-use Rattle.std.proofs.Common.{◌≡◌, Bool, true, false, ℕ, ◌+◌, ◌-◌, ◌<◌, ◌≤◌, List, length, get_or, take, drop, Option, Some, None, Result, Ok, Err, sym, ◌∙◌, ap, refl, subst, option_map, ⊎_elim, arith, get_or-take, get_or-drop, length-take, length-drop}
+use Rattle.std.proofs.Common.{◌≡◌, Bool, true, false, ℕ, ◌+◌, ◌-◌, ◌<◌, ◌≤◌, List, length, get_or, take, drop, Some, None, Result, Ok, Err, sym, ◌∙◌, ap, refl, option_map, ⊎_elim, arith, get_or-take, get_or-drop, length-take, length-drop}
 use Rattle.std.specs.List.Sorted.{IsSearchInRange, IsBinarySearchResult, IsNonDecreasingBy}
 use Rattle.std.specs.Ordering.{nat_cmp, ordering_index}
 use Rattle.std.specs.Result.{result_ok}
@@ -76,10 +76,6 @@ module _ {rows : List Node} {node : ℕ} (key : ℕ) (run : InRun rows node) whe
         by k lt w false t =
             let x : key < (get_or (part_of rows first end) k no_node).element = ranked _ key _ (sym ((parted comparisons_rise).1 k no_node (ltb-false k i t) (omega (arith, lt, long)))) in
             omega (arith, x, w)
-
--- the answer that is known
-pub child_is : {rows : List Node} {node : ℕ} (key first : ℕ) (o : Option ℕ) {r : Option ℕ} → ChildFor rows node key (option_map (λ i. first + i) o) → o ≡ r → ChildFor rows node key (option_map (λ i. first + i) r)
-child_is {rows} {node} key first o h q = subst (λ (o : Option ℕ). ChildFor rows node key (option_map (λ i. first + i) o)) q h
 
 -- ---- the run's end
 

@@ -1,6 +1,7 @@
-// The row of nodes that holds the tree of the templates, and the two looks for a child. Node 0 is the root, and nobody's child. The children of a node stand side by side, in the order of their keys, so one is found by halving their run, and the
-// placeholder child is the last one. Who looks for a child is asked that the node and its children stand in the row, and that these ascend
-// up to the placeholder's key; nothing else is asked.
+// The row of nodes that holds the tree of the templates, and the two looks for a child. Node 0 is the root, and nobody's child. The children
+// of a node stand side by side, in the order of their keys, so one is found by halving their run, and the placeholder child is the last one.
+// Who looks for a child is asked that the node and its children stand in the row, and that these ascend up to the placeholder's key; nothing
+// else is asked.
 #![tactic(auto)]
 
 ghost use Rattle.std.specs.Prelude.{◌≡◌, ◌+◌};
@@ -49,13 +50,14 @@ pub fn child(nodes: &[Node], node: usize, key: u16) -> Option<usize>
     let n = nodes[node];
     let first = n.first_child();
     let end = n.end_of_children();
-    let i = nodes[first..end]
+    nodes[first..end]
         .binary_search_by_key(&key, |n| n.element)
-        .ok()?;
-    Some(first + i)
+        .ok()
+        .map(|i| first + i)
 }
 
 // The placeholder child of a node, if there is one: it is the last child.
+#[tactic(auto, using(crate::proofs::Looks::no_children, crate::proofs::Looks::last_found, crate::proofs::Looks::last_other))]
 pub fn placeholder_child(nodes: &[Node], node: usize) -> Option<usize>
     requires { InRun nodes.now node }
     ensures { ChildFor nodes.now node placeholder_key result }

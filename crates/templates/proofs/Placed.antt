@@ -16,8 +16,11 @@ module _ {p : ℕ} {text : Bytes} {t : Table} {n : ℕ} (h : Entries text t n ×
   order_within = let e = templates_in_length text t n in omega (arith, h.1.within i (omega arith))
 
   -- the table has the template, and it lies in the text
-  pub placed_inside : (k < 128) × (start_in t k + len_in t k ≤ length text)
-  placed_inside = (omega (arith, h.0.few, order_within), h.0.inside k order_within)
+  pub placed_few : k < 128
+  placed_few = omega (arith, h.0.few, order_within)
+
+  pub placed_inside : start_in t k + len_in t k ≤ length text
+  placed_inside = h.0.inside k order_within
 
   pub placed_is : template_in text t k ≡ placed (templates_in text t n) (order_in t) i
   placed_is = sym (templates_in_at text t n k order_within) ∙ ap (λ (j : ℕ). get_or (templates_in text t n) j []) q

@@ -14,6 +14,7 @@ use macros::Table;
 use model::{END_KEY, PLACEHOLDER_KEY};
 
 // How many elements two templates have in common at their beginnings; the end counts as one.
+#[tactic(auto, using(crate::proofs::Matching::match_differ, crate::proofs::Matching::match_more, crate::proofs::Matching::match_all, crate::proofs::Matching::match_one))]
 fn match_both(s: &[u8], t: &[u8]) -> usize
     ensures { result ≡ common s.now t.now }
 {
@@ -31,6 +32,7 @@ fn match_both(s: &[u8], t: &[u8]) -> usize
 }
 
 // The key at place x of a template.
+#[tactic(auto, using(crate::proofs::Keys::key_hole, crate::proofs::Keys::key_byte, crate::proofs::Keys::key_end))]
 fn key_at(mark: u8, template: &[u8], x: usize) -> u16
     ensures { Key mark template.now x result }
 {
@@ -42,6 +44,7 @@ fn key_at(mark: u8, template: &[u8], x: usize) -> u16
 }
 
 // Whether the template s has the lesser key at place x.
+#[tactic(auto, using(crate::proofs::Comparing::compared))]
 fn stands_before(mark: u8, s: &[u8], t: &[u8], x: usize) -> bool
     ensures { Compared mark s.now t.now x result }
 {
@@ -79,6 +82,7 @@ impl<'a> Ordered<'a> {
     ghost use Rattle.templates.specs.Listed.{templates_of, order_of};
 
     // The template at a place of the order.
+    #[tactic(auto, using(crate::proofs::Placed::placed_few, crate::proofs::Placed::placed_inside, crate::proofs::Placed::placed_is))]
     fn template_at(&self, place: usize) -> &'a [u8]
         requires { place < self.now.n }
         ensures { result.now ≡ placed (templates_of self.now) (order_of self.now) place }
@@ -88,6 +92,7 @@ impl<'a> Ordered<'a> {
 
     // Where a template goes, or nothing where it is one of them. Of all of these, its neighbours there have the most in common with it: the
     // places are halved by hand, since no search of the library says how much that is.
+    #[tactic(auto, using(crate::proofs::Finding::seek_all, macros::proofs::Entries::templates_in_length))]
     pub fn find_place(&self, template: &[u8]) -> Option<Found>
         ensures { FindsPlace self.now.mark (templates_of self.now) (order_of self.now) template.now result }
     {

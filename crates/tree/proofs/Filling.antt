@@ -12,7 +12,7 @@ use Rattle.templates.specs.Count.{known, beginnings}
 use Rattle.templates.specs.Keys.{Smalls, keys}
 use Rattle.templates.specs.Order.{InOrder, TakesRun}
 use Rattle.tree.specs.Nodes.{columns, Half, Waiting, Made, Filled, with_kids, below, root_node}
-use Rattle.tree.specs.Built.{ReadyToBuild}
+use Rattle.tree.specs.Built.{ReadyToBuild, NodesMade}
 use Rattle.templates.proofs.Keys.{key_past, holes_most}
 use Rattle.templates.proofs.Order.{keys_ascend}
 use Rattle.tree.proofs.Known.{templates-known}
@@ -192,22 +192,28 @@ module _ (p : ℕ) (ts : List Bytes) (order : ℕ → ℕ) where
       (relinked f len (length ts) rows i c F m u) (λ j v w. let e = unlinked rows i F m j (λ z. omega arith) in (ap (λ (x : Node). x.first) e, ap (λ (x : Node). x.count) e))
 
   -- an end has no children
-  pub link_end : {rows rows' : List Node} {i made : ℕ} → Made p ts order rows i made → i < made → i < length rows → elem rows i ≡ 256
-      → rows' ≡ set rows i (with_kids (get_or rows i no_node) made (made - made)) → Made p ts order rows' (i + 1) made
-  link_end {rows} {rows'} {i} {made} h u w e q = rw q (record {
-    bytes = h.bytes;
-    half = linked f len (length ts) ended rows i made made 0 h.half u u w (λ z. refl) (λ z. absurd (z e));
-    waiting = wait_on rows i made made (made - made) w (after f len (length ts) (columns rows) order i made h.waiting);
-  })
+  pub link_end : {rows rows' : List Node} {i made : ℕ} → NodesMade p ts order rows i made → i < made → i < length rows → elem rows i ≡ 256
+      → rows' ≡ set rows i (with_kids (get_or rows i no_node) made (made - made)) → NodesMade p ts order rows' (i + 1) made
+  link_end {rows} {rows'} {i} {made} r u w e q = let h = r.made in record {
+    within = r.within;
+    made = rw q (record {
+      bytes = h.bytes;
+      half = linked f len (length ts) ended rows i made made 0 h.half u u w (λ z. refl) (λ z. absurd (z e));
+      waiting = wait_on rows i made made (made - made) w (after f len (length ts) (columns rows) order i made h.waiting);
+    });
+  }
 
   -- any other node has those that were made for it
   pub link_full : {rows rows' : List Node} {i made c : ℕ} → Filled p ts order rows i c made → i < made → i < length rows
-      → rows' ≡ set rows i (with_kids (get_or rows i no_node) made (c - made)) → Made p ts order rows' (i + 1) c
-  link_full {rows} {rows'} {i} {made} {c} h u w q = rw q (record {
-    bytes = h.bytes;
-    half = linked f len (length ts) ended rows i c made 258 h.half u (omega (arith, h.more)) w (λ z. absurd (h.open_node z)) (λ z. refl);
-    waiting = wait_on rows i c made (c - made) w h.waiting;
-  })
+      → rows' ≡ set rows i (with_kids (get_or rows i no_node) made (c - made)) → NodesMade p ts order rows' (i + 1) c
+  link_full {rows} {rows'} {i} {made} {c} h u w q = record {
+    within = h.within;
+    made = rw q (record {
+      bytes = h.bytes;
+      half = linked f len (length ts) ended rows i c made 258 h.half u (omega (arith, h.more)) w (λ z. absurd (h.open_node z)) (λ z. refl);
+      waiting = wait_on rows i c made (c - made) w h.waiting;
+    });
+  }
 
   -- the root alone, with all templates
   pub root_alone : Smalls ts → (rows : List Node) (n : ℕ) {rows' : List Node} {x : Node} → ReadyToBuild p ts rows → length ts ≡ n → x ≡ root_node n → rows' ≡ set rows 0 x

@@ -1,14 +1,9 @@
 -- find_place halves the places where the template can go until one is left: the template at the middle place is the same, or it goes before
 -- that one, or behind it.
-use mathlib.Core.Path.{sym}
 use borrow.Author.Rules.{rules}
 use native.Mathlib.Omega.{arith}
-use Rattle.macros.proofs.Entries.{templates_in_length}
-use Rattle.templates.proofs.Finding.{seek_all, seek_same, seek_low, seek_high, sought}
+use Rattle.templates.proofs.Finding.{seek_same, seek_low, seek_high, sought}
 use Rattle.templates.proofs.Ordered.find_place.Goals as goal
-
-pub loop-low-init : goal.loop-low-init
-loop-low-init c = seek_all c.args.self.now.in_order.1 (sym (templates_in_length _ _ _))
 
 pub returns-then-template-both : goal.returns-then-template-both
 returns-then-template-both c = search (seek_same c.args.self.now.in_order.1 c.loop-low.invariant, rules)
