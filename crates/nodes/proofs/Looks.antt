@@ -89,10 +89,6 @@ module _ {rows : List Node} {node : ℕ} (run : InRun rows node) where
     last_child : Child rows node last
     last_child = (omega (arith, z, l), omega (arith, z, l))
 
-    -- which stands in the row
-    pub last_there : last < length rows
-    last_there = omega (arith, last_child.1, run.in_row)
-
     -- if it is a placeholder's, it is the child
     pub last_found : elem rows last ≡ placeholder_key → ChildFor rows node placeholder_key (Some last)
     last_found e = one_found placeholder_key run last last_child e

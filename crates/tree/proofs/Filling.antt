@@ -18,7 +18,7 @@ use Rattle.templates.proofs.Order.{keys_ascend}
 use Rattle.tree.proofs.Known.{templates-known}
 use Rattle.tree.proofs.Nodes.{Next, stem, seal}
 use Rattle.tree.proofs.Room.{room}
-use Rattle.tree.proofs.Standing.{Ordered, Cut, cut_first, after, waiting_carry, no_next, next, cut_on, waiting_more}
+use Rattle.tree.proofs.Standing.{Ordered, Cut, after, waiting_carry, no_next, next, cut_on, waiting_more}
 use Rattle.tree.proofs.Growth.{stored, relinked, unlinked, grow, has-height, linked, planted}
 
 -- ---- the children of a node
@@ -51,27 +51,6 @@ module _ (p : ℕ) (ts : List Bytes) (order : ℕ → ℕ) where
   -- what their order gives
   ordered : InOrder p ts order → Ordered f (length ts) order
   ordered o = record { within = o.within; every = o.every; ascending = keys_ascend o }
-
-  -- a node is at most as high as the root
-  pub not_high : {rows : List Node} {i c : ℕ} {x : Node} → Made p ts order rows i c → i < c → x ≡ get_or rows i no_node → x.height ≤ 201
-  not_high {rows} {i} {c} m u e = rw e (stem f len (length ts) (columns rows) i c c 0 m.half i u).high
-
-  -- no child is made yet
-  pub started : {rows : List Node} {i made place : ℕ} {x : Node} → Made p ts order rows i made → i < made → made ≤ suc (beginnings ts) → ¬ (elem rows i ≡ 256)
-      → x ≡ get_or rows i no_node → place ≡ x.first → Filling p ts order rows i made x made place
-  started {rows} {i} {made} m u w ne e q = record {
-    low = 0;
-    bytes = m.bytes;
-    half = m.half;
-    waiting = m.waiting;
-    cut = rw q (cut_first f order _ _ _);
-    node = e;
-    open_node = ne;
-    parent = u;
-    more = omega arith;
-    within = w;
-    most = omega arith;
-  }
 
   module _ {rows : List Node} {i made c place end : ℕ} {x : Node} (fl : Filling p ts order rows i made x c place) (last : end ≡ x.first + x.count) where
     uc : i < c
@@ -180,10 +159,6 @@ module _ (p : ℕ) (ts : List Bytes) (order : ℕ → ℕ) where
                 subst (λ (r : List Node). Filling p ts order r i made x (c + 1) stop) (sym q) grown_at
 
   -- ---- around the loop
-
-  -- every node has its children
-  pub all_made : {rows : List Node} {i c : ℕ} → Made p ts order rows i c → c ≤ i → Made p ts order rows c c
-  all_made {rows} {i} {c} h u = subst (λ (j : ℕ). Made p ts order rows j c) (omega (arith, h.half.begun)) h
 
   -- the nodes after one that was given its children wait as they did
   wait_on : (rows : List Node) (i c F m : ℕ) → i < length rows → Waiting f len (length ts) (columns rows) order (i + 1) c

@@ -22,10 +22,6 @@ pub record Cut (f : ℕ → ℕ → ℕ) (order : ℕ → ℕ) (first end d plac
   pub below : (q : ℕ) → first ≤ q → q < place → f (order q) d < low
   pub above : (q : ℕ) → place ≤ q → q < end → low ≤ f (order q) d
 
--- a run is cut where it begins
-pub cut_first : (f : ℕ → ℕ → ℕ) (order : ℕ → ℕ) (first end d : ℕ) → Cut f order first end d first 0
-cut_first f order first end d = record { from = omega arith; below = λ q u v. absurd (omega arith); above = λ q u v. omega arith }
-
 module _ (f : ℕ → ℕ → ℕ) (len : ℕ → ℕ) (n : ℕ) where
   -- the nodes after i wait
   pub after : (N : Columns) (order : ℕ → ℕ) (i c : ℕ) → Waiting f len n N order i c → Waiting f len n N order (i + 1) c
