@@ -15,11 +15,11 @@ use Rattle.usage.specs.Counts.{tally_of, Counts}
 -- ---- one more at a place
 
 -- it is stored there
-pub more-stored : (i : ℕ) (ns : List ℕ) → set ns i (get_or ns i 0 + 1) ≡ one_more_of i ns
+pub more_stored : (i : ℕ) (ns : List ℕ) → set ns i (get_or ns i 0 + 1) ≡ one_more_of i ns
 unfolding one_more_of
-more-stored i [] = refl
-more-stored zero (n ∷ ns) = ap (λ (x : ℕ). x ∷ ns) (add-one n)
-more-stored (suc i) (n ∷ ns) = ap (λ (l : List ℕ). n ∷ l) (more-stored i ns)
+more_stored i [] = refl
+more_stored zero (n ∷ ns) = ap (λ (x : ℕ). x ∷ ns) (add-one n)
+more_stored (suc i) (n ∷ ns) = ap (λ (l : List ℕ). n ∷ l) (more_stored i ns)
 
 -- no count has two more
 more_most : (i : ℕ) (ns : List ℕ) (j : ℕ) → get_or (one_more_of i ns) j 0 ≤ get_or ns j 0 + 1

@@ -51,8 +51,8 @@ module _ (line count : ℕ) where
         pub row_count : RoomFor o₂ j (decimal b)
         row_count = room_3 (decimal a) (44 ∷ []) (decimal b) (10 ∷ []) (row_parts f) p q
 
-        pub row-end : {k : ℕ} {o₃ : Bytes} → Prints o₂ j (decimal b) k o₃ → RoomFor o₃ k (10 ∷ [])
-        row-end r = room_4 (decimal a) (44 ∷ []) (decimal b) (10 ∷ []) (row_parts f) p q r
+        pub row_end : {k : ℕ} {o₃ : Bytes} → Prints o₂ j (decimal b) k o₃ → RoomFor o₃ k (10 ∷ [])
+        row_end r = room_4 (decimal a) (44 ∷ []) (decimal b) (10 ∷ []) (row_parts f) p q r
 
   -- what they make
   pub row_prints : {o : Bytes} {w a b i j k l : ℕ} {o₁ o₂ o₃ o₄ : Bytes} → a ≡ line → b ≡ count

@@ -16,6 +16,7 @@ use rendering::{add_bytes, add_decimal};
 pub const COUNTS_SIZE: usize = 129;
 
 // A line more is counted at a place.
+#[tactic(auto, using(crate::proofs::Counts::more_stored))]
 pub fn count_line(counts: &mut [usize], place: usize)
     requires { (place < length counts.old) × (get_or counts.old place 0 < fuel_most) }
     ensures { counts.new ≡ one_more_of place counts.old }
@@ -24,10 +25,12 @@ pub fn count_line(counts: &mut [usize], place: usize)
 }
 
 // A row of the report: a line's number, a comma, a count, and byte 10.
+#[tactic(auto, using(crate::proofs::Report::row_comma, crate::proofs::Report::row_count, crate::proofs::Report::row_end))]
 fn add_row(report: &mut [u8], at: usize, line: usize, count: usize) -> usize
     requires { RoomFor report.old at (row_bytes (line, count)) }
     ensures { Prints report.old at (row_bytes (line, count)) result report.new }
 {
+    // `as`: `From` makes no `u64` of a `usize`
     let comma = add_decimal(report, at, line as u64);
     let digits = add_bytes(report, comma, b",");
     let end = add_decimal(report, digits, count as u64);
