@@ -3,24 +3,13 @@ use mathlib.Core.Path.{◌≡◌, sym, ap, ◌∙◌, subst}
 use mathlib.Core.Option.{none, some}
 use mathlib.Core.List.{List}
 use Prim.Native.Nat.{ℕ}
-use lib.ListN.{take, drop}
-use lib.Seq.{take_at}
 use Rattle.model.specs.Store.{Store, find}
-use Rattle.store.specs.Memory.{held, packed, Kept, Holds}
+use Rattle.store.specs.Memory.{Kept, Holds}
 use Rattle.store.specs.Seek.{Found, found_text, SeeksName}
 use Rattle.store.specs.Put.{Stored, Puts}
 use Rattle.store.specs.declared.Index.{Index}
 use Rattle.std.specs.Prelude.{Some, None, Ok, Err}
 use Rattle.store.specs.declared.Full.{Full}
-use Rattle.store.proofs.Packed.{filled}
-use Rattle.store.proofs.Holding.{holds_by}
-
--- the index fits memory: it holds what is read there
-pub kept_holds : {m : List ℕ} {x : Index} → Kept m x → Holds m x (held x.count m)
-kept_holds {m} {x} k =
-    let es : Store = held x.count m in
-    let g = filled k in
-    holds_by es m x (ap (λ (l : List ℕ). take x.used l) g.is ∙ take_at (packed es) (drop x.used m) x.used g.long) k.long g.count g.long k.few k.small
 
 -- ---- seek
 

@@ -48,12 +48,6 @@ names_fit k h = let r = each_room k in omega arith
 
 -- ---- the end of the names
 
-pub closes_alone : {a : ℕ} {out : List ℕ} → a ≡ 0 → ClosesNames a out 1 (set out 0 10)
-closes_alone e = record { alone = λ _. (refl, refl); last = λ h. absurd (omega arith) }
-
-pub closes_last : {a : ℕ} {out : List ℕ} → (a ≡ 0 → ⊥) → ClosesNames a out a (set out (a - 1) 10)
-closes_last e = record { alone = λ h. absurd (e h); last = λ _. (refl, refl) }
-
 closed : (es : Store) {o : List ℕ} {a : ℕ} {out : List ℕ} {r : ℕ} {out' : List ℕ} → 0 < length o → Written o (take 0 o ++ each Name 0 es) a out
     → ClosesNames a out r out' → Written o (names es ++ (10 ∷ [])) r out'
 unfolding each names

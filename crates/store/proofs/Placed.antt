@@ -6,7 +6,7 @@ use mathlib.Core.List.{List, [], ◌∷◌, ◌++◌, append_assoc}
 use Prim.Native.Nat.{ℕ, suc, ◌+◌, ◌≤◌}
 use native.Mathlib.Omega.{arith}
 use lib.ListN.{length, get_or, drop, length-append}
-use lib.Seq.{drop-append_seam, drop-append-add, get_or-append-add, get_or_at}
+use lib.Seq.{drop-append_seam, drop-append-add, get_or-append-add}
 use Rattle.model.specs.Text.{same}
 use Rattle.model.specs.Store.{Store, find, put}
 use Rattle.model.proofs.Choices.{when_true, when_false}
@@ -143,11 +143,6 @@ entry {m} {x} {name} {p} k e =
 
 -- what is read there
 module _ {m : List ℕ} {x : Index} {name : List ℕ} {p : ℕ} (e : Entry m x name p) where
-  pub entry_name : get_or m p 0 ≡ length name
-  entry_name =
-      ap (λ (l : List ℕ). get_or l p 0) e.is
-      ∙ get_or_at e.before (length name) (length e.text ∷ (name ++ (e.text ++ (e.after ++ drop x.used m)))) 0 p e.place
-
   pub entry_text : get_or m (p + 1) 0 ≡ length e.text
   entry_text =
       let s : List ℕ = length name ∷ length e.text ∷ (name ++ (e.text ++ (e.after ++ drop x.used m))) in

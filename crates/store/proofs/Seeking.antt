@@ -1,5 +1,5 @@
 -- The search for a name.
-use mathlib.Core.Path.{◌≡◌, sym, ap, ap₂, ◌∙◌}
+use mathlib.Core.Path.{◌≡◌, sym, ap, ◌∙◌}
 use mathlib.Core.Bool.{Bool, true, false}
 use mathlib.Core.Option.{some}
 use mathlib.Core.List.{List, []}
@@ -9,7 +9,7 @@ use Rattle.model.specs.Text.{same}
 use Rattle.model.specs.Store.{Store, find}
 use Rattle.model.proofs.Choices.{when_true, when_false}
 use Rattle.store.specs.Memory.{held}
-use Rattle.store.specs.Seek.{entries_left, FirstEntry, BeginsEntries, place_in, FindsEntry}
+use Rattle.store.specs.Seek.{entries_left, FirstEntry, place_in, FindsEntry}
 use Rattle.store.specs.declared.Index.{Index}
 use Rattle.store.specs.declared.Entry.{Entry}
 use Rattle.store.specs.declared.Entries.{Entries}
@@ -18,9 +18,6 @@ use Rattle.store.specs.declared.Entries.{Entries}
 pub record Seeking (m : List ℕ) (x : Index) (name : List ℕ) (s : Entries) : Type 0 where
   pub place : place_in name s.at (entries_left s) ≡ place_in name 0 (held x.count m)
   pub text : find name (entries_left s) ≡ find name (held x.count m)
-
-pub seek_begins : {m : List ℕ} {x : Index} {name : List ℕ} {s : Entries} → BeginsEntries m x s → Seeking m x name s
-seek_begins {name = name} b = record { place = ap₂ (λ (i : ℕ) (es : Store). place_in name i es) b.begins b.is; text = ap (λ (es : Store). find name es) b.is }
 
 module _ {m : List ℕ} {x : Index} {name : List ℕ} {s : Entries} (g : Seeking m x name s) where
   pub seek_nowhere : entries_left s ≡ [] → FindsEntry m x name None

@@ -7,9 +7,8 @@ use lib.ListN.{length, get_or, take, drop}
 use lib.Seq.{drop-cons, drop-drop}
 use Rattle.model.specs.Text.{part}
 use Rattle.model.proofs.Text.{part_length}
-use Rattle.store.specs.Memory.{held, extent, Kept}
-use Rattle.store.specs.Seek.{EntryAt, entries_left, entries_end, IsWithin, FirstEntry, BeginsEntries}
-use Rattle.store.specs.declared.Index.{Index}
+use Rattle.store.specs.Memory.{held, extent}
+use Rattle.store.specs.Seek.{EntryAt, entries_left, IsWithin, FirstEntry}
 use Rattle.store.specs.declared.Entry.{Entry}
 use Rattle.store.specs.declared.Entries.{Entries}
 
@@ -94,10 +93,3 @@ nothing_left s e = ap (λ (i : ℕ). held i (drop s.at s.memory.now)) e
 -- it may be called again, and fewer are left
 pub still_within : {s : Entries} {e : Entry} {t : Entries} → IsWithin s → FirstEntry s e t → IsWithin t
 still_within {s} {e} {t} w f = rw (f.end, f.memory) w
-
-pub all_begin : {m : List ℕ} {x : Index} {s : Entries} → Kept m x → s.memory.now ≡ m → s.at ≡ 0 → s.left ≡ x.count → BeginsEntries m x s
-all_begin {m} {x} {s} k em ea el =
-    let h : entries_left s ≡ held x.count m = (λ i. held (el i) (drop (ea i) (em i))) in
-    let e : entries_end s ≡ 0 + extent x.count m = (λ i. ea i + extent (el i) (drop (ea i) (em i))) in
-    let n = ap (λ (l : List ℕ). length l) em in
-    record { is = h; within = omega (arith, e, k.whole, k.long, k.few, k.small, n); begins = ea; end = omega (arith, e, k.whole) }

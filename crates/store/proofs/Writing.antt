@@ -91,3 +91,6 @@ pub write_done : {m : List ℕ} {x : Index} {p : Part} {b : ℕ} {o : List ℕ} 
 unfolding each
 write_done {p = p} {b} {o} {w = w} {out} g h =
     record { is = subst (λ (f : List ℕ). Written o f w out) (sym (append-nil g.front) ∙ sym (ap (λ (es : Store). g.front ++ each p b es) h) ∙ g.comes) g.wrote }
+
+-- what the goals of write_each go by
+pub ruleset writing_each = (write_begins, write-on)

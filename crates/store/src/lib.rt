@@ -49,6 +49,7 @@ struct Entry<'a> {
 
 // The entry that begins at offset at.
 // An offset stays beside the memory, here and below: where an entry ends the next begins, and the clauses speak of the whole memory.
+#[tactic(auto, using(crate::proofs::Walk::entry_at))]
 fn read_entry(memory: &[u8], at: usize) -> Entry<'_>
     requires { at + 2 + get_or memory.now at 0 + get_or memory.now (at + 1) 0 ≤ length memory.now }
     ensures { EntryAt memory.now at result }
@@ -80,6 +81,7 @@ impl<'a> Iterator for Entries<'a> {
 
     ghost remaining = { λ s. at_most s.left };
 
+    #[tactic(auto, using(crate::proofs::Walk::ahead, crate::proofs::Walk::nothing_left))]
     fn next(&mut self) -> Option<Entry<'a>> {
         if self.left == 0 {
             return None;
@@ -100,6 +102,7 @@ enum Part {
 
 // Nothing is stored yet.
 // Kept stays a clause, here and below: the value of a Store is the list of its names, and these functions speak of its bytes.
+#[tactic(auto, using(crate::proofs::Holding::nothing_yet))]
 fn empty(memory: &[u8]) -> Index
     requires { length memory.now ≡ store_least }
     ensures { Holds memory.now result [] }
@@ -122,6 +125,7 @@ impl<'a> Entries<'a> {
 }
 
 // The entry of a name, if it is stored.
+#[tactic(auto, using(crate::proofs::Seeking::seek_here, crate::proofs::Seeking::seek_nowhere))]
 fn find_entry<'a>(memory: &'a [u8], index: Index, name: &[u8]) -> Option<Entry<'a>>
     requires { Kept memory.now index }
     ensures { FindsEntry memory.now index name.now result }
@@ -235,6 +239,7 @@ fn write_marked(src: &[u8], mark: u8, room: &mut [u8], at: usize) -> usize
 }
 
 // A part of each entry, and a mark after it, to room from offset start; the answer is where they end.
+#[tactic(auto, using(crate::proofs::Writing::writing_each))]
 fn write_each(
     memory: &[u8],
     index: Index,
@@ -269,6 +274,7 @@ fn close_names(room: &mut [u8], end: usize) -> usize
 
 // The listing, to the front of room: the names with a byte 0 between two, a byte 10, and each text with a byte 10 after it.
 // The answer is its length.
+#[tactic(auto, using(crate::proofs::Listed::names_fit, crate::proofs::Listed::texts_fit))]
 fn listing(memory: &[u8], index: Index, room: &mut [u8]) -> usize
     requires kept { Kept memory.now index }
     requires store_least_in_bounds { store_least ≤ length room.old }

@@ -36,6 +36,7 @@ impl Store {
     }
 
     // How many names are stored.
+    #[tactic(auto, using(crate::proofs::Answering::length_names))]
     pub fn len(&self) -> usize
         ensures { result ≡ length self.now }
     {
@@ -43,6 +44,7 @@ impl Store {
     }
 
     // The text that is stored under a name.
+    #[tactic(auto, using(crate::proofs::Answering::gets_text))]
     pub fn get(&self, name: &[u8]) -> Option<&[u8]>
         ensures { GetsText self.now name.now (option_copied result) }
     {

@@ -1,12 +1,6 @@
 -- find_entry walks the entries up to the first with the name.
-use Rattle.store.proofs.Seeking.{seek_here, seek_on, seek_nowhere}
+use Rattle.store.proofs.Seeking.{seek_on}
 use Rattle.store.proofs.find_entry.Goals as goal
-
-pub returns-then-same_bytes : goal.returns-then-same_bytes
-returns-then-same_bytes c = seek_here c.loop-entry.invariant.2 c.in-Some.ensures.steps c.same_bytes.ensures c.if-same_bytes.true
 
 pub loop-entry-preserved : goal.loop-entry-preserved
 loop-entry-preserved c = (c.in-Some.ensures.goes.keeps, tt, seek_on c.loop-entry.invariant.2 c.in-Some.ensures.steps c.same_bytes.ensures c.if-same_bytes.false)
-
-pub returns : goal.returns
-returns c = seek_nowhere c.loop-entry.invariant.2 c.in-None.ensures.steps
