@@ -6,6 +6,7 @@ ghost use Rattle.std.specs.Prelude.{◌≡◌, ◌<◌, ◌^◌};
 ghost use Rattle.atom.specs.Atoms.{brackets, depth_past, AtomAt};
 
 // How many brackets are open past the byte b, where `depth` were.
+#[tactic(auto, unfolding(crate::specs::Atoms::depth_past))]
 fn depth_past(left: u8, right: u8, b: u8, depth: usize) -> usize
     requires { (0 < depth) × (depth < 2 ^ 63) }
     ensures { result ≡ depth_past (brackets left right) b depth }
@@ -28,6 +29,7 @@ pub struct Scanned {
 
 // The line's first atom from `at` on. The depth is carried along from byte to byte, so no byte is read twice.
 // `at` stays beside the line: fit goes on from places of one line, and numbers what it took up by them.
+#[tactic(auto, using(crate::proofs::Atoms::scan_start, crate::proofs::Atoms::scan_end))]
 pub fn scan_atom(line: &[u8], at: usize, left: u8, right: u8) -> Scanned
     ensures { AtomAt (brackets left right) line.now at result }
 {

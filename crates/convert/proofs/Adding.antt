@@ -110,9 +110,9 @@ module _ {t : Bytes} {x : Text} {q : Result Counted Malformed} (g : CountsCharac
   unfolding add_length
   length_malformed e f = record { adds = lengthens_not BadCharacter (λ w. ap (λ (o : Math.Option (List ℕ)). add_length (text_of x) o w) (counted_none g e)) f }
 
-  pub length-added : {c : Counted} {y : Text} {r : Result Unit RunFault} → q ≡ Ok c → Appends x (decimal c.count) r y → AddsLength t x r y
+  pub length_added : {c : Counted} {y : Text} {r : Result Unit RunFault} → q ≡ Ok c → Appends x (decimal c.count) r y → AddsLength t x r y
   unfolding add_length
-  length-added e p =
+  length_added e p =
       let f = counted-some g e in
       record { adds = lengthens_by (λ w. ap (λ (o : Math.Option (List ℕ)). add_length (text_of x) o w) f.are) (appends_as (ap decimal f.count) p) }
 

@@ -67,3 +67,6 @@ module _ {m : Marks} {c : Conversion} {t : Bytes} {e : Option ℕ} {x y : Text} 
   pub converts_symbol : {s' : State} → c ≡ Symbol → AddsSymbol t x s r y s' → Converts m c t e x s r y s'
   unfolding add_converted
   converts_symbol q a = converts_case q (λ f d u v. adds_as (λ o. ap (λ (b : Bytes). add_symbol (text_of x) b (find b s.store) (shared_of s o)) u) a.adds)
+
+-- what the goals of add_converted go by
+pub ruleset converting = (converts_symbol, converts_delimiter, converts_length, converts_point)

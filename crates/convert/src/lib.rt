@@ -42,6 +42,7 @@ enum Word {
 }
 
 // The text that is brought in, which lies in the parameter or in the store.
+#[tactic(auto, using(crate::proofs::Symbols::stored_none))]
 fn bring<'a>(word: Word, param: &'a [u8], store: &'a Store) -> &'a [u8]
     ensures { result.now ≡ word_of word param.now store.now }
 {
@@ -83,6 +84,7 @@ fn add_new_symbol(name: &[u8], line: &mut Text, s: &mut State) -> Result<(), Run
 }
 
 // ed2: the text that is stored under the name, or its new number.
+#[tactic(auto, using(crate::proofs::Symbols::symbol_there))]
 fn add_symbol(name: &[u8], line: &mut Text, s: &mut State) -> Result<(), RunFault>
     requires symbols { s.old.symbols ≤ length s.old.store }
     requires name_len_bound { length name.now < 256 }
@@ -95,6 +97,7 @@ fn add_symbol(name: &[u8], line: &mut Text, s: &mut State) -> Result<(), RunFaul
 }
 
 // ed3: the latest delimiter, if there is one.
+#[tactic(auto, using(crate::proofs::Appending::appends_delimiter, crate::proofs::Appending::appends_none))]
 fn add_delimiter(delimiter: Option<u8>, line: &mut Text) -> Result<(), RunFault>
     ensures { Appends line.old (delimiter_bytes delimiter) result line.new }
 {
@@ -122,6 +125,7 @@ fn add_value(m: Marks, param: &[u8], store: &Store, line: &mut Text) -> Result<(
 }
 
 // ed5: the number of characters, or 21.
+#[tactic(auto, using(crate::proofs::Adding::length_added))]
 fn add_length(param: &[u8], line: &mut Text) -> Result<(), RunFault>
     ensures { AddsLength param.now line.old result line.new }
 {
@@ -141,6 +145,7 @@ fn add_code_point(param: &[u8], line: &mut Text) -> Result<(), RunFault>
 }
 
 // A conversion of a parameter with its latest delimiter.
+#[tactic(auto, using(crate::proofs::Converting::converting))]
 pub fn add_converted(
     m: Marks,
     c: Conversion,

@@ -14,7 +14,7 @@ use Rattle.model.specs.Load.{no_macro, templates, body_at}
 use Rattle.model.proofs.Loading.{templates_snoc}
 use Rattle.macros.specs.declared.Entry.{Entry}
 use Rattle.macros.specs.declared.Table.{Table}
-use Rattle.macros.specs.Table.{no_entry, entry_in, start_in, len_in, line_in, body_in, order_in, StoresMacro, template_in, templates_in, macro_in, macros_in, Entries, EntriesInside}
+use Rattle.macros.specs.Table.{no_entry, entry_in, start_in, len_in, line_in, body_in, order_in, StoresMacro, template_in, templates_in, macro_in, macros_in, EntriesInside}
 
 -- what holds below n and of n holds below n + 1
 pub one_more : (n : ℕ) (P : ℕ → Type 0) → ((k : ℕ) → k < n → P k) → P n → (k : ℕ) → k < n + 1 → P k
@@ -23,13 +23,6 @@ one_more n P h p k u = ⊎_elim (λ q. subst P (sym q) p) (λ q. h k q) (eq-or-l
 -- ---- the templates
 
 module _ (text : Bytes) (t : Table) where
-  -- a template that is read by its start and its length lies in the text, and is the table's
-  pub entry_inside : (n k s l : ℕ) → Entries text t n → k < n → s ≡ start_in t k → l ≡ len_in t k → s + l ≤ length text
-  entry_inside n k s l h u a b = rw (a, b) (h.inside k u)
-
-  pub entry_is : (k s l : ℕ) → s ≡ start_in t k → l ≡ len_in t k → part text s (s + l) ≡ template_in text t k
-  entry_is k s l a b = rw (a, b)
-
   pub templates_in_length : (n : ℕ) → length (templates_in text t n) ≡ n
   unfolding templates_in
   templates_in_length zero = refl

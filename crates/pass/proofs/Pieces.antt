@@ -31,7 +31,7 @@ use Rattle.character.specs.declared.Malformed.{Malformed}
 use Rattle.character.specs.Decoding.{Found, ReadsCharacter}
 use Rattle.character.proofs.Decoding.{one_bounds, one_is, malformed_bounds, malformed_is, nothing_bounds}
 use Rattle.pass.specs.declared.Taken.{Taken}
-use Rattle.pass.specs.Pass.{up_to, delimiter_bytes, piece_at, TakenIn, Takes, TakesCharacter}
+use Rattle.pass.specs.Pass.{up_to, delimiter_bytes, piece_at, Takes, TakesCharacter}
 
 -- ---- bytes in front of a piece
 
@@ -95,10 +95,6 @@ atom_ends {m} {line} {i} a e = subst (λ (x : Std.Option ℕ). IfSome x (EndsAto
 
 no_atom : {m : Marks} {line : Bytes} {i : ℕ} {r : Scanned} → AtomAt m line i r → r.end ≡ None → atom m (drop i line) ≡ none
 no_atom a e = a.nowhere (subst (λ (x : Std.Option ℕ). IsNone x) (sym e) refl)
-
--- a turn passes an atom
-pub taking_falls : {m : Marks} {line : Bytes} {i n : ℕ} {r : Scanned} → i < length line → AtomAt m line i r → r.end ≡ Some n → length line - n < length line - i
-taking_falls h a e = let far = (atom_ends a e).ahead in omega arith
 
 module _ {m : Marks} {line : Bytes} {at : ℕ} {list : Bytes} where
   pub taking_begins : at ≤ length line → 0 < length list → Taking m line at list at
@@ -233,12 +229,6 @@ module _ {m : Marks} {line : Bytes} {at : ℕ} {list : Bytes} {r : Result Taken 
   unfolding piece_at
   piece_taken e = k.is ∙ ap (piece_at line at) e
 
-  pub taken_in : {t : Taken} → r ≡ Ok t → TakenIn line at t
-  taken_in e = subst (λ (x : Result Taken RunFault). IfOk x (λ t. TakenIn line at t)) e k.bounds
-
   pub piece_lacking : {e : RunFault} → r ≡ Err e → pass_of m list (drop at line) ≡ none
   unfolding piece_at
   piece_lacking e = k.is ∙ ap (piece_at line at) e
-
-  pub lacking_fault : {e : RunFault} → r ≡ Err e → run_number e ≡ no_pass list
-  lacking_fault e = subst (λ (x : Result Taken RunFault). IfErr x (λ f. run_number f ≡ no_pass list)) e k.fault

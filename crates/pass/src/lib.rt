@@ -35,6 +35,7 @@ impl Taken {
 
 // With a list of delimiters, a pass takes the shortest row of atoms that stands before one of them or the end.
 // `at` stays beside the line: a call keeps the place where its next pass goes on, and answers are places of the same line.
+#[tactic(auto, using(crate::proofs::Pieces::taking_begins, crate::proofs::Pieces::taking_delimiter))]
 fn take_atoms(m: Marks, line: &[u8], at: usize, list: &[u8]) -> Result<Taken, RunFault>
     requires at_in_bounds { at ≤ length line.now }
     requires list_nonzero { 0 < length list.now }
@@ -61,6 +62,7 @@ fn take_atoms(m: Marks, line: &[u8], at: usize, list: &[u8]) -> Result<Taken, Ru
 
 // With no list, a pass takes one character, or nothing at the line's end.
 // As in take_atoms, `at` is the place that the call keeps.
+#[tactic(auto, using(crate::proofs::Pieces::takes_one, crate::proofs::Pieces::takes_nothing))]
 fn take_character(line: &[u8], at: usize) -> Result<Taken, RunFault>
     requires { at ≤ length line.now }
     ensures { TakesCharacter line.now at result }

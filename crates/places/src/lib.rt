@@ -6,6 +6,7 @@ ghost use Rattle.std.specs.Prelude.{◌≡◌, ◌*◌, ◌/◌, ◌≤◌, ◌<
 ghost use Rattle.places.specs.Bits.{bit, AddsBit, ClearsBits};
 
 // Whether the place with number x is dead.
+#[tactic(auto, using(crate::proofs::Bits::bit_read))]
 pub fn is_dead(row: &[u8], x: usize) -> bool
     requires { x / 8 < length row.now }
     ensures { result ≡ bit row.now x }
@@ -23,6 +24,7 @@ pub fn set_dead(row: &mut [u8], x: usize)
 
 // No place with a number below n is dead: the bytes of these places become 0, and no byte more.
 // n counts places and not bytes, so that no slice of the row says it.
+#[tactic(auto, using(crate::proofs::Bits::clear_front))]
 pub fn clear(row: &mut [u8], n: usize)
     requires { n ≤ 8 * length row.old }
     ensures { ClearsBits row.old row.new n }

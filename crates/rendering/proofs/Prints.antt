@@ -5,22 +5,15 @@ use Prim.Native.Nat.{ℕ, ◌+◌, ◌-◌, ◌≤◌}
 use native.Mathlib.Omega.{arith}
 use lib.ListN.{length, take, length-append}
 use Rattle.model.specs.Text.{Bytes, part}
-use Rattle.model.specs.Store.{decimal}
-use Rattle.buffer.specs.Pasted.{Pasted}
 use Rattle.buffer.specs.Written.{Written}
-use Rattle.buffer.specs.Decimal.{Decimal}
 use Rattle.buffer.proofs.Written.{written-length, written-take}
 use Rattle.rendering.specs.Added.{AddsAt}
 use Rattle.rendering.specs.Prints.{RoomFor, Prints}
-use Rattle.rendering.proofs.Added.{adds_as, adds_none, adds_copy, adds_more, adds_length, adds_fits}
+use Rattle.rendering.proofs.Added.{adds_as, adds_none, adds_more}
 
 -- nothing more
 pub prints_none : {o : Bytes} {w : ℕ} → w ≤ length o → Prints o w [] w o
 prints_none h = record { adds = adds_none h; ends = omega arith; long = refl; fits = h }
-
--- bytes that are copied
-pub prints_copy : {o : Bytes} {w : ℕ} {s o' : Bytes} → RoomFor o w s → Pasted o w s (length s) o' → Prints o w s (w + length s) o'
-prints_copy h g = let a = adds_copy g h.fits in record { adds = a; ends = refl; long = adds_length a; fits = adds_fits a }
 
 -- the same bytes by another name
 pub prints_as : {o : Bytes} {w : ℕ} {s t : Bytes} {r : ℕ} {o' : Bytes} → s ≡ t → Prints o w s r o' → Prints o w t r o'
@@ -88,13 +81,3 @@ module _ {o : Bytes} {w : ℕ} (a b c d : Bytes) (h : RoomFor o w (a ++ b ++ c +
 pub prints_4 : {o : Bytes} {w : ℕ} {a b c d : Bytes} {i j k l : ℕ} {o₁ o₂ o₃ o₄ : Bytes}
     → Prints o w a i o₁ → Prints o₁ i b j o₂ → Prints o₂ j c k o₃ → Prints o₃ k d l o₄ → Prints o w (a ++ b ++ c ++ d) l o₄
 prints_4 p q r s = prints_more (prints_more (prints_more p q) r) s
-
--- ---- numbers
-
--- the digits that stand apart are the number's
-module _ {o : Bytes} {w n k : ℕ} {digits : Bytes} (d : Decimal n k digits) where
-  pub decimal_room : RoomFor o w (decimal n) → RoomFor o w (part digits 0 k)
-  decimal_room h = room_as (sym d.is) h
-
-  pub decimal_prints : {r : ℕ} {o' : Bytes} → Prints o w (part digits 0 k) r o' → Prints o w (decimal n) r o'
-  decimal_prints p = prints_as d.is p

@@ -48,6 +48,7 @@ pub enum Argument {
 }
 
 // An argument by its bytes; an option begins with a minus.
+#[tactic(auto, using(crate::proofs::First::begins_first))]
 pub fn read_argument(argument: &[u8]) -> Argument
     ensures { result ≡ argument_of argument.now }
 {
@@ -68,6 +69,7 @@ pub fn read_argument(argument: &[u8]) -> Argument
 
 // Reads until buf is full or the input ends, and answers how many bytes were read. The loop stays: std's read_to_end takes a Vec, and the
 // programs have no heap.
+#[tactic(auto, using(crate::proofs::Read::consumes_more))]
 fn fill<R: Read>(from: &mut R, buf: &mut [u8]) -> io::Result<usize>
     ensures bound { IfOk result (λ n. n ≤ length buf.new) }
     ensures bytes { IfOk result (λ n. Consumes (R.remaining from.old) (R.remaining from.new) (take n buf.new)) }

@@ -2,7 +2,7 @@
 -- one at least, and the atom is these bytes with what closes the open brackets from i on, if anything does.
 use borrow.Author.Rules.{rules}
 use native.Mathlib.Omega.{arith}
-use Rattle.atom.proofs.Atoms.{none_past_end, none_at_right, one_byte, scan_start, scan_step, scan_end, scan_closed}
+use Rattle.atom.proofs.Atoms.{none_past_end, none_at_right, one_byte, scan_step, scan_closed}
 use Rattle.atom.proofs.scan_atom.Goals as goal
 
 pub returns-then-line-at : goal.returns-then-line-at
@@ -14,12 +14,6 @@ returns-then-b-right c = search (none_at_right, rules)
 pub returns-then-b-left : goal.returns-then-b-left
 returns-then-b-left c = search (one_byte, rules)
 
-pub loop-i-init : goal.loop-i-init
-loop-i-init c = (omega arith, search (scan_start, rules))
-
-pub depth_past-depth-requires : goal.depth_past-depth-requires
-depth_past-depth-requires c = omega (arith, c.loop-i.invariant.1.few)
-
 pub returns-then-depth-eq0 : goal.returns-then-depth-eq0
 returns-then-depth-eq0 c =
     let l = c.loop-i in
@@ -29,6 +23,3 @@ pub loop-i-preserved : goal.loop-i-preserved
 loop-i-preserved c =
     let l = c.loop-i in
     (omega (arith, c.if-depth-eq0.false), scan_step _ _ _ _ l.depth _ c.depth_past-depth.ensures (search rules) (omega (arith, l.invariant.0)) l.invariant.1)
-
-pub returns : goal.returns
-returns c = scan_end _ _ _ _ _ c.loop-i-test.false c.loop-i.invariant.0 c.loop-i.invariant.1

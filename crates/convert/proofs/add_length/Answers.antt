@@ -1,9 +1,6 @@
 -- add_length: the number of characters, in decimal.
-use Rattle.convert.proofs.Adding.{length_malformed, length-added}
+use Rattle.convert.proofs.Adding.{length_malformed}
 use Rattle.convert.proofs.add_length.Goals as goal
 
 pub returns-in_err-counted : goal.returns-in_err-counted
 returns-in_err-counted c = length_malformed c.count_characters.ensures c.in_err-counted.was c.from_residual.ensures.1
-
-pub returns : goal.returns
-returns c = length-added c.count_characters.ensures c.in_ok-counted.was c.add_number.ensures

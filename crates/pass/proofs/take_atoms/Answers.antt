@@ -2,14 +2,8 @@
 -- piece from i on. The measure is the length of the line less i.
 use borrow.Author.Rules.{rules}
 use Rattle.atom.proofs.Atoms.{atom-by-brackets}
-use Rattle.pass.proofs.Pieces.{taking_begins, taking_goes_on, taking_falls, taking_delimiter, taking_fails, taking_ends}
+use Rattle.pass.proofs.Pieces.{taking_goes_on, taking_fails, taking_ends}
 use Rattle.pass.proofs.take_atoms.Goals as goal
-
-pub loop-end-init : goal.loop-end-init
-loop-end-init c = search taking_begins
-
-pub returns-then-has_byte : goal.returns-then-has_byte
-returns-then-has_byte c = search (taking_delimiter, rules)
 
 pub returns-in_default : goal.returns-in_default
 returns-in_default c = search (taking_fails, atom-by-brackets, rules)
