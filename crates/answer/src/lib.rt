@@ -4,7 +4,7 @@
 ghost use Rattle.std.specs.Prelude.{◌≡◌, Ok};
 ghost use Rattle.answer.specs.Answers.{is_left};
 
-// What comes next where no fault ends the run.
+// What comes next where no fault ends the run. It is no Option or Result: each of the four is a way of its own.
 #[derive(Clone, Copy)]
 pub enum Turn {
     // The call goes on.

@@ -23,8 +23,8 @@ use state::State;
 use write::{Line, write};
 
 // What is done at the end of a code line, with the line that it built. The call's next code line is the one after it.
-// Sound relates the text, the state and both outputs, which are lent beside each other: no struct holds them all.
-// The outputs and the state stay three: a struct of two `&mut` asks each function that is lent it to say that both are still the caller's (tried).
+// Sound is of the text, the state and both outputs, which are lent beside each other, so that it is no struct's.
+// The outputs are no struct of two `&mut`: every function that is lent it would have to say that each is still the caller's reference (tried).
 fn finish_code(
     marked: &Marked,
     code: Span,
@@ -75,8 +75,8 @@ fn finish_code(
 
 // The next code line of a call: an event is counted, the call moves past the line, and it is carried out. With no code line left the call
 // is left; with no fuel left the run ends.
-// Sound relates the text, the state and both outputs, which are lent beside each other: no struct holds them all.
-// The outputs and the state stay three: a struct of two `&mut` asks each function that is lent it to say that both are still the caller's (tried).
+// Sound is of the text, the state and both outputs, which are lent beside each other, so that it is no struct's.
+// The outputs are no struct of two `&mut`: every function that is lent it would have to say that each is still the caller's reference (tried).
 pub fn step(
     marked: &Marked,
     call: &mut Call,

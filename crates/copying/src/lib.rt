@@ -33,7 +33,7 @@ fn is_too_long(ch: Channel, n: usize) -> bool
 }
 
 // A content goes to a channel, or the run ends with 11 or 13.
-// The outputs and the state stay three: a struct of two `&mut` asks each function that is lent it to say that both are still the caller's (tried).
+// The outputs are no struct of two `&mut`: every function that is lent it would have to say that each is still the caller's reference (tried).
 fn copy_content(
     ch: Channel,
     content: &[u8],
@@ -51,7 +51,7 @@ fn copy_content(
 }
 
 // The lines up to one that begins with the name, or up to the input's end.
-// The outputs and the state stay three: a struct of two `&mut` asks each function that is lent it to say that both are still the caller's (tried).
+// The outputs are no struct of two `&mut`: every function that is lent it would have to say that each is still the caller's reference (tried).
 fn copy_lines(
     marked: &Marked,
     ch: Channel,
@@ -78,7 +78,7 @@ fn copy_lines(
 }
 
 // F2 of a call. With an empty parameter 1 no line is read.
-// The outputs and the state stay three: a struct of two `&mut` asks each function that is lent it to say that both are still the caller's (tried).
+// The outputs are no struct of two `&mut`: every function that is lent it would have to say that each is still the caller's reference (tried).
 pub fn copy_input(
     marked: &Marked,
     ch: Channel,

@@ -17,7 +17,7 @@ use value::value;
 use write::{Layout, write};
 
 // F1 at the line's start: the next code line is a layout, written in place of the line.
-// The outputs and the state stay three: a struct of two `&mut` asks each function that is lent it to say that both are still the caller's (tried).
+// The outputs are no struct of two `&mut`: every function that is lent it would have to say that each is still the caller's reference (tried).
 pub fn write_layout_line(
     marked: &Marked,
     ch: Channel,

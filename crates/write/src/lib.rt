@@ -60,6 +60,7 @@ fn put<C: Content>(content: &C, left: &mut [u8]) -> Result<usize, RunFault>
 }
 
 // A content and a byte 10 after it go to a channel. Without room for them nothing changes, and the run ends with 13.
+// The outputs are no struct of two `&mut`: every function that is lent it would have to say that each is still the caller's reference (tried).
 pub fn write<C: Content>(
     ch: Channel,
     content: &C,
