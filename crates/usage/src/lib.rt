@@ -24,7 +24,7 @@ pub fn count_line(counts: &mut [usize], place: usize)
     counts[place] += 1;
 }
 
-// A row of the report: a line's number, a comma, a count, and byte 10.
+// A row of the report: a line's number, a comma, a count, and byte 10. It goes on at a place of the room, and the answer is where it ends.
 #[tactic(auto, using(crate::proofs::Report::row_comma, crate::proofs::Report::row_count, crate::proofs::Report::row_end))]
 fn add_row(report: &mut [u8], at: usize, line: usize, count: usize) -> usize
     requires { RoomFor report.old at (row_bytes (line, count)) }
