@@ -18,19 +18,22 @@ use Rattle.model.proofs.Input.{macro_line}
 use Rattle.nodes.specs.declared.Node.{Node}
 use Rattle.buffer.specs.Written.{Written}
 use Rattle.buffer.proofs.Written.{written-length}
-use Rattle.store.specs.Names.{ListsNames}
 use Rattle.state.specs.declared.State.{State}
 use Rattle.state.specs.State.{state_of, Sound}
-use Rattle.faults.specs.Numbers.{load_number}
+use Rattle.faults.specs.declared.Fault.{Fault}
+use Rattle.faults.specs.declared.Fault.TheVariants.{Load}
+use Rattle.faults.specs.Numbers.{fault_number}
 use Rattle.load.specs.declared.Loaded.{Loaded}
 use Rattle.load.specs.declared.Refused.{Refused}
 use Rattle.std.specs.Prelude as Prelude
 use Rattle.std.specs.Prelude.{Err}
+use Rattle.macros.specs.declared.Entry.{Entry}
 use Rattle.macros.specs.Table.{HasBodies}
 use Rattle.macros.proofs.Entries.{macros_in_length, macros_in_at}
 use Rattle.load.specs.Answer.{loaded_of}
 use Rattle.usage.specs.Counts.{tally_of, Counts, ReadyToReport, PrintsReport}
 use Rattle.usage.proofs.Counts.{counts_none, counts_start, counts_few}
+use Rattle.usage.proofs.Report.{on_lines, entry_lines}
 use Rattle.matching.specs.Book as Book
 use Rattle.matching.specs.Book.{tally_in}
 use Rattle.prepare.specs.declared.Prepared.{Prepared}
@@ -39,7 +42,7 @@ use Rattle.answer.specs.Answers.{Answer, end_number, result_after}
 use Rattle.answer.specs.Kept.{Extends}
 use Rattle.input.specs.Expands.{Expands}
 use Rattle.model.specs.Runs.{Runs}
-use Rattle.run.specs.Inner.{ReadyToRun, start_of, EndsRun}
+use Rattle.run.specs.Inner.{basis_of, ReadyToRun, start_of, EndsRun}
 
 -- ---- the same answer for an equal result
 
@@ -69,16 +72,12 @@ refuses {r = r} e =
       reported = omega arith;
     }
 
-pub refused_as : {a b k n : ℕ} → a ≡ k → b ≡ n → record { number = a; line = b; events = 0; output = 0; second = 0; store = 0; report = 0 } ≡ ran_as (no_run k n)
-unfolding ran_as no_output
-refused_as e f = λ i. record { number = e i; line = f i; events = 0; output = 0; second = 0; store = 0; report = 0 }
-
 -- a text that is refused
-pub refused_runs : (text : Bytes) (row : List Node) {t : Prelude.Result Prepared Refused} {f : Refused} (fuel : ℕ) {output second store report : Bytes} {k : ℕ} {r : Ran} → Prepares text row t → t ≡ Err f
-    → k ≡ load_number f.fault → r ≡ ran_as (no_run k f.line) → Runs (run fuel (rooms (length output) (length second)) (load text)) output second store report r output second store report
+pub refused_runs : (text : Bytes) (row : List Node) {t : Prelude.Result Prepared Refused} {f : Refused} (fuel : ℕ) {output second store report : Bytes} {g : Fault} {r : Ran} → Prepares text row t → t ≡ Err f
+    → g ≡ Load f.fault → r ≡ ran_as (no_run (fault_number g) f.line) → Runs (run fuel (rooms (length output) (length second)) (load text)) output second store report r output second store report
 unfolding run
 refused_runs text row {f = f} fuel {output = output} {second = second} p z n e =
-    same_runs (ap (run fuel (rooms (length output) (length second))) (sym (rw z at p))) (refuses (e ∙ ap (λ (k : ℕ). ran_as (no_run k f.line)) n))
+    same_runs (ap (run fuel (rooms (length output) (length second))) (sym (rw z at p))) (refuses (e ∙ ap (λ (g : Fault). ran_as (no_run (fault_number g) f.line)) n))
 
 -- ---- a text that is prepared is ready for its expansion
 
@@ -110,16 +109,6 @@ ready {text} {row} {t} p b =
 
 -- ---- the expansion of a text that is ready
 
--- the answer, once memory is listed
-pub ended_as : {q : Answer} {reported : ℕ} {s : State} {store store' : Bytes} {a b c d e f g k n : ℕ} → ListsNames s.store store n store' → k ≡ end_number q → a ≡ k
-    → b ≡ s.line → c ≡ s.events → d ≡ s.written → f ≡ s.second → e ≡ n → g ≡ reported
-    → EndsRun q reported s store (record { number = a; line = b; events = c; output = d; second = f; store = e; report = g }) store'
-ended_as {q} {s = s} {store} {store'} {e = e} h z u v w x b y p =
-    record {
-      is = λ i. record { number = (u ∙ z) i; line = v i; events = w i; output = x i; second = b i; store = e; report = p i };
-      lists = subst (λ (k : ℕ). Written store (listing s.store) k store') (sym y) h.is;
-    }
-
 -- an output's first bytes are what was written, and the others are unchanged
 extended : {o : Bytes} {w : ℕ} {o' : Bytes} {w' : ℕ} → Extends o w o' w' → o' ≡ take w' o' ++ drop (length (take w' o')) o
 extended {o} {w} {o'} {w'} e =
@@ -133,16 +122,22 @@ module _ {text : Bytes} {row : List Node} {bodies : List ℕ} {t : Prepared} (y 
   abbrev u : Load.Loaded
   u = loaded_of text t.table t.loaded
 
-  pub prepared : Book.Prepared l.marks text row l.nodes bodies
+  pub prepared : Book.Prepared (basis_of text row bodies t)
   prepared = record { table = u; book = y.book }
 
-  -- how many macros it has
-  macros-counted : length u.macros ≡ l.count
-  macros-counted = macros_in_length l.marks text t.table l.count
+  -- the entries of its macros
+  abbrev entries : List Entry
+  entries = take l.count t.table.entries
 
   -- what the report is printed from
-  pub report_ready : {counts : List ℕ} {fuel : ℕ} {report : Bytes} → Counts counts fuel → 2048 ≤ length report → ReadyToReport t.table l.count counts report
-  report_ready h room = record { few = y.few; lines = y.lines; long = h.long; counted = counts_few h; room = room }
+  pub report_ready : {counts : List ℕ} {fuel : ℕ} {report : Bytes} → l.count ≤ length t.table.entries → Counts counts fuel → 2048 ≤ length report → ReadyToReport entries counts report
+  report_ready long h room = record {
+    few = omega (arith, length-take-le l.count t.table.entries long, y.few);
+    lines = entry_lines t.table l.count long y.lines;
+    long = h.long;
+    counted = counts_few h;
+    room = room;
+  }
 
   module _ {fuel : ℕ} {s : State} (is : s ≡ start_of l fuel) where
     pub starts_sound : {output second : Bytes} → fuel ≤ 1000000 → Sound text s (outputs output second)
@@ -162,7 +157,7 @@ module _ {text : Bytes} {row : List Node} {bodies : List ℕ} {t : Prepared} (y 
     starts_counted f = subst (λ (z : State). Counts (replicate 129 0) z.fuel) (sym is) (counts_start f)
 
     module _ {output second : Bytes} {q : Answer} {s' : State} {output' second' : Bytes} {counts' : List ℕ}
-        (e : Expands l.marks text row l.nodes bodies s (outputs output second) (replicate 129 0) q s' (outputs output' second') counts') where
+        (e : Expands (basis_of text row bodies t) s (outputs output second) (replicate 129 0) q s' (outputs output' second') counts') where
       begins : ◌≡◌ {A = Next} (running (initial u)) (running (state_of text none [] (tally_in u (replicate 129 0)) (start_of l fuel) (outputs output second)))
       unfolding initial no_output
       begins = λ i. running (record {
@@ -176,8 +171,8 @@ module _ {text : Bytes} {row : List Node} {bodies : List ℕ} {t : Prepared} (y 
         tally = sym (counts_none u.macros y.book.few) i;
       })
 
-      expands : Expands l.marks text row l.nodes bodies (start_of l fuel) (outputs output second) (replicate 129 0) q s' (outputs output' second') counts'
-      expands = subst (λ (z : State). Expands l.marks text row l.nodes bodies z (outputs output second) (replicate 129 0) q s' (outputs output' second') counts') is e
+      expands : Expands (basis_of text row bodies t) (start_of l fuel) (outputs output second) (replicate 129 0) q s' (outputs output' second') counts'
+      expands = subst (λ (z : State). Expands (basis_of text row bodies t) z (outputs output second) (replicate 129 0) q s' (outputs output' second') counts') is e
 
       -- what the run of the loaded text comes to
       whole : result_after u (tally_in u counts') q s' (outputs output' second') ≡ run fuel (rooms (length output) (length second)) (load text)
@@ -186,21 +181,22 @@ module _ {text : Bytes} {row : List Node} {bodies : List ℕ} {t : Prepared} (y 
           ∙ ap (λ (z : Next). outcome u (after fuel (rooms (length output) (length second)) u z)) begins ∙ expands.same u y.book)
 
       -- the report is that of the loaded text
-      whole_report : {report : Bytes} {n : ℕ} {report' : Bytes} → PrintsReport t.table l.count counts' report n report'
+      whole_report : {report : Bytes} {n : ℕ} {report' : Bytes} → l.count ≤ length t.table.entries → PrintsReport entries counts' report n report'
           → Written report (report_bytes (report_rows u.macros (tally_in u counts'))) n report'
-      whole_report {report} {n} {report'} p =
-          subst (λ (k : ℕ). Written report (report_bytes (report_rows u.macros (tally_of k counts'))) n report') (sym macros-counted) (p.is l.marks text)
+      whole_report {report} {n} {report'} long p =
+          let lines = on_lines t.table l.count long l.marks text in
+          subst (λ (k : ℕ). Written report (report_bytes (report_rows u.macros (tally_of k counts'))) n report') (sym lines.as_many) (p.is u.macros lines)
 
-      pub loaded_runs : {store report : Bytes} {r : Ran} {n : ℕ} {store' report' : Bytes} → PrintsReport t.table l.count counts' report n report' → EndsRun q n s' store r store'
+      pub loaded_runs : {store report : Bytes} {r : Ran} {n : ℕ} {store' report' : Bytes} → l.count ≤ length t.table.entries → PrintsReport entries counts' report n report' → EndsRun q n s' store r store'
           → Runs (run fuel (rooms (length output) (length second)) (load text)) output second store report r output' second' store' report'
       unfolding ran_as
-      loaded_runs {store} {report} {r} {n} {store'} {report'} p d =
+      loaded_runs {store} {report} {r} {n} {store'} {report'} long p d =
           let w = length-take-le s'.written output' e.sound.written in
           let v = length-take-le s'.second second' e.sound.second in
           let f : r.output ≡ s'.written = ap (λ (z : Ran). z.output) d.is in
           let g : r.second ≡ s'.second = ap (λ (z : Ran). z.second) d.is in
           let k : r.report ≡ n = ap (λ (z : Ran). z.report) d.is in
-          let b = whole_report p in
+          let b = whole_report long p in
           same_runs whole (record {
             is = d.is ∙ (λ i. record {
               number = end_number q;

@@ -12,13 +12,17 @@ use Rattle.macros.specs.Table.{line_in}
 use Rattle.load.specs.declared.Loaded.{Loaded}
 use Rattle.load.specs.Answer.{loaded_of}
 use Rattle.prepare.specs.declared.Prepared.{Prepared}
-use Rattle.matching.specs.Book.{Book}
+use Rattle.matching.specs.Book.{Basis, Book}
 use Rattle.answer.specs.Answers.{Answer, end_number}
+
+-- what the run of a text that is loaded into t goes by
+abbrev pub basis_of : Bytes → List Node → (bodies : List ℕ) → Prepared → Basis
+basis_of text row bodies t = record { marks = t.loaded.marks; text = text; nodes = row; count = t.loaded.nodes; bodies = bodies }
 
 -- a text is loaded into t: the tree of its templates stands in the row, and `bodies` says where their bodies start
 pub record ReadyToRun (text : Bytes) (row : List Node) (bodies : List ℕ) (t : Prepared) : Type 0 where
   pub loads : load text ≡ loaded (loaded_of text t.table t.loaded)
-  pub book : Book t.loaded.marks text row t.loaded.nodes bodies (loaded_of text t.table t.loaded)
+  pub book : Book (basis_of text row bodies t) (loaded_of text t.table t.loaded)
   pub few : t.loaded.count ≤ macros_most
   pub lines : (k : ℕ) → k < t.loaded.count → line_in t.table k ≤ text_most
   pub at : t.loaded.input ≤ length text

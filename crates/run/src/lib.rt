@@ -11,34 +11,33 @@ ghost use Rattle.model.specs.Machine.{no_run};
 ghost use Rattle.model.specs.Results.{ran_as};
 ghost use Rattle.prepare.specs.Prepares.{Prepares};
 ghost use Rattle.model.specs.Runs.{Runs};
-ghost use Rattle.usage.specs.Counts.{ReadyToReport, PrintsReport};
+ghost use Rattle.faults.specs.Numbers.{fault_number};
 ghost use Rattle.answer.specs.Answers.{end_number};
 ghost use Rattle.run.specs.Inner.{ReadyToRun, start_of, EndsRun};
 ghost use Rattle.model.specs.Limits.{store_least, dead_least, report_least, fuel_most};
 
 use answer::Turn;
-use faults::RunFault;
+use faults::{Fault, RunFault};
 use input::expand_input;
 use load::{Loaded, Refused};
+use matching::Script;
 use model::Ran;
 use nodes::Node;
 use prepare::Prepared;
+use scan::Marked;
 use state::State;
 use store::Store;
 use usage::{COUNTS_SIZE, print_report};
 
-// A number and a line; nothing is written.
-pub fn refuse(number: usize, line: usize) -> Ran
-    ensures { result ≡ ran_as (no_run number line) }
+// A fault and its line; nothing is written. C callers read u64, of which From makes none of a count.
+#[tactic(auto, unfolding(model::specs::Results::ran_as, model::specs::Machine::no_output))]
+pub fn refuse(fault: Fault, line: usize) -> Ran
+    ensures { result ≡ ran_as (no_run (fault_number fault) line) }
 {
     Ran {
-        number: number as u64,
+        number: usize::from(fault) as u64,
         line: line as u64,
-        events: 0,
-        output: 0,
-        second: 0,
-        store: 0,
-        report: 0,
+        ..Ran::default()
     }
 }
 
@@ -59,7 +58,7 @@ fn start(loaded: Loaded, fuel: usize) -> State
     }
 }
 
-// The number of the fault that ended a run, or 0.
+// Document 01's number for how a run ended: 0 where no fault ended it.
 fn number_end(ended: Result<Turn, RunFault>) -> usize
     ensures { result ≡ end_number ended }
 {
@@ -75,6 +74,7 @@ fn end(ended: Result<Turn, RunFault>, reported: usize, s: &State, store: &mut [u
     ensures { EndsRun ended reported s.now store.old result store.new }
 {
     let n = s.store.list(store);
+    // C callers read u64, of which From makes none of a count
     Ran {
         number: number_end(ended) as u64,
         line: s.line as u64,
@@ -84,14 +84,6 @@ fn end(ended: Result<Turn, RunFault>, reported: usize, s: &State, store: &mut [u
         store: n as u64,
         report: reported as u64,
     }
-}
-
-// Prints how often each template was chosen.
-fn report_uses(t: &Prepared, counts: &[usize], report: &mut [u8]) -> usize
-    requires { ReadyToReport t.now.table t.now.loaded.count counts.now report.old }
-    ensures { PrintsReport t.now.table t.now.loaded.count counts.now report.old result report.new }
-{
-    print_report(&t.table, t.loaded.count, counts, report)
 }
 
 // The run of a text that is loaded. At first nothing is stored and nothing counted.
@@ -117,19 +109,17 @@ fn run_loaded(
     let loaded = t.loaded;
     let mut s = start(loaded, fuel);
     let mut counts = [0usize; COUNTS_SIZE];
-    let ended = expand_input(
-        loaded.marks,
-        text,
+    let script = Script {
+        marked: Marked {
+            marks: loaded.marks,
+            text,
+        },
         nodes,
-        loaded.nodes,
-        dead,
+        count: loaded.nodes,
         bodies,
-        output,
-        second,
-        &mut counts,
-        &mut s,
-    );
-    let reported = report_uses(t, &counts, report);
+    };
+    let ended = expand_input(&script, dead, output, second, &mut counts, &mut s);
+    let reported = print_report(&t.table.entries[..loaded.count], &counts, report);
     end(ended, reported, &s, store)
 }
 

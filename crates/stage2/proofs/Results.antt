@@ -47,9 +47,9 @@ use Rattle.stage2.specs.Rooms.{TestsRows}
 
 -- a row of nodes below 2,048 gives 1
 module _ (rows : ℕ) (text : Bytes) {b : Bool} (h : b ≡ short_row rows) where
-  pub check_short : b ≡ true → record { number = 1; line = 0 } ≡ check_text rows text
+  pub check_short : {k : ℕ} → b ≡ true → k ≡ 1 → record { number = k; line = 0 } ≡ check_text rows text
   unfolding check_text
-  check_short e = sym (when_true _ _ (sym h ∙ e))
+  check_short e u = (λ i. record { number = u i; line = 0 }) ∙ sym (when_true _ _ (sym h ∙ e))
 
   pub check_legal : {x : Checked} → b ≡ false → x ≡ checked_as (load text) → x ≡ check_text rows text
   unfolding check_text

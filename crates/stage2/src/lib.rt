@@ -9,6 +9,7 @@ ghost use Rattle.model.specs.Load.{Loaded, loaded};
 ghost use Rattle.model.specs.Machine.{rooms};
 ghost use Rattle.model.specs.Results.{short_row, checked_as, check_text, without_pieces, fitted_in, fit_of_line, illegal, run_text};
 ghost use Rattle.model.specs.FirstReading.{FitsFirst};
+ghost use Rattle.faults.specs.Numbers.{fault_number};
 ghost use Rattle.nodes.specs.SideBySide.{HoldsTree};
 ghost use Rattle.prepare.specs.Prepares.{IsPrepared};
 ghost use Rattle.model.specs.Runs.{Runs};
@@ -17,7 +18,7 @@ ghost use Rattle.stage2.specs.Answers.{answer_of};
 ghost use Rattle.stage2.specs.Rooms.{TestsRows, TestsRooms};
 ghost use Rattle.model.specs.Limits.{macros_most, dead_least};
 
-use faults::RunFault;
+use faults::{Fault, RunFault};
 use fit::{Choice, first_reading};
 use load::load;
 use macros::Table;
@@ -28,7 +29,7 @@ use nodes::Node;
 use prepare::{Prepared, prepare};
 use run::{refuse, run_prepared};
 
-// Nine counts, as the answers have them.
+// Nine counts, as the answers have them: C callers read u64, of which From makes none of a count.
 fn widen_nine(a: [usize; 9]) -> [u64; 9]
     ensures { result ≡ a }
 {
@@ -54,6 +55,7 @@ fn check_in(text: &[u8]) -> Checked
     ensures { result ≡ checked_as (Load.load text.now) }
 {
     let mut table = Table::default();
+    // u64, as in widen_nine
     match load(text, &mut table) {
         Ok(loaded) => Checked {
             number: 0,
@@ -71,17 +73,21 @@ pub fn check(text: &[u8], nodes: &mut [Node]) -> Checked
     ensures { result ≡ check_text (length nodes.old) text.now }
 {
     if is_short(nodes.len()) {
-        return Checked { number: 1, line: 0 };
+        return Checked {
+            number: usize::from(Fault::Illegal) as u64,
+            line: 0,
+        };
     }
     check_in(text)
 }
 
-// A number and a line, with no pieces, no place taken up and no byte read.
-fn no_pieces(number: usize, line: usize) -> Fitted
-    ensures { result ≡ without_pieces number line }
+// A fault and a line, with no pieces, no place taken up and no byte read.
+fn no_pieces(fault: Fault, line: usize) -> Fitted
+    ensures { result ≡ without_pieces (fault_number fault) line }
 {
+    // u64, as in widen_nine; by hand, since Default says of an array what each element is, and the answer is told as a whole
     Fitted {
-        number: number as u64,
+        number: usize::from(fault) as u64,
         line: line as u64,
         start: [0; 9],
         length: [0; 9],
@@ -95,6 +101,7 @@ fn answer_choice(table: &Table, c: Choice) -> Fitted
     requires { IfSome c.reading (λ r. r.template < macros_most) }
     ensures { result ≡ answer_of table.now c.reading c.places c.bytes }
 {
+    // u64 and by hand, as in no_pieces
     let none = Fitted {
         number: 0,
         line: 0,
@@ -129,13 +136,14 @@ fn fit_prepared(text: &[u8], nodes: &[Node], dead: &mut [u8], t: &Prepared, line
 
 // Fits one line, taken whole, against the templates of a text: the first of all its readings, or line 0 where it is no call; how many
 // places were taken up to find it; and how many bytes were read where the next atom was looked for.
+// The 0 is document 01's, and C callers read it: no template stands on line 0.
 pub fn fit(text: &[u8], nodes: &mut [Node], dead: &mut [u8], line: &[u8]) -> Fitted
     ensures value { result ≡ fit_of_line (length nodes.old) (length dead.old) text.now line.now }
     ensures holds_tree { (t : Loaded) → Load.load text.now ≡ loaded t → 2048 ≤ length nodes.old → 51456 ≤ length dead.old
         → HoldsTree t nodes.new × (length line.now ≤ 200 → FitsFirst t line.now result) }
 {
     if lack_room(nodes.len(), dead.len()) {
-        return no_pieces(1, 0);
+        return no_pieces(Fault::Illegal, 0);
     }
     match prepare(text, nodes) {
         Ok(prepared) => fit_prepared(text, nodes, dead, &prepared, line),
@@ -176,7 +184,7 @@ pub fn run(
         output.new second.new store.new report.new }
 {
     if is_illegal(fuel, nodes.len(), dead.len(), store.len(), report.len()) {
-        return refuse(1, 0);
+        return refuse(Fault::Illegal, 0);
     }
     let t = prepare(text, nodes);
     run_prepared(
