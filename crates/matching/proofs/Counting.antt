@@ -1,12 +1,12 @@
 -- A line that is counted by its reading: the counts stay within the fuel, and stand for the tally that the expansion has.
-use mathlib.Core.Path.{◌≡◌, refl, sym, ap, ◌∙◌}
+use mathlib.Core.Path.{◌≡◌, sym, ap, ◌∙◌}
 use mathlib.Core.Option as Math
 use mathlib.Core.Option.{none, some}
 use Rattle.std.specs.Prelude.{Option, Some, None, IfSome}
 use mathlib.Core.List.{List}
-use Prim.Native.Nat.{ℕ, ◌-◌, ◌≤◌, ◌<◌}
+use Prim.Native.Nat.{ℕ, ◌-◌, ◌<◌}
 use native.Mathlib.Omega.{arith}
-use lib.ListN.{length, get_or}
+use lib.ListN.{length}
 use Rattle.model.specs.Text.{Bytes}
 use Rattle.model.specs.Reading.{Reading as ReadingOf, chosen}
 use Rattle.model.specs.Load.{templates, Loaded}
@@ -16,7 +16,7 @@ use Rattle.fit.specs.declared.Choice.{Choice}
 use Rattle.fit.specs.declared.Reading.{Reading}
 use Rattle.fit.specs.Chosen.{TreeAt, Chosen, Chooses}
 use Rattle.usage.specs.Counts.{Counts}
-use Rattle.usage.proofs.Counts.{counts_chosen, counts_passed, counts_more, counts_room}
+use Rattle.usage.proofs.Counts.{counts_chosen, counts_passed, counts_more}
 use Rattle.matching.specs.Book.{Basis, Book, Prepared, tally_in}
 use Rattle.matching.specs.Matches.{chosen_place, CountsDecided}
 

@@ -1,5 +1,5 @@
-// What an offered line comes to up to a call, and the call that its reading opens (document 01, "Fitting a line" and "Events, store and
-// result"). A line is counted when its reading is decided. open_reading asks what a reading of `fit` has in a text that is loaded: its pieces
+// What a run goes by, what an offered line comes to up to a call, and the call that its reading opens (document 01, "Fitting a line" and "Events,
+// store and result"). A line is counted when its reading is decided. open_reading asks what a reading of `fit` has in a text that is loaded: its pieces
 // lie in the line, and its template has a body (`Opening`).
 #![tactic(auto)]
 
@@ -20,6 +20,7 @@ use usage::count_line;
 use write::pass_through;
 
 // What a run goes by: the text with its marks, the tree of its templates, which has so many nodes in the row, and where their bodies start.
+// What makes one proves that the text is loaded into it. No ghost field says so, since the fact has more than one proof.
 #[derive(Drop)]
 pub struct Script<'a> {
     pub marked: Marked<'a>,
