@@ -260,9 +260,6 @@ pub record LayoutSoFar (m : Marks) (s : Bytes) (c : Call) (o₀ : Bytes) (i : �
 pub layout-long : (m : Marks) (s : Bytes) (c : Call) → length (layout_of m s c) ≡ length s
 layout-long m s c = fields-long m (frame_of m [] c) 256 0 s ∙ omega arith
 
-pub laying_none : {m : Marks} {s : Bytes} {c : Call} {o : Bytes} → LayoutSoFar m s c o 0 o
-laying_none {o = o} = record { bytes = []; is = refl; written = written_none o 0 (omega arith); upto = omega arith }
-
 module _ {m : Marks} {s : Bytes} {c : Call} {o₀ : Bytes} {i : ℕ} {o : Bytes} (p : LayoutSoFar m s c o₀ i o) where
   -- what a part asks
   pub laying_room : length o₀ ≡ length (layout_of m s c) → length (part s i (length s)) ≤ length (part o i (length o))

@@ -3,11 +3,11 @@ use mathlib.Core.Path.{◌≡◌, refl, sym, ap, subst, ◌∙◌}
 use mathlib.Core.Bool.{Bool, true, false}
 use mathlib.Core.Option.{none, some}
 use mathlib.Core.List.{List, [], ◌∷◌, ◌++◌}
-use Prim.Native.Nat.{ℕ, ◌+◌, ◌-◌, ◌≤◌}
+use Prim.Native.Nat.{ℕ, ◌+◌, ◌-◌, ◌≤◌, ◌<◌}
 use native.Mathlib.Omega.{arith}
 use borrow.Author.Tests.{leb-true, leb-false}
 use borrow.Rule.Slice.PartMut.{mid_of, put_mid, put_same, take_put}
-use lib.ListN.{length, take}
+use lib.ListN.{length, take, drop, set}
 use lib.Seq.{length-take-le}
 use Rattle.std.specs.Prelude.{Result, Ok, Err}
 use mathlib.Core.Option as Math
@@ -20,7 +20,8 @@ use Rattle.model.specs.Text.{Bytes}
 use Rattle.model.specs.Report.{Tally}
 use Rattle.model.specs.Machine.{Outputs, outputs, Frame, Shared, continues, appended, with_first, with_second, wrote, goes_written, write_to, running, ended, state_with, stepped, passed, pass_through}
 use Rattle.model.proofs.Text.{part_length}
-use Rattle.buffer.proofs.Written.{written_none, written-length, written-take, written-drop}
+use Rattle.buffer.specs.Written.{Written}
+use Rattle.buffer.proofs.Written.{written_store, written_none, written-length, written-take, written-drop}
 use Rattle.write.proofs.Fields.{written_behind}
 use Rattle.model.proofs.Choices.{when_true, when_false, false-not-true}
 use Rattle.state.specs.declared.State.{State}
@@ -36,6 +37,15 @@ use Rattle.answer.proofs.Expansion.{skip-none}
 use Rattle.write.specs.Output.{has_room, Puts, has_room_on, Writes, PassesThrough, done_with}
 
 -- ---- one output
+
+-- the front becomes a line, and a byte 10 comes after it
+pub puts_line : {l o f : Bytes} {n : ℕ} → n ≡ length l → n < length o → f ≡ l → Puts l o (Ok (n + 1)) (set (f ++ drop n o) n 10)
+puts_line {l} {o} {f} {n} e k g =
+    let line : Written o l n (f ++ drop n o) = record { is = ap (λ (x : Bytes). x ++ drop n o) g; long = sym e; fits = omega arith } in
+    record {
+      fits = λ _. (ap (λ (i : ℕ). Ok (i + 1)) e, subst (λ (i : ℕ). Written o (l ++ (10 ∷ [])) (i + 1) (set (f ++ drop n o) n 10)) e (written_store 10 line k));
+      full = λ h. absurd (omega arith);
+    }
 
 -- an output o becomes o' with the line l and a byte 10 after its first w bytes; or there is no room for them, and nothing changes
 pub record PutsAfter (l o : Bytes) (w : ℕ) (r : Result ℕ RunFault) (o' : Bytes) : Type 0 where

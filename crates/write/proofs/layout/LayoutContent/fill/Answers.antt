@@ -1,9 +1,6 @@
 -- fill writes the layout part by part: the loop keeps `LayoutSoFar`, that its first i bytes are written, and how many are left falls.
-use Rattle.write.proofs.Fields.{laying_none, laying_room, laying_more, laying_all}
+use Rattle.write.proofs.Fields.{laying_room, laying_more, laying_all}
 use Rattle.write.proofs.layout.LayoutContent.fill.Goals as goal
-
-pub loop-i-init : goal.loop-i-init
-loop-i-init c = laying_none
 
 pub put_part-i-requires-clause-out_long : goal.put_part-i-requires-clause-out_long
 put_part-i-requires-clause-out_long c = laying_room c.loop-i.invariant c.requires
