@@ -257,13 +257,13 @@ pub record LayoutSoFar (m : Marks) (s : Bytes) (c : Call) (o₀ : Bytes) (i : �
   pub upto : i ≤ length s
 
 -- a layout's bytes
-pub layout-long : (m : Marks) (s : Bytes) (c : Call) → length (layout_of m s c) ≡ length s
-layout-long m s c = fields-long m (frame_of m [] c) 256 0 s ∙ omega arith
+pub layout_long : (m : Marks) (s : Bytes) (c : Call) → length (layout_of m s c) ≡ length s
+layout_long m s c = fields-long m (frame_of m [] c) 256 0 s ∙ omega arith
 
 module _ {m : Marks} {s : Bytes} {c : Call} {o₀ : Bytes} {i : ℕ} {o : Bytes} (p : LayoutSoFar m s c o₀ i o) where
   -- what a part asks
   pub laying_room : length o₀ ≡ length (layout_of m s c) → length (part s i (length s)) ≤ length (part o i (length o))
-  laying_room h = omega (arith, layout-long m s c, written-length p.written, part_length s i (length s) (omega arith), part_length o i (length o) (omega arith))
+  laying_room h = omega (arith, layout_long m s c, written-length p.written, part_length s i (length s) (omega arith), part_length o i (length o) (omega arith))
 
   pub laying_more : {r : ℕ} {rest : Bytes} → PutsPart m (part s i (length s)) c (part o i (length o)) r rest → LayoutSoFar m s c o₀ (i + r) (put_mid i (length o - i) o rest)
   laying_more {r} q =
@@ -280,5 +280,5 @@ module _ {m : Marks} {s : Bytes} {c : Call} {o₀ : Bytes} {i : ℕ} {o : Bytes}
   pub laying_all : length o₀ ≡ length (layout_of m s c) → length s ≤ i → o ≡ layout_of m s c
   unfolding fields field
   laying_all n h =
-      let none : drop i o₀ ≡ [] = drop_of_length-le o₀ (omega (arith, layout-long m s c)) in
+      let none : drop i o₀ ≡ [] = drop_of_length-le o₀ (omega (arith, layout_long m s c)) in
       p.written.is ∙ ap (λ (x : Bytes). p.bytes ++ x) none ∙ sym (p.is ∙ ap (λ (x : Bytes). p.bytes ++ layout_of m x c) (drop_of_length-le s h))

@@ -18,10 +18,12 @@ pub struct Layout<'a> {
 impl<'a> Content for Layout<'a> {
     ghost bytes = { λ s. layout_of s.m s.text.now s.call.now };
 
+    #[tactic(auto, using(crate::proofs::Fields::layout_long))]
     fn count(&self) -> usize {
         self.text.len()
     }
 
+    #[tactic(auto, using(crate::proofs::Fields::laying_more))]
     fn fill(&self, out: &mut [u8]) {
         let text = self.text;
         // a turn writes a field or a byte, and says how long it is: no range
@@ -33,6 +35,7 @@ impl<'a> Content for Layout<'a> {
 }
 
 // The field or the byte that a layout begins with comes to the front of a slice; the answer is how many bytes it has.
+#[tactic(auto, using(crate::proofs::Fields::run_most, crate::proofs::Fields::part_byte))]
 fn put_part(m: Marks, text: &[u8], call: &Call, out: &mut [u8]) -> usize
     requires there { 0 < length text.now }
     requires out_long { length text.now ≤ length out.old }
@@ -70,6 +73,7 @@ fn run_length(text: &[u8], b: u8) -> usize
 }
 
 // A field becomes parameter d: cut, or filled with blanks.
+#[tactic(auto, using(crate::proofs::Fields::fills_field))]
 fn fill_field(blank: u8, call: &Call, d: usize, out: &mut [u8])
     requires { (1 ≤ d) × (d ≤ 9) }
     ensures { FillsField blank call.now d out.old out.new }

@@ -61,6 +61,7 @@ fn put<C: Content>(content: &C, left: &mut [u8]) -> Result<usize, RunFault>
 
 // A content and a byte 10 after it go to a channel. Without room for them nothing changes, and the run ends with 13.
 // The outputs are no struct of two `&mut`: every function that is lent it would have to say that each is still the caller's reference (tried).
+#[tactic(auto, using(crate::proofs::Lines::writes_nowhere))]
 pub fn write<C: Content>(
     ch: Channel,
     content: &C,
@@ -80,6 +81,7 @@ pub fn write<C: Content>(
 }
 
 // A line without a reading is written to the first output as it is.
+#[tactic(auto, using(crate::proofs::Lines::puts_after, crate::proofs::Lines::passes_through))]
 pub fn pass_through(line: &[u8], output: &mut [u8], s: &mut State) -> Result<(), RunFault>
     requires { s.old.written ≤ length output.old }
     ensures { PassesThrough line.now s.old output.old result s.new output.new }

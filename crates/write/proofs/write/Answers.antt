@@ -1,6 +1,6 @@
 -- write counts what is put to the channel's output, or ends the run where there is no room.
 use borrow.Author.Rules.{rules}
-use Rattle.write.proofs.Lines.{puts_after, writes_nowhere, writes_first, writes_second, no_room_first, no_room_second}
+use Rattle.write.proofs.Lines.{puts_after, writes_first, writes_second, no_room_first, no_room_second}
 use Rattle.write.proofs.write.Goals as goal
 
 pub returns-in_err-s-in-First : goal.returns-in_err-s-in-First
@@ -12,9 +12,6 @@ pub returns-in_err-s-in-Second : goal.returns-in_err-s-in-Second
 returns-in_err-s-in-Second g c =
     let puts = puts_after c.requires.1 c.put-in-Second.ensures in
     search (no_room_second, rules)
-
-pub returns-in-Nowhere : goal.returns-in-Nowhere
-returns-in-Nowhere g c = search (writes_nowhere, rules)
 
 pub returns-in_ok-s-in-First : goal.returns-in_ok-s-in-First
 returns-in_ok-s-in-First g c =

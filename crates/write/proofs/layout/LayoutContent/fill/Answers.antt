@@ -1,12 +1,9 @@
 -- fill writes the layout part by part: the loop keeps `LayoutSoFar`, that its first i bytes are written, and how many are left falls.
-use Rattle.write.proofs.Fields.{laying_room, laying_more, laying_all}
+use Rattle.write.proofs.Fields.{laying_room, laying_all}
 use Rattle.write.proofs.layout.LayoutContent.fill.Goals as goal
 
 pub put_part-i-requires-clause-out_long : goal.put_part-i-requires-clause-out_long
 put_part-i-requires-clause-out_long c = laying_room c.loop-i.invariant c.requires
-
-pub loop-i-preserved : goal.loop-i-preserved
-loop-i-preserved c = laying_more c.loop-i.invariant c.put_part-i.ensures
 
 pub returns : goal.returns
 returns c = laying_all c.loop-i.invariant c.requires c.loop-i-test.false
