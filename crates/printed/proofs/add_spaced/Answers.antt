@@ -1,12 +1,9 @@
 -- add_spaced adds a blank, then the number.
-use Rattle.printed.proofs.Adding.{blank_room, digits_room, spaced_prints}
+use Rattle.printed.proofs.Adding.{blank_room, spaced_prints}
 use Rattle.printed.proofs.add_spaced.Goals as goal
 
 pub add_bytes-digits-requires : goal.add_bytes-digits-requires
 add_bytes-digits-requires c = search blank_room
-
-pub add_decimal-requires : goal.add_decimal-requires
-add_decimal-requires c = search digits_room
 
 pub returns : goal.returns
 returns c = search spaced_prints
