@@ -120,6 +120,7 @@ struct Task<'a> {
 }
 
 // The number of a place: so many positions for each node.
+#[tactic(auto, using(crate::proofs::Taken::product_fits, crate::proofs::Taken::number_fits))]
 fn number_place(end: usize, node: usize, at: usize) -> usize
     requires { (node < nodes_most) × (end ≤ line_most) × (at ≤ end) }
     ensures { result ≡ node * (end + 1) + at }
@@ -129,6 +130,7 @@ fn number_place(end: usize, node: usize, at: usize) -> usize
 
 // The key of the element that leads on at a place of a line: the byte's, or the template's end.
 // `at` stays beside the line: it is half of a place, and places are numbered by it.
+#[tactic(auto, using(crate::proofs::Steps::element_byte, crate::proofs::Steps::element_end))]
 fn element_at(line: &[u8], at: usize) -> u16
     ensures { element_of result ≡ element_at line.now at }
 {
@@ -245,6 +247,7 @@ fn search_atom(
 
 // The first of all readings of a line by the templates of the tree, which has `count` nodes: the row of nodes is lent, and its length is the
 // lender's. At first no place of the tree and the line is dead.
+#[tactic(auto, using(crate::proofs::Taken::places_fit, crate::proofs::Taken::clear_fits, crate::proofs::Taken::asks_root, crate::proofs::Choose::found_there))]
 pub fn first_reading(m: Marks, nodes: &[Node], count: usize, dead: &mut [u8], line: &[u8]) -> Choice
     requires { Fits nodes.now count dead.old line.now }
     ensures { Chooses m nodes.now count line.now result }

@@ -1,25 +1,13 @@
 -- first_reading answers the chosen reading and the numbers of places and bytes: the law of the search, at the root, with no place dead.
 use Rattle.std.proofs.Common.{arith}
-use Rattle.fit.proofs.Taken.{places_fit, clear_fits, asks_root, none_dead}
-use Rattle.fit.proofs.Choose.{searched_by-brackets, found_there, no_call, is_call}
+use Rattle.fit.proofs.Taken.{none_dead}
+use Rattle.fit.proofs.Choose.{searched_by-brackets, no_call, is_call}
 use Rattle.fit.proofs.first_reading.Goals as goal
-
-pub overflow_mul-count : goal.overflow_mul-count
-overflow_mul-count c = record { fits = places_fit c.requires }
-
-pub clear-requires : goal.clear-requires
-clear-requires c = clear_fits c.requires
-
-pub search-requires : goal.search-requires
-search-requires c = asks_root c.requires c.clear.ensures c.clear.auto.row
 
 pub returns-in_default : goal.returns-in_default
 returns-in_default c =
     no_call (searched_by-brackets c.args.m c.search.ensures) c.requires (none_dead c.requires c.clear.ensures) c.requires.short c.in_default.is
     c.choose.ensures (omega (arith, c.choose.type_inv)) (omega (arith, c.choose.type_inv))
-
-pub bounds-nodes-end : goal.bounds-nodes-end
-bounds-nodes-end c = found_there (searched_by-brackets c.args.m c.search.ensures) c.requires c.in-Some.is
 
 pub returns : goal.returns
 returns c =
