@@ -211,10 +211,6 @@ module _ {row : List Node} {dead line : Bytes} {node at : ℕ} (a : Asks row dea
   elsewhere : (dead1 : Bytes) (node' at' : ℕ) → length dead1 ≡ length dead → node' < a.made → at' ≤ length line → Asks row dead1 line node' at'
   elsewhere dead1 node' at' u th lo = record { made = a.made; stands = a.stands; there = th; low = lo; few = a.few; short = a.short; room = omega (arith, a.room, u) }
 
-  -- the node is one of the row's
-  pub asks_node : node < length row
-  asks_node = omega (arith, a.there, a.stands.within)
-
   -- and so are its children, in a run
   pub asks_children : InRun row node
   asks_children = front_run a.stands node a.there
