@@ -546,3 +546,12 @@ module _ {m : Marks} {row : List Node} {line : Bytes} {node at : ℕ} {dead : By
               no_atom_outcomes m (take made row) line node at (holey_is row node made lt ∙ eq-eqb (elem row node) placeholder_key t) e.read g.read z dead dead' notes notes1 notes2 u k (w.comes.each made s lt) f;
         };
       }
+
+-- what the goals of search_byte go by
+pub ruleset byte_steps = (child_known, byte_none, byte_end, byte_below)
+
+-- what the goals of search_piece go by
+pub ruleset piece_steps = (child_known, piece_none, piece_nowhere, piece_below)
+
+-- what the goals of search_atom go by
+pub ruleset atom_steps = (atom-not, atom-none, atom_known, atom-less, asks_atom, atom_nowhere, atom_fits, atom-below)

@@ -253,3 +253,9 @@ module _ {row : List Node} {count : ℕ} {dead line : Bytes} (f : Fits row count
     asks_root l =
         let w : count * suc (length line) ≡ count * (length line + 1) = ap (λ (n : ℕ). count * n) (omega arith) in
         record { made = count; stands = f.stands; there = front_root f.stands; low = omega arith; few = f.few; short = f.short; room = omega (arith, clear_fits, l, w) }
+
+-- what the goals of search go by
+pub ruleset place_searched = (was_dead, leads_on, leads_nowhere)
+
+-- what the goals of take_up go by
+pub ruleset steps_taken = (first_found, second_found, third_found)

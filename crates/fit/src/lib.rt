@@ -144,6 +144,7 @@ fn element_at(line: &[u8], at: usize) -> u16
 // left of the line fall from search to search.
 // The five searches have the same parameters: a struct of the two `&mut` would have to say at each call that both are the caller's.
 #[cycle(search)]
+#[tactic(auto, using(crate::proofs::Steps::asks_number, crate::proofs::Steps::asks_bit, crate::proofs::Taken::place_searched))]
 fn search(task: &Task, dead: &mut [u8], notes: &mut Notes, node: usize, at: usize) -> Option<usize>
     requires { Asks task.now.nodes.now dead.old task.now.line.now node at }
     ensures { SearchedIn (brackets task.now.left task.now.right) task.now.nodes.now task.now.line.now node at
@@ -164,6 +165,7 @@ fn search(task: &Task, dead: &mut [u8], notes: &mut Notes, node: usize, at: usiz
 // From a place by the next byte or the line's end, else by a placeholder, else by an atom more.
 // Asks, here and in the other four, speaks of the node and the position, which change with each search: it is no fact of the task.
 #[cycle(search)]
+#[tactic(auto, using(crate::proofs::Steps::asks_again, crate::proofs::Taken::steps_taken))]
 fn take_up(task: &Task, dead: &mut [u8], notes: &mut Notes, node: usize, at: usize) -> Option<usize>
     requires { Asks task.now.nodes.now dead.old task.now.line.now node at }
     ensures { TakenUp (brackets task.now.left task.now.right) task.now.nodes.now task.now.line.now node at
@@ -181,6 +183,7 @@ fn take_up(task: &Task, dead: &mut [u8], notes: &mut Notes, node: usize, at: usi
 // To the child for the next byte, or for the template's end.
 // Parameters and fact as in search and take_up: `at` is a place of the line, and of `dead` each search asks the same.
 #[cycle(search)]
+#[tactic(auto, using(crate::proofs::Steps::byte_steps))]
 fn search_byte(
     task: &Task,
     dead: &mut [u8],
@@ -203,6 +206,7 @@ fn search_byte(
 // To the placeholder's child, where a piece starts.
 // Parameters and fact as in search and take_up.
 #[cycle(search)]
+#[tactic(auto, using(crate::proofs::Steps::piece_steps))]
 fn search_piece(
     task: &Task,
     dead: &mut [u8],
@@ -223,6 +227,7 @@ fn search_piece(
 // An atom more in the open piece, if the node is a placeholder's.
 // Parameters and fact as in search and take_up.
 #[cycle(search)]
+#[tactic(auto, using(crate::proofs::Steps::atom_steps))]
 fn search_atom(
     task: &Task,
     dead: &mut [u8],
