@@ -1,4 +1,4 @@
-// The public calls with rows of nodes and of dead places of their own, for programs.
+// The public calls with rows of nodes and of dead places of their own, for programs. A row's contents are free.
 #![tactic(auto)]
 
 ghost use Rattle.std.specs.Prelude.{◌≡◌, false, ◌≤◌, length};
@@ -12,24 +12,11 @@ ghost use Rattle.model.specs.Demands.{FollowsExpansion};
 use model::{Checked, DEAD_LEAST, Fitted, NODES_MOST, Ran};
 use nodes::Node;
 
-// A node of zeroes; a row's contents are free.
-// Written out: Node derives no Default, and a row of nodes is made here alone.
-fn make_node() -> Node {
-    Node {
-        element: 0,
-        first: 0,
-        count: 0,
-        template: 0,
-        height: 0,
-        holes: 0,
-    }
-}
-
 // Checks a text.
 pub fn check(text: &[u8]) -> Checked
     ensures { result ≡ check_text 2048 text.now }
 {
-    let mut row = [make_node(); NODES_MOST];
+    let mut row = [Node::default(); NODES_MOST];
     stage2::check(text, &mut row)
 }
 
@@ -39,7 +26,7 @@ pub fn fit(text: &[u8], line: &[u8]) -> Fitted
     ensures fits_first { (t : Loaded) → load text.now ≡ loaded t → length line.now ≤ 200
         → FitsFirst t line.now result }
 {
-    let mut row = [make_node(); NODES_MOST];
+    let mut row = [Node::default(); NODES_MOST];
     let mut dead = [0u8; DEAD_LEAST];
     stage2::fit(text, &mut row, &mut dead, line)
 }
@@ -61,7 +48,7 @@ pub fn run(
         → FollowsExpansion t fuel output.old second.old store.old report.old result
         output.new second.new store.new report.new }
 {
-    let mut row = [make_node(); NODES_MOST];
+    let mut row = [Node::default(); NODES_MOST];
     let mut dead = [0u8; DEAD_LEAST];
     stage2::run(
         text, fuel, &mut row, &mut dead, output, second, store, report,

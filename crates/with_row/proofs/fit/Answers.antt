@@ -1,8 +1,9 @@
 -- fit lends its own rows, of 2,048 nodes and of 51,456 bytes.
 use Rattle.std.proofs.Common.{ℕ, arith}
 use Rattle.std.proofs.lemmas.List.{length-replicate}
+use Rattle.nodes.specs.declared.Node.{Node}
 use Rattle.with_row.proofs.fit.Goals as goal
 
 pub returns-clause-fits_first : goal.returns-clause-fits_first
 returns-clause-fits_first c =
-    λ t loads. (c.fit.ensures.holds_tree t loads (omega (arith, length-replicate 2048 c.make_node-row.result)) (omega (arith, length-replicate {A = ℕ} 51456 0))).1
+    λ t loads. (c.fit.ensures.holds_tree t loads (omega (arith, length-replicate {A = Node})) (omega (arith, length-replicate {A = ℕ}))).1
