@@ -145,7 +145,7 @@ pub struct Fitted {
 
 // What a run answers: the lengths are of what was written to the output, the second output, the store and the report.
 #[repr(C)]
-#[derive(Clone, Copy, Default)]
+#[derive(Clone, Copy)]
 pub struct Ran {
     pub number: u64,
     pub line: u64,

@@ -30,6 +30,7 @@ use store::Store;
 use usage::{COUNTS_SIZE, print_report};
 
 // A fault and its line; nothing is written. C callers read u64, of which From makes none of a count.
+// The zeroes stand by hand: `model`, which declares the type, has no function, and a derived Default would be one.
 #[tactic(auto, unfolding(model::specs::Results::ran_as, model::specs::Machine::no_output))]
 pub fn refuse(fault: Fault, line: usize) -> Ran
     ensures { result ≡ ran_as (no_run (fault_number fault) line) }
@@ -37,7 +38,11 @@ pub fn refuse(fault: Fault, line: usize) -> Ran
     Ran {
         number: usize::from(fault) as u64,
         line: line as u64,
-        ..Ran::default()
+        events: 0,
+        output: 0,
+        second: 0,
+        store: 0,
+        report: 0,
     }
 }
 
