@@ -1,7 +1,6 @@
 -- Signed numbers of the width of a value. `mag z` bounds z on both sides at once: z fits w bits where `mag z` is below half of 2 ^ w.
 --     width_holds, told     the width is the range, and what is read back from the bits of a number in range is that number
 --     checked_in, checked_out     the range, as the one test of `checked`
---     plain_fits     a value without its sign
 use mathlib.Core.Path.{◌≡◌, refl, sym, ap, ◌∙◌}
 use mathlib.Core.Option.{Option, none, some}
 use Prim.Native.Nat.{◌+◌, ◌^◌, ◌≤◌, ◌<◌}
