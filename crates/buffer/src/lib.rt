@@ -7,7 +7,7 @@ ghost use Rattle.model.specs.Text.{same};
 ghost use Rattle.buffer.specs.Pasted.{Pasted};
 ghost use Rattle.buffer.specs.Decimal.{Decimal};
 
-// All of src goes to dest from offset at.
+// All of src goes to dest from offset at, which stays beside dest: as a slice from there on, the rest of dest would be each caller's to keep.
 pub fn copy(dest: &mut [u8], at: usize, src: &[u8])
     requires { at + length src.now ≤ length dest.old }
     ensures { Pasted dest.old at src.now (length src.now) dest.new }
@@ -16,7 +16,7 @@ pub fn copy(dest: &mut [u8], at: usize, src: &[u8])
     dest[at..end].copy_from_slice(src);
 }
 
-// The len bytes from offset from move to offset to.
+// The len bytes from offset from move to offset to: both lie in d, so that three numbers say which.
 pub fn shift(d: &mut [u8], to: usize, from: usize, len: usize)
     requires { (to + len ≤ length d.old) × (from + len ≤ length d.old) }
     ensures { Pasted d.old to (drop from d.old) len d.new }
@@ -24,7 +24,7 @@ pub fn shift(d: &mut [u8], to: usize, from: usize, len: usize)
     d.copy_within(from..from + len, to);
 }
 
-// Whether two slices have the same bytes.
+// Whether two slices have the same bytes: `==`, said once as document 01's `same`.
 pub fn same_bytes(a: &[u8], b: &[u8]) -> bool
     ensures { result ≡ same a.now b.now }
 {

@@ -100,7 +100,7 @@ fn decode(a: u8, rest: &[u8]) -> Result<Character, Malformed>
     }
 }
 
-// The character of s from `at` on, or none where nothing is left.
+// The character of s from `at` on, or none where nothing is left. `at` stays beside s: the characters that follow are read from places of s.
 #[tactic(auto, using(crate::proofs::Decoding::reads_nothing))]
 pub fn read_character(s: &[u8], at: usize) -> Result<Option<Character>, Malformed>
     ensures { ReadsCharacter s.now at result }
