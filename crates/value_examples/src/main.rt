@@ -4,7 +4,6 @@
 #![tactic(auto)]
 
 use model::{Integer, Marks};
-use scan::find_byte;
 use std::io::{Read, Write};
 use store::Store;
 
@@ -54,11 +53,9 @@ fn say(output: &mut impl Write, store: &Store, text: &[u8]) {
 
 // One line.
 fn turn(output: &mut impl Write, store: &mut Store, line: &[u8]) {
-    let e = find_byte(line, 0, line.len(), b'=');
-    if e < line.len() {
-        keep(store, &line[..e], &line[e + 1..]);
-    } else {
-        say(output, store, line);
+    match line.iter().position(|b| *b == b'=') {
+        Some(e) => keep(store, &line[..e], &line[e + 1..]),
+        None => say(output, store, line),
     }
 }
 
