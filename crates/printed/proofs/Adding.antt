@@ -66,30 +66,27 @@ module _ (k n e : ℕ) where
 
 -- ---- a row of check_text
 
-module _ {o : Bytes} {w : ℕ} (name : Bytes) (x : Checked) where
-  check_parts : RoomFor o w (check_row name x) → RoomFor o w (name ++ spaced x.number ++ spaced x.line ++ (10 ∷ []))
-  unfolding check_row
-  check_parts h = h
+module _ (name : Bytes) (x : Checked) where
+  -- the two numbers and the end as one part
+  check_end : Bytes
+  check_end = spaced x.number ++ spaced x.line ++ (10 ∷ [])
 
-  pub check_name : RoomFor o w (check_row name x) → RoomFor o w name
-  check_name h = room_1 name (spaced x.number) (spaced x.line) (10 ∷ []) (check_parts h)
+  check_is : check_row name x ≡ name ++ check_end
+  unfolding check_row check_end
+  check_is = ap (λ (y : Bytes). y ++ (10 ∷ [])) (append_assoc name (spaced x.number) (spaced x.line)) ∙ append_assoc name (spaced x.number ++ spaced x.line) (10 ∷ [])
 
-  module _ {a : ℕ} {o₁ : Bytes} where
-    pub check-number : RoomFor o w (check_row name x) → Prints o w name a o₁ → RoomFor o₁ a (spaced x.number)
-    check-number h p = room_2 name (spaced x.number) (spaced x.line) (10 ∷ []) (check_parts h) p
+  module _ {o : Bytes} {w : ℕ} where
+    pub check_name : RoomFor o w (check_row name x) → RoomFor o w name
+    check_name h = room_first name check_end (room_as check_is h)
 
-    module _ {b : ℕ} {o₂ : Bytes} where
-      pub check_line : RoomFor o w (check_row name x) → Prints o w name a o₁ → Prints o₁ a (spaced x.number) b o₂ → RoomFor o₂ b (spaced x.line)
-      check_line h p q = room_3 name (spaced x.number) (spaced x.line) (10 ∷ []) (check_parts h) p q
+    module _ {a : ℕ} {o₁ : Bytes} where
+      pub check_counts : RoomFor o w (check_row name x) → Prints o w name a o₁ → RoomFor o₁ a (spaced x.number ++ spaced x.line ++ (10 ∷ []))
+      unfolding check_end
+      check_counts h p = room_next check_end (room_as check_is h) p
 
-      module _ {c : ℕ} {o₃ : Bytes} where
-        pub check_newline : RoomFor o w (check_row name x) → Prints o w name a o₁ → Prints o₁ a (spaced x.number) b o₂ → Prints o₂ b (spaced x.line) c o₃ → RoomFor o₃ c (10 ∷ [])
-        check_newline h p q r = room_4 name (spaced x.number) (spaced x.line) (10 ∷ []) (check_parts h) p q r
-
-        pub check-prints : {r : ℕ} {o₄ : Bytes} → Prints o w name a o₁ → Prints o₁ a (spaced x.number) b o₂ → Prints o₂ b (spaced x.line) c o₃
-            → Prints o₃ c (10 ∷ []) r o₄ → Prints o w (check_row name x) r o₄
-        unfolding check_row
-        check-prints p q r s = prints_4 p q r s
+      pub check-prints : {r : ℕ} {o₂ : Bytes} → Prints o w name a o₁ → Prints o₁ a (spaced x.number ++ spaced x.line ++ (10 ∷ [])) r o₂ → Prints o w (check_row name x) r o₂
+      unfolding check_end
+      check-prints p q = prints_as (sym check_is) (prints_more p q)
 
 -- ---- a row of fit_line
 

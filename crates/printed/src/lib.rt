@@ -43,6 +43,16 @@ fn add_pair(out: &mut [u8], at: usize, a: u64, b: u64) -> usize
     add_spaced(out, second, b)
 }
 
+// Two numbers, each after a blank, and the row's end.
+#[tactic(auto, using(crate::proofs::Adding::counts_room, crate::proofs::Adding::end_room, rendering::proofs::Prints::prints_more))]
+fn add_counts(out: &mut [u8], at: usize, a: u64, b: u64) -> usize
+    requires { RoomFor out.old at (spaced a ++ spaced b ++ (10 ∷ [])) }
+    ensures { Prints out.old at (spaced a ++ spaced b ++ (10 ∷ [])) result out.new }
+{
+    let end = add_pair(out, at, a, b);
+    add_bytes(out, end, b"\n")
+}
+
 // The row that ends what expand prints.
 fn add_end(out: &mut [u8], at: usize, r: Ran) -> usize
     requires { RoomFor out.old at (end_row r.number r.line r.events) }
@@ -89,6 +99,7 @@ pub fn print_run(text: &[u8], out: &mut [u8], second: &mut [u8], report: &mut [u
     ensures prints_3 { Prints report.old 0 (expand_reports (length second.old) text.now) result.report report.new }
 {
     let r = run_text(text, out, second, report);
+    // `as`, here and below: each is at most the length of its room, so that what usize::try_from would refuse cannot be
     let printed = add_end(out, r.output as usize, r);
     Shown {
         printed,
@@ -103,9 +114,7 @@ fn add_checked(out: &mut [u8], at: usize, name: &[u8], c: Checked) -> usize
     ensures { Prints out.old at (check_row name.now c) result out.new }
 {
     let number = add_bytes(out, at, name);
-    let line = add_spaced(out, number, c.number);
-    let end = add_spaced(out, line, c.line);
-    add_bytes(out, end, b"\n")
+    add_counts(out, number, c.number, c.line)
 }
 
 // The row that check_text prints for a file with this name and text.
@@ -127,16 +136,6 @@ fn add_pieces(out: &mut [u8], at: usize, starts: [u64; 9], lens: [u64; 9]) -> us
         w = add_pair(out, w, starts[i], lens[i]);
     }
     w
-}
-
-// The last two numbers of a row, and the row's end.
-#[tactic(auto, using(crate::proofs::Adding::counts_room, crate::proofs::Adding::end_room, rendering::proofs::Prints::prints_more))]
-fn add_counts(out: &mut [u8], at: usize, places: u64, bytes: u64) -> usize
-    requires { RoomFor out.old at (spaced places ++ spaced bytes ++ (10 ∷ [])) }
-    ensures { Prints out.old at (spaced places ++ spaced bytes ++ (10 ∷ [])) result out.new }
-{
-    let end = add_pair(out, at, places, bytes);
-    add_bytes(out, end, b"\n")
 }
 
 // What fitting a line answers.
