@@ -21,7 +21,8 @@ const CHECK_TEXT: Program = Program {
     usage: b"check_text: give the names of the files to check\n",
 };
 
-// Adds the row of a file with this name and text, if there is room for it.
+// Adds the row of a file with this name and text, if there is room for it. The rows and the offset stay two parameters, as in rendering's
+// add_bytes.
 fn add_row(rows: &mut [u8], at: usize, name: &[u8], text: &[u8]) -> Option<usize>
     requires { at ≤ length rows.old }
     ensures { IfSome result (λ w. AddsFile rows.old at w rows.new) }
@@ -91,6 +92,7 @@ fn check<R: Env + Files>(rt: &R, output: &mut impl Write) -> Result<(), Trouble>
     check_files(rt, output, n, &mut rows)
 }
 
+// A twin of the other programs' main that stays: as one function of source it would take the program's work as a closure over the runtime.
 fn main(rt: HostRuntime) {
     if let Err(trouble) = check(&rt, &mut rt.stdout()) {
         tell(&rt, &mut rt.stderr(), &CHECK_TEXT, trouble);

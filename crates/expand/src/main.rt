@@ -98,6 +98,7 @@ fn expand<R: Env + Files>(
     expand_text(output, text, styles, uses)
 }
 
+// A twin of the other programs' main that stays: as one function of source it would take the program's work as a closure over the runtime.
 fn main(rt: HostRuntime) {
     if let Err(trouble) = expand(&rt, &mut rt.stdin(), &mut rt.stdout()) {
         tell(&rt, &mut rt.stderr(), &EXPAND, trouble);

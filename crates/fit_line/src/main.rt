@@ -17,7 +17,9 @@ const FIT_LINE: Program = Program {
     usage: b"fit_line: give the file of a text and the file of the lines\n",
 };
 
-// Writes what is printed for a text and a file of lines; the caller shows that it is that.
+// Writes what is printed for a text and a file of lines; the caller shows that it is that. One function for the three
+// programs would be no plainer: each requires something else of what it writes. Text, file and output go through three functions, of which each
+// shows something else of them: a struct of the two slices would be taken apart in each.
 fn write_printed(
     output: &mut impl Write,
     text: &[u8],
@@ -68,6 +70,7 @@ fn fit_files<R: Env + Files>(rt: &R, output: &mut impl Write) -> Result<(), Trou
     lend_room(output, text, file)
 }
 
+// A twin of the other programs' main that stays: as one function of source it would take the program's work as a closure over the runtime.
 fn main(rt: HostRuntime) {
     if let Err(trouble) = fit_files(&rt, &mut rt.stdout()) {
         tell(&rt, &mut rt.stderr(), &FIT_LINE, trouble);

@@ -1,6 +1,8 @@
 // The run of a text that is prepared (document 01, "Events, store and result"): its input is expanded with the caller's fuel into
 // the caller's outputs, the names that were stored are listed in the caller's store, and how often each template was chosen is printed
 // in the caller's report.
+// The rows go along one by one, with their least lengths as clauses: C lends each as a slice, and as one struct of `&mut`s each function would
+// have to say that all are still the caller's references.
 #![tactic(auto)]
 
 ghost use Rattle.std.specs.Prelude.{◌≡◌, ◌≤◌, length};
@@ -46,7 +48,7 @@ pub fn refuse(fault: Fault, line: usize) -> Ran
     }
 }
 
-// The state before the first input line, with nothing stored.
+// The state before the first input line, with nothing stored. By hand: four of its nine fields are no zero, and a Default would say so of none.
 fn start(loaded: Loaded, fuel: usize) -> State
     ensures { result ≡ start_of loaded fuel }
 {
@@ -63,7 +65,7 @@ fn start(loaded: Loaded, fuel: usize) -> State
     }
 }
 
-// Document 01's number for how a run ended: 0 where no fault ended it.
+// Document 01's number for how a run ended, as C callers read it: 0 where no fault ended it.
 fn number_end(ended: Result<Turn, RunFault>) -> usize
     ensures { result ≡ end_number ended }
 {

@@ -1,5 +1,6 @@
 // What a program is given: its arguments, and all that a reader gives or a whole file, read into a lent buffer; and what it says where
 // something keeps it from its work.
+// Every buffer is an array of the largest size that a program takes, here and in the programs that expand, check and fit: they have no heap.
 #![tactic(auto)]
 
 ghost use Rattle.std.specs.Prelude.{◌≡◌, ◌≤◌, ◌<◌, IfOk, IfErr, IfSome, length, take};
@@ -18,7 +19,8 @@ use std::{fs, io, str};
 
 pub const ARGUMENT_ROOM: usize = 131072;
 
-// Puts argument i at the start of buf, whatever its bytes are, and answers it. One that is missing or longer than buf is taken for empty.
+// Puts argument i at the start of buf, whatever its bytes are, and answers it. One that is missing or longer than buf is taken for empty,
+// and is no None: no file has an empty name, so that whoever opens it says what is wrong.
 pub fn arg<'a>(env: &impl Env, i: usize, buf: &'a mut [u8]) -> &'a [u8]
     ensures { length result.now ≤ length buf.old }
 {
@@ -47,7 +49,7 @@ pub enum Argument {
     Name,
 }
 
-// An argument by its bytes; an option begins with a minus.
+// An argument by its bytes; an option begins with a minus. same_bytes is `==` by the name of document 01's `same`, by which argument_of is said.
 #[tactic(auto, using(crate::proofs::First::begins_first))]
 pub fn read_argument(argument: &[u8]) -> Argument
     ensures { result ≡ argument_of argument.now }

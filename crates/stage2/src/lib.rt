@@ -50,7 +50,7 @@ fn lack_room(rows: usize, dead: usize) -> bool
     (rows < NODES_MOST) | (dead < DEAD_LEAST)
 }
 
-// A text checked, with a legal row of nodes.
+// A text checked, with a legal row of nodes. Numbers and lines are document 01's, here and below: C callers read 0 where there is none.
 fn check_in(text: &[u8]) -> Checked
     ensures { result ≡ checked_as (Load.load text.now) }
 {
@@ -164,6 +164,7 @@ fn is_illegal(fuel: u64, rows: usize, dead: usize, store: usize, report: usize) 
 
 // Runs a text. No more than 2,048 nodes and 51,456 bytes of the lent rows are used. Channel 3 is the output, and
 // channel 4 the second one; either may have any length. The report says how often each template was chosen.
+// The rows go along one by one, as in run.
 pub fn run(
     text: &[u8],
     fuel: u64,
@@ -187,6 +188,7 @@ pub fn run(
         return refuse(Fault::Illegal, 0);
     }
     let t = prepare(text, nodes);
+    // `as`: fuel that is legal is at most 1,000,000, so that what usize::try_from would refuse cannot be
     run_prepared(
         text,
         nodes,

@@ -1,4 +1,5 @@
-// The public calls with rows of nodes and of dead places of their own, for programs. A row's contents are free.
+// The public calls with rows of nodes and of dead places of their own, for programs: arrays of the least legal size, since the library has no
+// heap. A row's contents are free.
 #![tactic(auto)]
 
 ghost use Rattle.std.specs.Prelude.{◌≡◌, false, ◌≤◌, length};
