@@ -1,12 +1,12 @@
 -- What each program prints: the room suffices, and the parts make the whole. Two of them are loops, over the pieces of a reading and
 -- over the lines of a file.
-use mathlib.Core.Path.{◌≡◌, refl, sym, ap, subst, ◌∙◌}
+use mathlib.Core.Path.{◌≡◌, refl, sym, ap, ap₂, subst, ◌∙◌}
+use mathlib.Core.Logic.{◌⊎◌, ⊎_elim}
 use mathlib.Core.List.{List, [], ◌∷◌, ◌++◌, append-nil, append_assoc}
-use Prim.Native.Nat.{ℕ, suc, ◌+◌, ◌*◌, ◌≤◌, ◌<◌}
+use Prim.Native.Nat.{ℕ, suc, ◌+◌, ◌*◌, ◌≤◌}
 use native.Mathlib.Omega.{arith}
-use native.Mathlib.Numerals.{add-one}
-use lib.ListN.{length, get_or, take, drop, drop_of_length-le, length-append, take-append-drop}
-use lib.Seq.{drop-cons, drop-append-le, length-take-le}
+use lib.ListN.{length, take, drop, length-append, take-append-drop}
+use lib.Seq.{drop-append-le, length-take-le}
 use Rattle.model.specs.declared.Checked.{Checked}
 use Rattle.model.specs.declared.Fitted.{Fitted}
 use Rattle.model.specs.declared.Ran.{Ran}
@@ -125,37 +125,37 @@ left_more done s rest all e = append_assoc done s rest ∙ e
 
 -- ---- the pieces
 
--- the first i pieces are there
-pub record Piecing (o : Bytes) (w : ℕ) (ss ls : List ℕ) (i k : ℕ) (o' : Bytes) : Type 0 where
+-- some pieces are there; the starts ss' and the lengths ls' are left
+pub record Piecing (o : Bytes) (w : ℕ) (ss ls ss' ls' : List ℕ) (k : ℕ) (o' : Bytes) : Type 0 where
   pub done : Bytes
   pub prints : Prints o w done k o'
-  pub rest : done ++ piece_row (drop i ss) (drop i ls) ≡ piece_row ss ls
+  pub rest : done ++ piece_row ss' ls' ≡ piece_row ss ls
 
-pub piecing_none : {o : Bytes} {w : ℕ} {ss ls : List ℕ} → RoomFor o w (piece_row ss ls) → Piecing o w ss ls 0 w o
-piecing_none h = record { done = []; prints = prints_none (omega (arith, h.fits)); rest = refl }
+pub piecing_none : {o : Bytes} {w : ℕ} {ss ls ss' ls' : List ℕ} → RoomFor o w (piece_row ss ls) → ss' ≡ ss → ls' ≡ ls → Piecing o w ss ls ss' ls' w o
+piecing_none h e f = record { done = []; prints = prints_none (omega (arith, h.fits)); rest = ap₂ piece_row e f }
 
-module _ {o : Bytes} {w : ℕ} {ss ls : List ℕ} {i k : ℕ} {o' : Bytes} (p : Piecing o w ss ls i k o') where
-  -- the next piece, and those after it
-  next_piece : i < length ss → i < length ls → p.done ++ ((spaced (get_or ss i 0) ++ spaced (get_or ls i 0)) ++ piece_row (drop (suc i) ss) (drop (suc i) ls)) ≡ piece_row ss ls
-  unfolding piece_row
-  next_piece h g =
-      ap (λ (x : List ℕ). p.done ++ piece_row x (get_or ls i 0 ∷ drop (suc i) ls)) (sym (drop-cons ss i 0 h))
-      ∙ ap (λ (x : List ℕ). p.done ++ piece_row (drop i ss) x) (sym (drop-cons ls i 0 g)) ∙ p.rest
+-- where no start is left, or no length, no piece is
+no_pieces : (xs ys : List ℕ) → (length xs ≡ 0) ⊎ (length ys ≡ 0) → piece_row xs ys ≡ []
+unfolding piece_row
+no_pieces [] ys g = refl
+no_pieces (x ∷ xs) [] g = refl
+no_pieces (x ∷ xs) (y ∷ ys) g = absurd (⊎_elim (λ (a : suc (length xs) ≡ 0). omega arith) (λ (b : suc (length ys) ≡ 0). omega arith) g)
 
-  pub piece_room : RoomFor o w (piece_row ss ls) → i < length ss → i < length ls → RoomFor o' k (spaced (get_or ss i 0) ++ spaced (get_or ls i 0))
-  piece_room h a b = left_room _ _ h p.prints (next_piece a b)
+module _ {o : Bytes} {w : ℕ} {ss ls ss' ls' : List ℕ} {k : ℕ} {o' : Bytes} (p : Piecing o w ss ls ss' ls' k o') where
+  module _ {s l : ℕ} {ss″ ls″ : List ℕ} (a : ss' ≡ s ∷ ss″) (b : ls' ≡ l ∷ ls″) where
+    -- the next piece, and those after it
+    next_piece : p.done ++ ((spaced s ++ spaced l) ++ piece_row ss″ ls″) ≡ piece_row ss ls
+    unfolding piece_row
+    next_piece = ap₂ (λ (x y : List ℕ). p.done ++ piece_row x y) (sym a) (sym b) ∙ p.rest
 
-  pub piecing_more : {k₁ : ℕ} {o₁ : Bytes} → i < length ss → i < length ls → Prints o' k (spaced (get_or ss i 0) ++ spaced (get_or ls i 0)) k₁ o₁ → Piecing o w ss ls (i + 1) k₁ o₁
-  piecing_more a b q = record {
-    done = p.done ++ (spaced (get_or ss i 0) ++ spaced (get_or ls i 0));
-    prints = prints_more p.prints q;
-    rest = rw add-one (left_more p.done _ _ _ (next_piece a b));
-  }
+    pub piece_room : RoomFor o w (piece_row ss ls) → RoomFor o' k (spaced s ++ spaced l)
+    piece_room h = left_room _ _ h p.prints next_piece
 
-  pub piecing_all : length ss ≤ i → Prints o w (piece_row ss ls) k o'
-  unfolding piece_row
-  piecing_all h =
-      prints_as (sym (append-nil p.done) ∙ ap (λ (x : List ℕ). p.done ++ piece_row x (drop i ls)) (sym (drop_of_length-le ss {i = i} h)) ∙ p.rest) p.prints
+    pub piecing_more : {k₁ : ℕ} {o₁ : Bytes} → Prints o' k (spaced s ++ spaced l) k₁ o₁ → Piecing o w ss ls ss″ ls″ k₁ o₁
+    piecing_more q = record { done = p.done ++ (spaced s ++ spaced l); prints = prints_more p.prints q; rest = left_more p.done _ _ _ next_piece }
+
+  pub piecing_all : (length ss' ≡ 0) ⊎ (length ls' ≡ 0) → Prints o w (piece_row ss ls) k o'
+  piecing_all h = prints_as (sym (append-nil p.done) ∙ ap (λ (x : Bytes). p.done ++ x) (sym (no_pieces ss' ls' h)) ∙ p.rest) p.prints
 
 -- ---- the lines of a file
 

@@ -126,14 +126,13 @@ pub fn print_check(out: &mut [u8], at: usize, name: &[u8], text: &[u8]) -> usize
 }
 
 // Start and length of each piece.
-#[tactic(auto, using(crate::proofs::Rows::piecing_none, crate::proofs::Rows::piecing_more))]
 fn add_pieces(out: &mut [u8], at: usize, starts: [u64; 9], lens: [u64; 9]) -> usize
     requires { RoomFor out.old at (piece_row starts lens) }
     ensures { Prints out.old at (piece_row starts lens) result out.new }
 {
     let mut w = at;
-    for i in 0..9 {
-        w = add_pair(out, w, starts[i], lens[i]);
+    for (&start, &len) in starts.iter().zip(&lens) {
+        w = add_pair(out, w, start, len);
     }
     w
 }
