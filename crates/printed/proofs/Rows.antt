@@ -3,19 +3,26 @@
 use mathlib.Core.Path.{◌≡◌, refl, sym, ap, ap₂, subst, ◌∙◌}
 use mathlib.Core.Logic.{◌⊎◌, ⊎_elim}
 use mathlib.Core.List.{List, [], ◌∷◌, ◌++◌, append-nil, append_assoc}
-use Prim.Native.Nat.{ℕ, suc, ◌+◌, ◌*◌, ◌≤◌}
+use Prim.Native.Nat.{ℕ, zero, suc, ◌+◌, ◌*◌, ◌≤◌, ◌<◌, min}
+use lib.Dec.{eqb}
+use Rattle.std.specs.List.{IsFirstMatchOrLen}
+use Rattle.std.specs.Option.{MatchOption, unwrap_or}
+use Rattle.std.specs.Prelude.{Bool, true, false, ◌&&◌, ◌-◌, Option, None, Some}
+use Rattle.std.proofs.Common.{Bor, true≢false}
+use Rattle.std.proofs.lemmas.List.{take-append-le}
+use lib.Pointwise.{pointwise}
+use Rattle.std.proofs.lemmas.List.Sums.{position_or_len_is}
 use native.Mathlib.Omega.{arith}
-use lib.ListN.{length, take, drop, length-append, take-append-drop}
-use lib.Seq.{drop-append-le, length-take-le}
+use lib.ListN.{length, get_or, take, drop, drop_of_length-le, length-append, take-append-drop}
+use lib.Seq.{drop-cons, drop-append-le, length-take-le, take-length}
 use Rattle.model.specs.declared.Checked.{Checked}
 use Rattle.model.specs.declared.Fitted.{Fitted}
 use Rattle.model.specs.declared.Ran.{Ran}
-use Rattle.model.specs.Text.{Bytes, part, lines}
+use Rattle.model.specs.Text.{Bytes, up_to, lines}
 use Rattle.model.specs.Machine.{rooms, Result}
 use Rattle.model.specs.Results.{check_text, fit_of_line, run_text, ran_as}
 use Rattle.model.specs.Runs.{Runs}
-use Rattle.scan.specs.Lines.{LineAt}
-use Rattle.scan.proofs.Lines.{lines_none}
+use Rattle.scan.proofs.Lines.{lines_first, up_to_long, up_to_front}
 use Rattle.model.specs.Printed.{spaced, end_row, expand_runs, run_printed, expand_prints, expand_writes, expand_reports, check_row, piece_row, fit_row, fit_rows, fit_prints}
 use Rattle.model.proofs.Printed.{end-row-long, check-row-long, fit_prints_long}
 use Rattle.rendering.specs.Prints.{RoomFor, Prints}
@@ -162,38 +169,119 @@ module _ {o : Bytes} {w : ℕ} {ss ls ss' ls' : List ℕ} {k : ℕ} {o' : Bytes}
 fits_room : {o : Bytes} (text file : Bytes) → 51 * (length file + 1) ≤ length o → RoomFor o 0 (fit_prints text file)
 fits_room text file h = record { fits = omega (arith, fit_prints_long text file) }
 
--- the rows of the lines before place `at` are there
-pub record Rowing (text file o : Bytes) (at k : ℕ) (o' : Bytes) : Type 0 where
+-- the rows of some lines are there; the bytes `left` of the file are left
+pub record Rowing (text file o left : Bytes) (k : ℕ) (o' : Bytes) : Type 0 where
   pub done : Bytes
   pub prints : Prints o 0 done k o'
-  pub rest : done ++ fit_rows text (lines (drop at file)) ≡ fit_prints text file
-  pub within : at ≤ length file
+  pub rest : done ++ fit_rows text (lines left) ≡ fit_prints text file
 
-pub rowing_none : {text file o : Bytes} → Rowing text file o 0 0 o
+pub rowing_none : {text file o left : Bytes} → left ≡ file → Rowing text file o left 0 o
 unfolding fit_prints
-rowing_none = record { done = []; prints = prints_none (omega arith); rest = refl; within = omega arith }
+rowing_none {text} e = record { done = []; prints = prints_none (omega arith); rest = ap (λ (l : Bytes). fit_rows text (lines l)) e }
 
-module _ {text file o : Bytes} {at k : ℕ} {o' : Bytes} (p : Rowing text file o at k o') {end next : ℕ} (l : LineAt file at end next) {f : Fitted}
-    (e : f ≡ fit_of_line 2048 51456 text (part file at end)) where
+-- the line x comes first of what is left, and left' is left then
+pub record Cuts (left x left' : Bytes) : Type 0 where
+  pub is : lines left ≡ x ∷ lines left'
+
+module _ {text file o left : Bytes} {k : ℕ} {o' : Bytes} (p : Rowing text file o left k o') {x left' : Bytes} (l : Cuts left x left') {f : Fitted}
+    (e : f ≡ fit_of_line 2048 51456 text x) where
   -- the next row, and those after it
-  next_row : p.done ++ (fit_row f ++ fit_rows text (lines (drop next file))) ≡ fit_prints text file
+  next_row : p.done ++ (fit_row f ++ fit_rows text (lines left')) ≡ fit_prints text file
   unfolding fit_rows
   next_row =
-      ap (λ (x : Fitted). p.done ++ (fit_row x ++ fit_rows text (lines (drop next file)))) e
-      ∙ ap (λ (x : List Bytes). p.done ++ fit_rows text x) (sym l.is) ∙ p.rest
+      ap (λ (y : Fitted). p.done ++ (fit_row y ++ fit_rows text (lines left'))) e
+      ∙ ap (λ (y : List Bytes). p.done ++ fit_rows text y) (sym l.is) ∙ p.rest
 
   pub row_room : 51 * (length file + 1) ≤ length o → RoomFor o' k (fit_row f)
   row_room h = left_room (fit_row f) _ (fits_room text file h) p.prints next_row
 
-  pub rowing_more : {k₁ : ℕ} {o₁ : Bytes} → Prints o' k (fit_row f) k₁ o₁ → Rowing text file o next k₁ o₁
-  rowing_more q = record {
-    done = p.done ++ fit_row f;
-    prints = prints_more p.prints q;
-    rest = left_more p.done _ _ _ next_row;
-    within = l.within;
-  }
+  pub rowing_more : {k₁ : ℕ} {o₁ : Bytes} → Prints o' k (fit_row f) k₁ o₁ → Rowing text file o left' k₁ o₁
+  rowing_more q = record { done = p.done ++ fit_row f; prints = prints_more p.prints q; rest = left_more p.done _ _ _ next_row }
 
-pub rowing_all : {text file o : Bytes} {at k : ℕ} {o' : Bytes} → Rowing text file o at k o' → length file ≤ at → Prints o 0 (fit_prints text file) k o'
-unfolding fit_rows
-rowing_all {text} {file} {at = at} p h =
-    prints_as (sym (append-nil p.done) ∙ ap (λ (x : List Bytes). p.done ++ fit_rows text x) (sym (lines_none file at h)) ∙ p.rest) p.prints
+-- where no byte is left, no row is
+no_rows : (text l : Bytes) → length l ≡ 0 → fit_rows text (lines l) ≡ []
+unfolding fit_rows lines
+no_rows text [] g = refl
+no_rows text (b ∷ l) g = absurd (omega arith)
+
+pub rowing_all : {text file o left : Bytes} {k : ℕ} {o' : Bytes} → Rowing text file o left k o' → length left ≡ 0 → Prints o 0 (fit_prints text file) k o'
+rowing_all {text} {left = left} p h = prints_as (sym (append-nil p.done) ∙ ap (λ (x : Bytes). p.done ++ x) (sym (no_rows text left h)) ∙ p.rest) p.prints
+
+-- a list without its front, and perhaps with less
+drop_past : (x rest : Bytes) (n : ℕ) → length x ≤ n → (length x < n → length rest ≡ 0) → drop n (x ++ rest) ≡ rest
+drop_past [] rest zero h g = refl
+drop_past [] [] (suc n) h g = refl
+drop_past [] (b ∷ r) (suc n) h g = absurd (omega (arith, g (omega arith)))
+drop_past (b ∷ x) rest zero h g = absurd (omega arith)
+drop_past (b ∷ x) rest (suc n) h g = drop_past x rest n (omega arith) (λ k. g (omega arith))
+
+-- the front of a whole
+get_front : (x rest : Bytes) (k d : ℕ) → k < length x → get_or (x ++ rest) k d ≡ get_or x k d
+get_front [] rest k d h = absurd (omega arith)
+get_front (b ∷ x) rest zero d h = refl
+get_front (b ∷ x) rest (suc k) d h = get_front x rest k d (omega arith)
+
+le_unless : (a b : ℕ) → (a < b → suc zero ≤ zero) → b ≤ a
+le_unless a zero f = omega arith
+le_unless zero (suc b) f = absurd (omega (arith, f (omega arith)))
+le_unless (suc a) (suc b) f = let r : b ≤ a = le_unless a b (λ h. f (omega arith)) in omega arith
+
+and_true : (b : Bool) → b && true ≡ b
+and_true true = refl
+and_true false = refl
+
+-- what std's split_inclusive gives: a part x of what is left, past its first byte 10, at i, or to the end
+module _ (left left' x : Bytes) (i : ℕ) (e : left ≡ x ++ left') (n : length x ≡ min (i + 1) (length left)) (z : 0 < length left) (m : IsFirstMatchOrLen (λ b. eqb b 10) left i) where
+  long : length left ≡ length x + length left'
+  long = ap length e ∙ length-append x left'
+
+  first_long : length (up_to 10 left) ≡ min i (length left)
+  first_long =
+      up_to_long 10 left ∙ position_or_len_is (λ b. eqb b 10) left (min i (length left)) 0 (omega arith) (λ k h. m.0 k 0 (omega arith) (omega arith))
+      (λ h. let q : min i (length left) ≡ i = omega arith in rw q (m.1 (omega arith) 0))
+
+  pub cuts_first : Cuts left (up_to 10 left) left'
+  cuts_first =
+      let l : length left ≡ length x + length left' = long in
+      let f : length (up_to 10 left) ≡ min i (length left) = first_long in
+      record {
+        is = lines_first left z ∙ ap (λ (y : Bytes). up_to 10 left ∷ lines y)
+            (ap (λ (y : Bytes). drop (suc (length (up_to 10 left))) y) e ∙ drop_past x left' (suc (length (up_to 10 left))) (omega arith) (λ h. omega arith));
+      }
+
+  -- the test of its last byte
+  last_is : pointwise eqb (drop (length x - 1) x) (10 ∷ []) ≡ eqb (get_or left (length x - 1) 0) 10
+  last_is =
+      let h : length x - 1 < length x = omega (arith, long) in
+      let a = drop-cons x (length x - 1) 0 h in
+      let b : drop (suc (length x - 1)) x ≡ [] = drop_of_length-le x {i = suc (length x - 1)} (omega arith) in
+      ap (λ (y : Bytes). pointwise eqb y (10 ∷ [])) (a ∙ ap (λ (y : Bytes). get_or x (length x - 1) 0 ∷ y) b)
+      ∙ and_true (eqb (get_or x (length x - 1) 0) 10)
+      ∙ ap (λ (y : ℕ). eqb y 10) (sym (get_front x left' (length x - 1) 0 h) ∙ sym (ap (λ (y : Bytes). get_or y (length x - 1) 0) e))
+
+  front : (k : ℕ) → length (up_to 10 left) ≡ k → k ≤ length x → up_to 10 left ≡ take k x
+  front k q h = up_to_front 10 left ∙ ap (λ (j : ℕ). take j left) q ∙ ap (λ (y : Bytes). take k y) e ∙ take-append-le k x left' h
+
+  -- without its byte 10 it is the first line
+  strip_some : pointwise eqb (drop (length x - 1) x) (10 ∷ []) ≡ true → take (length x - 1) x ≡ up_to 10 left
+  strip_some t =
+      let l : length left ≡ length x + length left' = long in
+      sym (front (length x - 1) (up_to_long 10 left ∙ position_or_len_is (λ b. eqb b 10) left (length x - 1) 0 (omega arith) (λ k h. m.0 k 0 (omega arith) (omega arith)) (λ h. sym last_is ∙ t)) (omega arith))
+
+  -- and so it is where it has none
+  strip_none : pointwise eqb (drop (length x - 1) x) (10 ∷ []) ≡ false → x ≡ up_to 10 left
+  strip_none t =
+      let l : length left ≡ length x + length left' = long in
+      let f : length (up_to 10 left) ≡ min i (length left) = first_long in
+      let k : i < length left → suc zero ≤ zero = λ h.
+      let q : length x - 1 ≡ i = omega arith in
+      let u : eqb (get_or left (length x - 1) 0) 10 ≡ true = rw q (m.1 h 0) in
+      absurd (true≢false (sym u ∙ sym last_is ∙ t)) in
+      let g : length left ≤ i = le_unless i (length left) k in
+      sym (front (length x) (omega arith) (omega arith) ∙ take-length x)
+
+  pub stripped : (o : Option (Bor Bytes)) (y : Bor Bytes) → y.now ≡ x
+      → MatchOption o (pointwise eqb (drop (length x - 1) x) (10 ∷ []) ≡ false) (λ v. (pointwise eqb (drop (length x - 1) x) (10 ∷ []) ≡ true) × (v.now ≡ take (length x - 1) x) × (length v.now + 1 ≡ length x))
+      → (unwrap_or o y).now ≡ up_to 10 left
+  stripped None y g c = g ∙ strip_none c
+  stripped (Some v) y g c = c.1 ∙ strip_some c.0

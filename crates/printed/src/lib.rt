@@ -10,7 +10,6 @@ ghost use Rattle.printed.specs.Leaves.{Leaves};
 
 use model::{Checked, FUEL_MOST, Fitted, Ran, STORE_LEAST, TEXT_MOST};
 use rendering::{add_bytes, add_decimal};
-use scan::read_line;
 
 // The room for what expand prints: all of a run's output, and its end in at most 67 bytes.
 pub const EXPAND_ROOM: usize = 65603;
@@ -148,18 +147,18 @@ fn add_fitted(out: &mut [u8], at: usize, f: Fitted) -> usize
     add_counts(out, counts, f.places, f.bytes)
 }
 
-// What fit_line prints for a text and a file of lines. The loop stays a while: it goes from line to line, and counts no index.
-#[tactic(auto, using(crate::proofs::Rows::rowing_none, crate::proofs::Rows::rowing_more))]
+// What fit_line prints for a text and a file of lines.
 pub fn print_fits(text: &[u8], file: &[u8], out: &mut [u8]) -> usize
     requires { 51 * (length file.now + 1) ≤ length out.old }
     ensures { Prints out.old 0 (fit_prints text.now file.now) result out.new }
 {
     let mut w = 0;
-    let mut at = 0;
-    while at < file.len() {
-        let line = read_line(file, at);
-        w = add_fitted(out, w, with_row::fit(text, &file[at..line.end]));
-        at = line.next;
+    for line in file.split_inclusive(|b| *b == b'\n') {
+        w = add_fitted(
+            out,
+            w,
+            with_row::fit(text, line.strip_suffix(b"\n").unwrap_or(line)),
+        );
     }
     w
 }
