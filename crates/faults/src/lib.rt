@@ -85,10 +85,10 @@ impl From<RunFault> for Fault {
     }
 }
 
-impl From<LoadFault> for usize {
+impl From<LoadFault> for u64 {
     ghost from_gives = { λ fault number. number ≡ load_number fault };
 
-    fn from(fault: LoadFault) -> usize
+    fn from(fault: LoadFault) -> u64
         ensures { result ≡ load_number fault }
     {
         match fault {
@@ -104,10 +104,10 @@ impl From<LoadFault> for usize {
     }
 }
 
-impl From<RunFault> for usize {
+impl From<RunFault> for u64 {
     ghost from_gives = { λ fault number. number ≡ run_number fault };
 
-    fn from(fault: RunFault) -> usize
+    fn from(fault: RunFault) -> u64
         ensures { result ≡ run_number fault }
     {
         match fault {
@@ -126,10 +126,10 @@ impl From<RunFault> for usize {
     }
 }
 
-impl From<Fault> for usize {
+impl From<Fault> for u64 {
     ghost from_gives = { λ fault number. number ≡ fault_number fault };
 
-    fn from(fault: Fault) -> usize
+    fn from(fault: Fault) -> u64
         ensures { result ≡ fault_number fault }
     {
         match fault {

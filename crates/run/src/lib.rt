@@ -38,7 +38,7 @@ pub fn refuse(fault: Fault, line: usize) -> Ran
     ensures { result ≡ ran_as (no_run (fault_number fault) line) }
 {
     Ran {
-        number: usize::from(fault) as u64,
+        number: fault.into(),
         line: line as u64,
         events: 0,
         output: 0,
@@ -66,7 +66,7 @@ fn start(loaded: Loaded, fuel: usize) -> State
 }
 
 // Document 01's number for how a run ended, as C callers read it: 0 where no fault ended it.
-fn number_end(ended: Result<Turn, RunFault>) -> usize
+fn number_end(ended: Result<Turn, RunFault>) -> u64
     ensures { result ≡ end_number ended }
 {
     match ended {
@@ -83,7 +83,7 @@ fn end(ended: Result<Turn, RunFault>, reported: usize, s: &State, store: &mut [u
     let n = s.store.list(store);
     // C callers read u64, of which From makes none of a count
     Ran {
-        number: number_end(ended) as u64,
+        number: number_end(ended),
         line: s.line as u64,
         events: s.events as u64,
         output: s.written as u64,

@@ -62,7 +62,7 @@ fn check_in(text: &[u8]) -> Checked
             line: loaded.line as u64,
         },
         Err(refused) => Checked {
-            number: usize::from(refused.fault) as u64,
+            number: refused.fault.into(),
             line: refused.line as u64,
         },
     }
@@ -74,7 +74,7 @@ pub fn check(text: &[u8], nodes: &mut [Node]) -> Checked
 {
     if is_short(nodes.len()) {
         return Checked {
-            number: usize::from(Fault::Illegal) as u64,
+            number: Fault::Illegal.into(),
             line: 0,
         };
     }
@@ -87,7 +87,7 @@ fn no_pieces(fault: Fault, line: usize) -> Fitted
 {
     // u64, as in widen_nine; by hand, since Default says of an array what each element is, and the answer is told as a whole
     Fitted {
-        number: usize::from(fault) as u64,
+        number: fault.into(),
         line: line as u64,
         start: [0; 9],
         length: [0; 9],

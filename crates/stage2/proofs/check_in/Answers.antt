@@ -6,4 +6,4 @@ pub returns-in-Ok : goal.returns-in-Ok
 returns-in-Ok c = checked-loaded c.load.ensures c.in-Ok.is
 
 pub returns-in-Err : goal.returns-in-Err
-returns-in-Err c = checked-refused c.load.ensures c.in-Err.is c.from.ensures
+returns-in-Err c = checked-refused c.load.ensures c.in-Err.is c.into.ensures
