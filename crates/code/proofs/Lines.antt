@@ -14,7 +14,7 @@ use Rattle.model.specs.declared.Marks.{Marks}
 use Rattle.model.specs.declared.Effect.{Effect}
 use Rattle.model.proofs.Choices.{when_true, when_false}
 use Rattle.std.specs.Prelude.{Option, Some, None, unwrap_or}
-use Rattle.std.proofs.lemmas.List.{nil_from_length, take_rest, drop-drop}
+use Rattle.std.proofs.lemmas.List.{nil_from_length, take_rest, drop-drop, get_or-drop}
 use Rattle.code.specs.declared.Part.{Part}
 use Rattle.code.specs.declared.Part.TheVariants.{Byte}
 use Rattle.code.specs.declared.Ending.{Ending}
@@ -62,6 +62,10 @@ module _ (line : Bytes) (at : ℕ) where
   pub behind : (n : ℕ) → drop n here ≡ drop (at + n) line
   behind n = ap (λ s. drop n s) (take_rest line at) ∙ drop-drop n at line
 
+  -- the first one
+  pub leads : get_or here 0 0 ≡ get_or line at 0
+  leads = ap (λ s. get_or s 0 0) (take_rest line at) ∙ get_or-drop at line 0 0 ∙ ap (λ i. get_or line i 0) (omega arith)
+
   pub after : take (length here - 3) (drop 3 here) ≡ drop (at + 3) line
   after = take_rest here 3 ∙ behind 3
 
@@ -90,10 +94,11 @@ module _ {m : Marks} {line : Bytes} {at : ℕ} where
         ranged = (tt, (omega arith, omega arith));
       }
 
-  pub token_short : 1 ≤ length (here line at) → get_or (here line at) 0 0 ≡ m.escape → length (here line at) < 3 → ReadsToken m line at (Ends Malformed)
+  pub token_short : at < length line → get_or line at 0 ≡ m.escape → length (here line at) < 3 → ReadsToken m line at (Ends Malformed)
   token_short h e l =
+      let k : 1 ≤ length (here line at) = omega (arith, length-drop at line, ap length (take_rest line at)) in
       record {
-        is = parsed m line at (first_is _ h) ∙ parse_short m (eqb at 0) _ _ (eq-eqb _ _ e) (omega (arith, length-drop 1 (here line at)));
+        is = parsed m line at (first_is _ k) ∙ parse_short m (eqb at 0) _ _ (eq-eqb _ _ (leads line at ∙ e)) (omega (arith, length-drop 1 (here line at)));
         ranged = tt;
       }
 
@@ -121,10 +126,10 @@ module _ (m : Marks) (line : Bytes) (at : ℕ) where
       ∙ ap (λ x. Code.function m x (get_or (here line at) 2 0) (drop (at + 3) line)) z
       ∙ ap (λ s. Code.function m first (get_or (here line at) 2 0) s) (sym (after line at))
 
-  module _ (l : 3 ≤ length (here line at)) (e : get_or (here line at) 0 0 ≡ m.escape) where
+  module _ (l : 3 ≤ length (here line at)) (e : get_or line at 0 ≡ m.escape) where
     form_is : {f : Code.Form} → form_here ≡ f → Code.parse m (eqb at 0) (drop at line) ≡ formed m (eqb at 0) f (drop (at + 3) line)
     form_is q =
-        parsed m line at (three (here line at) l) ∙ parse-form m (eqb at 0) _ _ _ _ (eq-eqb _ _ e)
+        parsed m line at (three (here line at) l) ∙ parse-form m (eqb at 0) _ _ _ _ (eq-eqb _ _ (leads line at ∙ e))
         ∙ ap (λ s. formed m (eqb at 0) (Code.form m (eqb at 0) (get_or (here line at) 1 0) (get_or (here line at) 2 0) s) s) (after line at)
         ∙ ap (λ g. formed m (eqb at 0) g (drop (at + 3) line)) q
 
@@ -143,7 +148,7 @@ module _ (m : Marks) (line : Bytes) (at : ℕ) where
     token_function first w z f s q =
         subst (λ (x : Ending). ReadsToken m line at (Ends x)) (sym q) (record { is = form_is (function_is first w z ∙ s.is ∙ ap Code.ends (said_is line f)); ranged = says_ranged f s })
 
-module _ {m : Marks} {line : Bytes} {at : ℕ} (l : 3 ≤ length (here line at)) (e : get_or (here line at) 0 0 ≡ m.escape) where
+module _ {m : Marks} {line : Bytes} {at : ℕ} (l : 3 ≤ length (here line at)) (e : get_or line at 0 ≡ m.escape) where
   pub token_form : {f : Option Token} {r : Token} → (at + 3 ≤ length line → Forms line (at + 3) (form_here m line at) f) → r ≡ unwrap_or f (Ends Malformed) → ReadsToken m line at r
   token_form {f} g q = subst (λ (x : Token). ReadsToken m line at x) (sym q) (token_formed m line at l e f (g (long line at l (omega arith))))
 

@@ -1,7 +1,7 @@
 // What a code line says, read token by token: bytes and conversions that build a line, then what is done at its end.
 #![tactic(auto)]
 
-ghost use Rattle.std.specs.Prelude.{◌≡◌, ◌≢◌, Bool, true, false, List, ℕ, ◌≤◌, length, drop};
+ghost use Rattle.std.specs.Prelude.{◌≡◌, ◌≢◌, Bool, true, false, List, ℕ, ◌≤◌, ◌<◌, length, get_or, drop};
 ghost use Rattle.model.specs.declared.Marks.{Marks};
 ghost use Rattle.model.specs.Code.{effect_of, channel_of, conversion_of, text_test, value_test, function, conversion, form, skip_text, skip_value};
 ghost use Rattle.code.specs.Tokens.{ending_of, found, said, Parameter, Says, Forms, ReadsToken, ReadsEnding, Affects};
@@ -60,7 +60,7 @@ fn read_channel(rest: &[u8]) -> Option<Channel>
     }
 }
 
-// The test of F5: 0 for equal texts, 1 for unequal ones.
+// The test of F5: 0 for equal texts, 1 for unequal ones. It is a bool, since document 01's ending says whether the texts are to be equal.
 #[tactic(auto, unfolding(model::specs::Code::text_test))]
 fn read_text_test(rest: &[u8]) -> Option<bool>
     ensures { said skip_text result ≡ text_test rest.now }
@@ -149,7 +149,6 @@ fn read_conversion(d: usize, b: u8, at: usize) -> Option<Token>
 }
 
 // The two bytes after an escape, of which the first is no F; what follows them starts at `at`.
-#[inline(always)]
 #[tactic(auto, unfolding(model::specs::Code::form, model::specs::Text::is_digit))]
 fn read_form(a: u8, b: u8, at: usize) -> Option<Token>
     ensures { (m : Marks) (first : Bool) (line : List ℕ) → a ≢ 70 → at ≤ length line → Forms line at (form m first a b (drop at line)) result }
@@ -158,6 +157,25 @@ fn read_form(a: u8, b: u8, at: usize) -> Option<Token>
         (b'0', b'0'..=b'9') => Some(Token::Has(Part::Serial(usize::from(b - b'0')), at)),
         (b'1'..=b'9', _) => read_conversion(usize::from(a - b'0'), b, at),
         _ => None,
+    }
+}
+
+// What an escape at `at` of a code line begins. What the arms hold is cleared where a function starts: in read_token that would be at each
+// byte of a line, and here it is at an escape.
+#[inline(always)]
+fn read_escaped(m: Marks, line: &[u8], at: usize) -> Token
+    requires { (at < length line.now) × (get_or line.now at 0 ≡ m.escape) }
+    ensures { ReadsToken m line.now at result }
+{
+    match &line[at..] {
+        [_, b'F', b, rest @ ..] if at == 0 => {
+            Token::Ends(read_first_function(m, *b, rest).unwrap_or(Ending::Malformed))
+        }
+        [_, b'F', b, rest @ ..] => {
+            Token::Ends(read_later_function(*b, rest).unwrap_or(Ending::Malformed))
+        }
+        [_, a, b, ..] => read_form(*a, *b, at + 3).unwrap_or(Token::Ends(Ending::Malformed)),
+        _ => Token::Ends(Ending::Malformed),
     }
 }
 
@@ -172,14 +190,7 @@ pub fn read_token(m: Marks, line: &[u8], at: usize) -> Token
     match &line[at..] {
         [] => Token::Ends(Ending::Offer),
         [x, ..] if *x != m.escape => Token::Has(Part::Byte(*x), at + 1),
-        [_, b'F', b, rest @ ..] if at == 0 => {
-            Token::Ends(read_first_function(m, *b, rest).unwrap_or(Ending::Malformed))
-        }
-        [_, b'F', b, rest @ ..] => {
-            Token::Ends(read_later_function(*b, rest).unwrap_or(Ending::Malformed))
-        }
-        [_, a, b, ..] => read_form(*a, *b, at + 3).unwrap_or(Token::Ends(Ending::Malformed)),
-        _ => Token::Ends(Ending::Malformed),
+        _ => read_escaped(m, line, at),
     }
 }
 

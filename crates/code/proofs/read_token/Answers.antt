@@ -1,6 +1,6 @@
--- read_token: a byte, or the form that an escape begins.
+-- read_token: a byte, or what an escape begins.
 use borrow.Author.Rules.{rules}
-use Rattle.code.proofs.Lines.{token_end, token_byte, token_short, token_first, token_later, token_form}
+use Rattle.code.proofs.Lines.{token_end, token_byte}
 use Rattle.code.proofs.read_token.Goals as goal
 
 pub returns-in-empty : goal.returns-in-empty
@@ -8,15 +8,3 @@ returns-in-empty c = search (token_end, rules)
 
 pub returns-in-len1-up : goal.returns-in-len1-up
 returns-in-len1-up c = search (token_byte, rules)
-
-pub returns-in_default : goal.returns-in_default
-returns-in_default c = search (token_short, rules)
-
-pub returns-in-70 : goal.returns-in-70
-returns-in-70 c = search (token_first, c.read_first_function.ensures, rules)
-
-pub returns-in-70-2 : goal.returns-in-70-2
-returns-in-70-2 c = search (token_later, c.read_later_function.ensures, rules)
-
-pub returns-in-len3-up : goal.returns-in-len3-up
-returns-in-len3-up c = search (token_form, c.read_form.ensures, rules)
