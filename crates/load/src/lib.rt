@@ -36,6 +36,7 @@ pub struct Loaded {
 #[derive(Clone, Copy)]
 pub struct Refused {
     pub fault: LoadFault,
+    // 0 is the text as a whole: document 01's number, which C reads
     pub line: usize,
 }
 
@@ -47,7 +48,7 @@ enum Next {
     Layout(usize),
 }
 
-// A line of the section.
+// A line of the section. Its places stand beside its bytes, since the table borrows no text: it keeps where a template and a body start.
 #[derive(Clone, Copy)]
 struct SectionLine<'a> {
     // its number

@@ -7,7 +7,7 @@ ghost use Rattle.macros.specs.Table.{start_in, len_in, line_in, order_in, templa
 
 use model::MACROS_MOST;
 
-// What the table has of a macro.
+// What the table has of a macro: places in the text, since a table borrows none.
 #[derive(Clone, Copy, Default)]
 pub struct Entry {
     // where its template starts, and how long that is
@@ -26,6 +26,7 @@ pub struct Table {
     pub order: [usize; MACROS_MOST],
 }
 
+// A macro's number is an index of both arrays, and is counted and ordered: a type of its own would be made of a number, and read as one, at each use.
 impl Table {
     // Template k, which lies in the text.
     pub fn template<'a>(&self, text: &'a [u8], k: usize) -> &'a [u8]

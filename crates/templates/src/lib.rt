@@ -136,17 +136,22 @@ impl<'a> Ordered<'a> {
     {
         let key = self.key_in_order(from, d);
         let mut template = self.table.macro_at(from);
-        let mut end = from + 1;
-        // no range: it stops at the first other key, and the run's end is what is asked for
-        while end < to && self.key_in_order(end, d) == key {
+        for end in from + 1..to {
+            if self.key_in_order(end, d) != key {
+                return Pick {
+                    key,
+                    template,
+                    from,
+                    end,
+                };
+            }
             template = template.min(self.table.macro_at(end));
-            end += 1;
         }
         Pick {
             key,
             template,
             from,
-            end,
+            end: to,
         }
     }
 }
