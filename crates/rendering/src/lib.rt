@@ -1,11 +1,13 @@
 // Bytes and numbers added to a lent slice, one after another. Each function adds bytes from an offset on and answers where they end;
-// every other byte of the slice stays as it was. What is added has to have room.
+// every other byte of the slice stays as it was. What is added has to have room: RoomFor is the fact of no type, since each call asks it of
+// something else.
+// No Display and no Formatter: clauses here and above speak of the bytes of a lent slice, before and after.
 #![tactic(auto)]
 
 ghost use Rattle.model.specs.Store.{decimal};
 ghost use Rattle.rendering.specs.Prints.{RoomFor, Prints};
 
-use buffer::{copy, write_decimal};
+use buffer::copy;
 
 // Bytes as they are.
 // The slice and the offset stay two parameters: as a struct of a `&mut` slice each clause would name what lies behind its field.
@@ -17,13 +19,11 @@ pub fn add_bytes(out: &mut [u8], at: usize, bytes: &[u8]) -> usize
     at + bytes.len()
 }
 
-// A number in decimal.
-// Two parameters, as in add_bytes: a clause is about the whole slice, before and after.
+// A number in decimal. Two parameters, as in add_bytes.
 pub fn add_decimal(out: &mut [u8], at: usize, n: u64) -> usize
     requires { RoomFor out.old at (decimal n) }
     ensures { Prints out.old at (decimal n) result out.new }
 {
-    let mut digits = [0u8; 20];
-    let k = write_decimal(n, &mut digits);
-    add_bytes(out, at, &digits[0..k])
+    let mut digits = itoa::Buffer::new();
+    add_bytes(out, at, digits.format(n).as_bytes())
 }
