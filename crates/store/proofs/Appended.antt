@@ -47,7 +47,7 @@ grown {m} {x} {name} text k e =
     }
 
 pub appends : {m : List ℕ} {x : Index} {name text m1 m2 : List ℕ} {b c : ℕ} → Kept m x → Locates m x name None
-    → (x.count ≡ 256 → ⊥) → x.used + 2 + length name + length text ≤ 8194 + 2 * x.count
+    → (x.count ≡ 256 → ⊥) → x.used + 2 + length name + length text ≤ 8192 + 2 * (x.count + 1)
     → b ≡ length name → c ≡ length text
     → Pasted (set (set m x.used b) (x.used + 1) c) (x.used + 2) name (length name) m1
     → Pasted m1 (x.used + 2 + length name) text (length text) m2
@@ -83,7 +83,7 @@ no_more {m} {x} {name} {text} k e q =
     puts_full (too_many (put name text (held x.count m)) (omega arith))
 
 pub no_room : {m : List ℕ} {x : Index} {name text : List ℕ} {f : Full} → Kept m x → Locates m x name None → (x.count ≡ 256 → ⊥)
-    → 8194 + 2 * x.count < x.used + 2 + length name + length text → Puts m x name text m (Err f)
+    → 8192 + 2 * (x.count + 1) < x.used + 2 + length name + length text → Puts m x name text m (Err f)
 no_room {m} {x} {name} {text} k e q r =
     let w = grown text k e in
     let s = size-packed (put name text (held x.count m)) in

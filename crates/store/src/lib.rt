@@ -191,7 +191,7 @@ fn append_entry(memory: &mut [u8], index: Index, name: &[u8], text: &[u8]) -> Re
     let from = used + 2;
     let middle = from + name.len();
     let end = middle + text.len();
-    if 8194 + 2 * count < end {
+    if MEMORY_MOST + 2 * (count + 1) < end {
         return Err(Full);
     }
     // the `requires` says that both are below 256; what u8::try_from would refuse cannot be
