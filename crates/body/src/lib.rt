@@ -1,5 +1,5 @@
 // Passing over code lines of a body: for a skip, and past an iteration that makes no pass.
-// A place is where a call goes on, and the answer is the place that it keeps: the rest of the text as a slice would say less.
+// Places, and no slices of what is left: calls and the state keep them, and borrow nothing.
 #![tactic(auto)]
 
 ghost use Rattle.std.specs.Prelude.{◌≤◌, length};

@@ -44,7 +44,7 @@ impl Loader {
         requires { in_body self.old.next ≡ true }
         ensures { AddsCode m self.old line.now self.new result }
     {
-        let content = &line[..find_byte(line, 0, line.len(), m.code)];
+        let content = &line[..find_byte(line, 0, m.code)];
         if LINE_MOST < content.len() {
             return Err(LoadFault::LongContent);
         }

@@ -49,7 +49,7 @@ impl Loader {
         ensures { SeesLine marked.now.marks marked.now.text.now self.old line.now.nth line.now.bytes.now line.now.next self.new result }
     {
         let m = marked.marks;
-        let stop = find_byte(line.bytes, 0, line.bytes.len(), m.source);
+        let stop = find_byte(line.bytes, 0, m.source);
         let template = &line.bytes[..stop];
         let ordered = Ordered {
             mark: m.placeholder,

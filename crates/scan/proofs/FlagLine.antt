@@ -121,6 +121,3 @@ marks_tested {s} {b} k e h q = subst (λ (x : Option Marks). MarksAt s x) (sym q
 
 pub marks_legal : {s : Bytes} {r : Option Marks} {m : Marks} → MarksAt s r → r ≡ Some m → marks_of s ≡ Math.some m
 marks_legal h e = sym h.is ∙ ap flags_of e
-
-pub marks-fault : {s : Bytes} {r : Option Marks} → MarksAt s r → r ≡ None → marks_of s ≡ Math.none
-marks-fault h e = sym h.is ∙ ap flags_of e

@@ -52,10 +52,10 @@ up_to_long b s = is_position_or_len (λ l. length (up_to b l)) (λ x. eqb x b) r
     step x l = up_to_cases (λ (p : Bytes). length p ≡ cond (eqb x b) 0 (1 + length (up_to b l))) b x l (λ e. rw (eq-eqb x b e)) (λ f. rw (ne_eqb x b f, one-add))
 
 -- a byte occurs where std's test of each byte finds it
-pub any-has : (b : ℕ) (s : Bytes) → list_any (λ x. eqb x b) s ≡ has b s
+pub any_has : (b : ℕ) (s : Bytes) → list_any (λ x. eqb x b) s ≡ has b s
 unfolding has
-any-has b [] = refl
-any-has b (x ∷ s) = by (eqb x b) (any-has b s)
+any_has b [] = refl
+any_has b (x ∷ s) = by (eqb x b) (any_has b s)
   where
     by : (c : Bool) {y z : Bool} → y ≡ z → c || y ≡ (elim c as (λ _. Bool) [ true ↦ true | false ↦ z ])
     by true e = refl

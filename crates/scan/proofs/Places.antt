@@ -1,6 +1,6 @@
--- Why each function ensures what it does: the loops of find_byte, find_end and pass_line, and the answers of the others from what they call.
+-- Why each function ensures what it does: the loops of find_byte and find_end, and the answers of the others from what they call.
 use mathlib.Core.Path.{◌≡◌, refl, ap, sym, ◌∙◌, subst}
-use mathlib.Core.Bool.{Bool, true, false, ◌&&◌, not, cond}
+use mathlib.Core.Bool.{Bool, true, false, ◌&&◌, not}
 use mathlib.Core.List.{[], ◌∷◌}
 use Prim.Native.Nat.{ℕ, suc, ◌+◌, ◌-◌, ◌≤◌, ◌<◌, min}
 use native.Mathlib.Numerals.{add-one}
@@ -10,15 +10,14 @@ use lib.Dec.{eqb, ltb}
 use lib.ListN.{length, get_or, take, drop, drop_of_length-le}
 use lib.Seq.{drop-cons}
 use lib.Pointwise.{pointwise}
-use Rattle.std.specs.List.{position, position_or_len}
-use Rattle.std.specs.Prelude.{unwrap_or, Option, None, Some, MatchOption}
+use Rattle.std.specs.Prelude.{Option, None, Some, MatchOption}
 use Rattle.model.specs.declared.Marks.{Marks}
 use Rattle.scan.specs.declared.Line.{Line}
 use Rattle.model.specs.Text.{Bytes, part, starts_with, up_to, lines}
 use Rattle.model.specs.Load.{body_of, body_at}
 use Rattle.model.proofs.Text.{part_length, part-rest, part_empty, part_cons, part-take}
 use Rattle.scan.specs.Lines.{line_at, FindsByte, LineAt, FindsEnd, ContentAt, BeginsMarked, CodeLine, CodeAt}
-use Rattle.scan.proofs.Lines.{up_to_stops, up_to_goes_on, up_to_front, up_to_short, up_to_long, lines_at, body_none, body_ends, body_goes_on}
+use Rattle.scan.proofs.Lines.{up_to_stops, up_to_goes_on, up_to_front, up_to_short, lines_at, body_none, body_ends, body_goes_on}
 
 -- ---- find_byte
 
@@ -60,20 +59,6 @@ found_nowhere {s} {from} {to} {b} {i} h k = found-by s from to b i h (ap (λ (l 
 -- how far it is
 pub found-length : {s : Bytes} {from to b r : ℕ} → FindsByte s from to b r → to ≤ length s → length (up_to b (part s from to)) ≡ r - from
 found-length {s} {from} {to} {b} {r} h k = ap length (sym h.is) ∙ part_length s from r (omega arith)
-
--- what std's search answers
-pub found_by : {s : Bytes} {from to b : ℕ} {p : Option ℕ} {r : ℕ} → from ≤ to → to ≤ length s → p ≡ position (λ x. eqb x b) (part s from to) → r ≡ unwrap_or p (to - from)
-    → FindsByte s from to b (from + r)
-found_by {s} {from} {to} {b} {p} {r} h k e q =
-    let l : Bytes = part s from to in
-    let n : length (up_to b l) ≡ position_or_len (λ x. eqb x b) l = up_to_long b l in
-    let passed : unwrap_or (position (λ x. eqb x b) l) (to - from) ≡ position_or_len (λ x. eqb x b) l = by (ltb (position_or_len (λ x. eqb x b) l) (length l)) refl in
-    found_at s from to b (from + r) h k (ap (λ i. from + i) (n ∙ sym passed ∙ ap (λ o. unwrap_or o (to - from)) (sym e) ∙ sym q))
-  where
-    by : (c : Bool) → ltb (position_or_len (λ x. eqb x b) (part s from to)) (length (part s from to)) ≡ c
-        → unwrap_or (cond c (Some (position_or_len (λ x. eqb x b) (part s from to))) None) (to - from) ≡ position_or_len (λ x. eqb x b) (part s from to)
-    by true t = refl
-    by false t = omega (arith, ltb-false _ _ t, up_to_long b (part s from to), up_to_short b (part s from to), part_length s from to k)
 
 -- ---- a byte at the front
 
@@ -172,8 +157,8 @@ module _ {text : Bytes} {at mark r : ℕ} (s : Scanning text at mark r) where
       let z : length (up_to 10 (part text r (length text))) ≡ 0 = ap (λ (l : Bytes). length (up_to 10 l)) (part_cons text r (length text) lt (omega arith)) ∙ ap length (up_to_stops 10 (get_or text r 0) (part text (suc r) (length text)) e) in
       absurd (omega (arith, z, found-length f (omega arith))))
 
-  pub end-text : length text ≤ r → FindsEnd text at mark r
-  end-text h =
+  pub end_text : length text ≤ r → FindsEnd text at mark r
+  end_text h =
       end_by (λ stop f k. absurd (omega (arith, f.high)))
 
 -- ---- read_content
@@ -194,9 +179,9 @@ content_read {text} {mark} {at} {end} {stop} lt e f q = subst (λ (i : ℕ). Con
 
 -- ---- begins_marked
 
-pub begins-marked : {b mark : ℕ} → BeginsMarked b mark (eqb b mark && not (eqb b 10))
+pub begins_marked_is : {b mark : ℕ} → BeginsMarked b mark (eqb b mark && not (eqb b 10))
 unfolding starts_with up_to
-begins-marked {b} {mark} = record { is = by (eqb b mark) (eqb b 10) refl refl }
+begins_marked_is {b} {mark} = record { is = by (eqb b mark) (eqb b 10) refl refl }
   where
     by : (x y : Bool) → eqb b mark ≡ x → eqb b 10 ≡ y → x && not y ≡ starts_with mark (up_to 10 (b ∷ []))
     by true true e f = rw (f, up_to) refl
@@ -226,9 +211,9 @@ code_ends {m} {text} {at} h f g e =
     let lt : at < length text = omega arith in
     record { is = ap (body_of m) (lines_at text at lt) ∙ body_ends m (line_at text at) _ (line_marked text at m.code lt g ∙ e) }
 
-pub code-more : {m : Marks} {text : Bytes} {at : ℕ} {l : Line} {b : Bool} → BeginsMarked (get_or text at 0) m.code b → b ≡ false → ContentAt text m.code at l.end l.next
+pub code_more : {m : Marks} {text : Bytes} {at : ℕ} {l : Line} {b : Bool} → BeginsMarked (get_or text at 0) m.code b → b ≡ false → ContentAt text m.code at l.end l.next
     → CodeAt m text at (Some l)
-code-more {m} {text} {at} {l} g e h = record {
+code_more {m} {text} {at} {l} g e h = record {
   is = record {
     low = h.low;
     high = h.high;

@@ -1,5 +1,5 @@
 // The bytes, lines and marks of a text, as places in the lent text.
-// A place is where reading goes on, and the answer says where it ends: a slice in its stead would say less.
+// Places, and no slices of what is left: calls and the state keep them, and borrow nothing.
 #![tactic(auto)]
 
 ghost use Rattle.std.specs.Prelude.{◌≡◌, ◌∷◌, ◌+◌, ◌≤◌, ◌<◌, length, min};
@@ -15,23 +15,24 @@ pub struct Line {
     pub next: usize,
 }
 
-// The place of the first b in s[from..to], or `to` where there is none.
-// It is no Option, since every caller goes on at `to`. A `for` costs nothing; std's `position` takes 4 to 14 % more in a walk over lines,
+// The place of the first b in s from `from` on, or the end of s where there is none.
+// It is no Option, since every caller goes on at the end. A `for` costs nothing; std's `position` takes 4 to 14 % more in a walk over lines,
 // the more the shorter they are. A call for the rest of every code line would cost more than the bytes that it reads.
 #[inline(always)]
-pub fn find_byte(s: &[u8], from: usize, to: usize, b: u8) -> usize
-    requires { (from ≤ to) × (to ≤ length s.now) }
-    ensures { FindsByte s.now from to b result }
+#[tactic(auto, using(crate::proofs::Places::seeking_goes_on, crate::proofs::Places::found_nowhere))]
+pub fn find_byte(s: &[u8], from: usize, b: u8) -> usize
+    requires { from ≤ length s.now }
+    ensures { FindsByte s.now from (length s.now) b result }
 {
-    for i in from..to {
+    for i in from..s.len() {
         if s[i] == b {
             return i;
         }
     }
-    to
+    s.len()
 }
 
-// Whether b is a byte of s.
+// Whether b is a byte of s: std's `contains` by the name of document 01's `has`, by which its callers' clauses are said.
 pub fn has_byte(s: &[u8], b: u8) -> bool
     ensures { Has s.now b result }
 {
@@ -47,11 +48,12 @@ fn pass_end(text: &[u8], stop: usize) -> usize
 }
 
 // The line at a place: it ends before byte 10, or with the text.
+#[tactic(auto, using(crate::proofs::Places::line_found))]
 pub fn read_line(text: &[u8], at: usize) -> Line
     requires { at < length text.now }
     ensures { LineAt text.now at result.end result.next }
 {
-    let end = find_byte(text, at, text.len(), b'\n');
+    let end = find_byte(text, at, b'\n');
     Line {
         end,
         next: pass_end(text, end),
@@ -85,7 +87,7 @@ fn read_content(text: &[u8], mark: u8, at: usize) -> Line
     ensures { ContentAt text.now mark at result.end result.next }
 {
     let end = find_end(text, at, mark);
-    let stop = find_byte(text, end, text.len(), b'\n');
+    let stop = find_byte(text, end, b'\n');
     Line {
         end,
         next: pass_end(text, stop),
@@ -93,6 +95,7 @@ fn read_content(text: &[u8], mark: u8, at: usize) -> Line
 }
 
 // Whether a line begins with the mark, where b is its first byte, or byte 10.
+#[tactic(auto, using(crate::proofs::Places::begins_marked_is))]
 fn begins_marked(b: u8, mark: u8) -> bool
     ensures { BeginsMarked b mark result }
 {
@@ -108,6 +111,7 @@ pub struct Marked<'a> {
 
 impl<'a> Marked<'a> {
     // The code line at a place of a body, unless the body ends there.
+    #[tactic(auto, using(crate::proofs::Places::code_past, crate::proofs::Places::code_ends, crate::proofs::Places::code_more))]
     pub fn read_code(&self, at: usize) -> Option<Line>
         requires { at ≤ length self.now.text.now }
         ensures { CodeAt self.now.marks self.now.text.now at result }
@@ -132,6 +136,7 @@ impl<'a> Marked<'a> {
 }
 
 // Whether a byte may be a mark: it is no digit, not F and not byte 0.
+#[tactic(auto, unfolding(model::specs::Text::plain, model::specs::Text::is_digit))]
 fn is_plain(b: u8) -> bool
     ensures { PlainByte b result }
 {
@@ -146,6 +151,7 @@ fn all_plain(s: &[u8]) -> bool
 }
 
 // Whether no byte stands twice in s.
+#[tactic(auto, using(crate::proofs::FlagLine::differ_on, crate::proofs::FlagLine::differ_fails, crate::proofs::FlagLine::differ_all))]
 fn all_differ(s: &[u8]) -> bool
     ensures { AllDiffer s.now result }
 {
@@ -193,6 +199,7 @@ fn are_legal(m: Marks) -> bool
 }
 
 // The marks of a flag line, if it is legal.
+#[tactic(auto, using(crate::proofs::FlagLine::fault_short, crate::proofs::FlagLine::fault_fifth))]
 pub fn read_marks(line: &[u8]) -> Option<Marks>
     ensures { MarksAt line.now result }
 {

@@ -1,6 +1,6 @@
 -- find_end finds where a content ends: the loop has passed no mark and no byte 10.
 use borrow.Author.Rules.{rules}
-use Rattle.scan.proofs.Places.{scanning_goes_on, end_mark, end_line, end-text}
+use Rattle.scan.proofs.Places.{scanning_goes_on, end_mark, end_line, end_text}
 use Rattle.scan.proofs.find_end.Goals as goal
 
 pub returns-then-b-mark : goal.returns-then-b-mark
@@ -13,4 +13,4 @@ pub loop-i-preserved : goal.loop-i-preserved
 loop-i-preserved c = search (scanning_goes_on, rules)
 
 pub returns : goal.returns
-returns c = search (end-text, rules)
+returns c = search (end_text, rules)

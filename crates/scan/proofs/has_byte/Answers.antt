@@ -1,7 +1,7 @@
 -- has_byte is std's test of each byte.
-use Rattle.scan.proofs.Lines.{any-has}
+use Rattle.scan.proofs.Lines.{any_has}
 use Rattle.scan.proofs.has_byte.Goals as goal
 use mathlib.Core.Path.{◌∙◌}
 
 pub returns : goal.returns
-returns c = record { is = c.contains.ensures.value ∙ any-has c.args.b c.args.s.now }
+returns c = record { is = c.contains.ensures.value ∙ any_has c.args.b c.args.s.now }
