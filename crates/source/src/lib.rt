@@ -50,6 +50,7 @@ pub enum Argument {
 }
 
 // An argument by its bytes; an option begins with a minus. same_bytes is `==` by the name of document 01's `same`, by which argument_of is said.
+// As a match on the bytes the proof didn't close: each byte is a test of its own then, in 24 goals, of which none names `same`.
 #[tactic(auto, using(crate::proofs::First::begins_first))]
 pub fn read_argument(argument: &[u8]) -> Argument
     ensures { result ≡ argument_of argument.now }
@@ -156,41 +157,25 @@ pub struct Program {
     pub usage: &'static [u8],
 }
 
-// Says of a file or a stream, after the program's name, what is wrong with it. Where that cannot be written, nothing can say so.
-fn say(errors: &mut impl Write, program: &Program, name: &[u8], wrong: &[u8]) {
-    let _ = errors.write_all(program.name);
-    let _ = errors.write_all(name);
-    let _ = errors.write_all(wrong);
-}
-
-// Says it of the file that argument i names.
-fn say_of_file(env: &impl Env, errors: &mut impl Write, program: &Program, i: usize, wrong: &[u8]) {
-    let mut space = [0u8; ARGUMENT_ROOM];
-    say(errors, program, arg(env, i, &mut space), wrong);
-}
-
-// Says what keeps a program from its work.
+// Says what keeps a program from its work, after the program's name; a file goes before what is wrong with it. Where that cannot be written,
+// nothing can say so.
 pub fn tell(env: &impl Env, errors: &mut impl Write, program: &Program, trouble: Trouble) {
-    match trouble {
+    let (file, wrong): (Option<usize>, &[u8]) = match trouble {
         Trouble::Arguments => {
             let _ = errors.write_all(program.usage);
+            return;
         }
-        Trouble::UnreadInput => say(errors, program, b"standard input", b" cannot be read\n"),
-        Trouble::UnreadFile(i) => say_of_file(env, errors, program, i, b" cannot be read\n"),
-        Trouble::LargeFile(i) => say_of_file(
-            env,
-            errors,
-            program,
-            i,
-            b" has more than 65,536 bytes\n",
-        ),
-        Trouble::ManyFiles(i) => say_of_file(env, errors, program, i, b" is one file too many\n"),
-        Trouble::UnwrittenOutput => say(
-            errors,
-            program,
-            b"standard output",
-            b" cannot be written\n",
-        ),
-        Trouble::UnwrittenFile(i) => say_of_file(env, errors, program, i, b" cannot be written\n"),
+        Trouble::UnreadInput => (None, b"standard input cannot be read\n"),
+        Trouble::UnreadFile(i) => (Some(i), b" cannot be read\n"),
+        Trouble::LargeFile(i) => (Some(i), b" has more than 65,536 bytes\n"),
+        Trouble::ManyFiles(i) => (Some(i), b" is one file too many\n"),
+        Trouble::UnwrittenOutput => (None, b"standard output cannot be written\n"),
+        Trouble::UnwrittenFile(i) => (Some(i), b" cannot be written\n"),
+    };
+    let _ = errors.write_all(program.name);
+    if let Some(i) = file {
+        let mut space = [0u8; ARGUMENT_ROOM];
+        let _ = errors.write_all(arg(env, i, &mut space));
     }
+    let _ = errors.write_all(wrong);
 }
