@@ -42,10 +42,7 @@ pub fn open_target<R: Env + Files>(
     ensures named { IfOk result (λ t. named_by t ≡ name) }
     ensures unwritten { IfErr result (λ e. (i : ℕ) × (name ≡ Some i) × (e ≡ UnwrittenFile i)) }
 {
-    match name {
-        Some(i) => Ok(Some(open_named(rt, i)?)),
-        None => Ok(None),
-    }
+    name.map(|i| open_named(rt, i)).transpose()
 }
 
 // Writes all bytes to a file, if there is one, and closes it.
