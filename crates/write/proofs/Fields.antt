@@ -4,6 +4,8 @@ use mathlib.Core.Bool.{Bool, true, false, not, cond, ◌&&◌}
 use mathlib.Core.List.{List, [], ◌∷◌, ◌++◌, append_assoc, append-nil}
 use Prim.Native.Nat.{ℕ, zero, suc, ◌+◌, ◌-◌, ◌≤◌, ◌<◌, min}
 use native.Mathlib.Omega.{arith}
+use mir.Syntax.{w8}
+use mir.Val.{Fits}
 use borrow.Author.Tests.{ltb-false, leb-true, leb-false, eqb-false, eq-eqb, ne_eqb}
 use lib.Dec.{eqb, leb, ltb}
 use lib.ListN.{length, get_or, set, take, drop, replicate, length-append, length-drop, drop_of_length-le}
@@ -208,7 +210,11 @@ written_behind {o} {front} {i} {out} {bytes} {r} {rest} a b =
 
 -- ---- a part of a layout
 
-pub part_field : {m : Marks} {s : Bytes} {c : Call} {o : Bytes} → 0 < length s → length s ≤ length o → {r : Option ℕ} → NamesField (get_or s 0 0) r → {d n : ℕ} {f : Bytes} → ((i : ℕ) → get_or s i 0 < 256) → r ≡ Some d
+-- a field lies in the output
+pub field_inside : (b : ℕ) (s : Bytes) (n : ℕ) (o : Bytes) → n ≡ run_length b s → length s ≤ length o → n ≡ length (take n o)
+field_inside b s n o e w = sym (length-take-le n o (omega (arith, run_most b s)))
+
+pub part_field : {m : Marks} {s : Bytes} {c : Call} {o : Bytes} → 0 < length s → length s ≤ length o → {r : Option ℕ} → NamesField (get_or s 0 0) r → {d n : ℕ} {f : Bytes} → ((i : ℕ) → Fits w8 (get_or s i 0)) → r ≡ Some d
     → n ≡ run_length (get_or s 0 0) s → FillsField m.blank c d (take n o) f → PutsPart m s c o n (f ++ drop n o)
 unfolding param
 part_field {s = []} h w k bytes e y p = absurd (omega arith)
@@ -221,7 +227,7 @@ part_field {m} {s = x ∷ s} {c} {o} h w k {d} {n} bytes e y p =
     let long : length (take n o) ≡ n = length-take-le n o (omega arith) in
     record {
       bytes = field m.blank n (param_of c d);
-      is = fields-field m f x s k.small (k.names d e).0 ∙ fields-run m f x 1 s (λ i. bytes (suc i))
+      is = fields-field m f x s k.small (k.names d e).0 ∙ fields-run m f x 1 s (λ i. omega (arith, bytes (suc i)))
           ∙ ap₂ (λ (a j : ℕ). field m.blank a (param f (x - 48)) ++ fields m f 256 0 (drop j (x ∷ s))) z v
           ∙ ap (λ (j : ℕ). field m.blank n (param_of c j) ++ layout_of m (drop n (x ∷ s)) c) (sym (k.names d e).1);
       written = record {

@@ -80,16 +80,20 @@ writes_nowhere {ch} {l} {s} {o} e h k = subst (λ (x : Channel). Writes x l s o 
   extends = record { first = extends_none h; second = extends_none k };
 })
 
-module _ {ch : Channel} {l : Bytes} {s : State} where
+-- an output whose part from the byte w on has become rest
+abbrev put_into : ℕ → Bytes → Bytes → Bytes
+put_into w o rest = put_mid w (length o - w) o rest
+
+module _ {ch : Channel} {l : Bytes} {s : State} {o b : Bytes} (h : s.written ≤ length o) (h' : s.second ≤ length b) {r : Result ℕ RunFault} {rest : Bytes} where
   -- the line is written to the first output
-  pub writes_first : {o o' b : Bytes} {r : Result ℕ RunFault} {n : ℕ} → ch ≡ First → s.second ≤ length b → r ≡ Ok n → PutsAfter l o s.written r o'
-      → Writes ch l s (outputs o b) (Ok tt) (with_written s (s.written + n) s.second) (outputs o' b)
+  pub writes_first : {n : ℕ} → ch ≡ First → Puts l (mid_of s.written (length o - s.written) o) r rest → r ≡ Ok n
+      → Writes ch l s (outputs o b) (Ok tt) (with_written s (s.written + n) s.second) (outputs (put_into s.written o rest) b)
   unfolding wrote appended with_first
-  writes_first {o} {o'} {b} {r} {n} e h u p =
-      subst (λ (x : Channel). Writes x l s (outputs o b) (Ok tt) (with_written s (s.written + n) s.second) (outputs o' b)) (sym e) (by (has_room l s.written o) refl)
+  writes_first {n} e p u =
+      subst (λ (x : Channel). Writes x l s (outputs o b) (Ok tt) (with_written s (s.written + n) s.second) (outputs (put_into s.written o rest) b)) (sym e) (by (has_room l s.written o) refl (puts_after h p))
     where
-      by : (k : Bool) → has_room l s.written o ≡ k → Writes First l s (outputs o b) (Ok tt) (with_written s (s.written + n) s.second) (outputs o' b)
-      by true k =
+      by : (k : Bool) → has_room l s.written o ≡ k → PutsAfter l o s.written r (put_into s.written o rest) → Writes First l s (outputs o b) (Ok tt) (with_written s (s.written + n) s.second) (outputs (put_into s.written o rest) b)
+      by true k p =
           let q = p.fits k in
           let z : s.written + n ≡ s.written + (length l + 1) = (let y = q.0 in cc) in
           record {
@@ -97,22 +101,22 @@ module _ {ch : Channel} {l : Bytes} {s : State} where
               refl,
               refl,
               ap (with_first (shared_of s (outputs o b))) (when_true _ _ k)
-                  ∙ ap (λ (x : Bytes). some (record { symbols = s.symbols; store = s.store; output = outputs x (take s.second b) })) (sym q.1 ∙ ap (λ (j : ℕ). take j o') (sym z)),
+                  ∙ ap (λ (x : Bytes). some (record { symbols = s.symbols; store = s.store; output = outputs x (take s.second b) })) (sym q.1 ∙ ap (λ (j : ℕ). take j (put_into s.written o rest)) (sym z)),
             );
             full = λ f. false-not-true (sym f ∙ k);
-            extends = record { first = subst (λ (j : ℕ). Extends o s.written o' j) (sym z) q.2; second = extends_none h };
+            extends = record { first = subst (λ (j : ℕ). Extends o s.written (put_into s.written o rest) j) (sym z) q.2; second = extends_none h' };
           }
-      by false k = absurd (let q = (p.full k).0 in cc)
+      by false k p = absurd (let q = (p.full k).0 in cc)
 
   -- or to the second
-  pub writes_second : {o b b' : Bytes} {r : Result ℕ RunFault} {n : ℕ} → ch ≡ Second → s.written ≤ length o → r ≡ Ok n → PutsAfter l b s.second r b'
-      → Writes ch l s (outputs o b) (Ok tt) (with_written s s.written (s.second + n)) (outputs o b')
+  pub writes_second : {n : ℕ} → ch ≡ Second → Puts l (mid_of s.second (length b - s.second) b) r rest → r ≡ Ok n
+      → Writes ch l s (outputs o b) (Ok tt) (with_written s s.written (s.second + n)) (outputs o (put_into s.second b rest))
   unfolding wrote appended with_second
-  writes_second {o} {b} {b'} {r} {n} e h u p =
-      subst (λ (x : Channel). Writes x l s (outputs o b) (Ok tt) (with_written s s.written (s.second + n)) (outputs o b')) (sym e) (by (has_room l s.second b) refl)
+  writes_second {n} e p u =
+      subst (λ (x : Channel). Writes x l s (outputs o b) (Ok tt) (with_written s s.written (s.second + n)) (outputs o (put_into s.second b rest))) (sym e) (by (has_room l s.second b) refl (puts_after h' p))
     where
-      by : (k : Bool) → has_room l s.second b ≡ k → Writes Second l s (outputs o b) (Ok tt) (with_written s s.written (s.second + n)) (outputs o b')
-      by true k =
+      by : (k : Bool) → has_room l s.second b ≡ k → PutsAfter l b s.second r (put_into s.second b rest) → Writes Second l s (outputs o b) (Ok tt) (with_written s s.written (s.second + n)) (outputs o (put_into s.second b rest))
+      by true k p =
           let q = p.fits k in
           let z : s.second + n ≡ s.second + (length l + 1) = (let y = q.0 in cc) in
           record {
@@ -120,23 +124,23 @@ module _ {ch : Channel} {l : Bytes} {s : State} where
               refl,
               refl,
               ap (with_second (shared_of s (outputs o b))) (when_true _ _ k)
-                  ∙ ap (λ (x : Bytes). some (record { symbols = s.symbols; store = s.store; output = outputs (take s.written o) x })) (sym q.1 ∙ ap (λ (j : ℕ). take j b') (sym z)),
+                  ∙ ap (λ (x : Bytes). some (record { symbols = s.symbols; store = s.store; output = outputs (take s.written o) x })) (sym q.1 ∙ ap (λ (j : ℕ). take j (put_into s.second b rest)) (sym z)),
             );
             full = λ f. false-not-true (sym f ∙ k);
-            extends = record { first = extends_none h; second = subst (λ (j : ℕ). Extends b s.second b' j) (sym z) q.2 };
+            extends = record { first = extends_none h; second = subst (λ (j : ℕ). Extends b s.second (put_into s.second b rest) j) (sym z) q.2 };
           }
-      by false k = absurd (let q = (p.full k).0 in cc)
+      by false k p = absurd (let q = (p.full k).0 in cc)
 
   -- there is no room in the first
-  pub no_room_first : {o o' b : Bytes} {r : Result ℕ RunFault} {fault : RunFault} → ch ≡ First → s.written ≤ length o → s.second ≤ length b → r ≡ Err fault → PutsAfter l o s.written r o'
-      → Writes ch l s (outputs o b) (Err fault) s (outputs o' b)
+  pub no_room_first : {fault : RunFault} {q : Result Unit RunFault} → ch ≡ First → Puts l (mid_of s.written (length o - s.written) o) r rest → r ≡ Err fault → q ≡ Err fault
+      → Writes ch l s (outputs o b) q s (outputs (put_into s.written o rest) b)
   unfolding wrote appended with_first
-  no_room_first {o} {o'} {b} {r} {fault} e h h' u p =
-      subst (λ (x : Channel). Writes x l s (outputs o b) (Err fault) s (outputs o' b)) (sym e) (by (has_room l s.written o) refl)
+  no_room_first {fault} {q} e p u v =
+      subst (λ (x : Channel). Writes x l s (outputs o b) q s (outputs (put_into s.written o rest) b)) (sym e) (by (has_room l s.written o) refl (puts_after h p))
     where
-      by : (k : Bool) → has_room l s.written o ≡ k → Writes First l s (outputs o b) (Err fault) s (outputs o' b)
-      by true k = absurd (let q = (p.fits k).0 in cc)
-      by false k =
+      by : (k : Bool) → has_room l s.written o ≡ k → PutsAfter l o s.written r (put_into s.written o rest) → Writes First l s (outputs o b) q s (outputs (put_into s.written o rest) b)
+      by true k p = absurd (let q = (p.fits k).0 in cc)
+      by false k p =
           let q = p.full k in
           record {
             fits = λ f. false-not-true (sym k ∙ f);
@@ -145,15 +149,15 @@ module _ {ch : Channel} {l : Bytes} {s : State} where
           }
 
   -- or in the second
-  pub no_room_second : {o b b' : Bytes} {r : Result ℕ RunFault} {fault : RunFault} → ch ≡ Second → s.written ≤ length o → s.second ≤ length b → r ≡ Err fault → PutsAfter l b s.second r b'
-      → Writes ch l s (outputs o b) (Err fault) s (outputs o b')
+  pub no_room_second : {fault : RunFault} {q : Result Unit RunFault} → ch ≡ Second → Puts l (mid_of s.second (length b - s.second) b) r rest → r ≡ Err fault → q ≡ Err fault
+      → Writes ch l s (outputs o b) q s (outputs o (put_into s.second b rest))
   unfolding wrote appended with_second
-  no_room_second {o} {b} {b'} {r} {fault} e h h' u p =
-      subst (λ (x : Channel). Writes x l s (outputs o b) (Err fault) s (outputs o b')) (sym e) (by (has_room l s.second b) refl)
+  no_room_second {fault} {q} e p u v =
+      subst (λ (x : Channel). Writes x l s (outputs o b) q s (outputs o (put_into s.second b rest))) (sym e) (by (has_room l s.second b) refl (puts_after h' p))
     where
-      by : (k : Bool) → has_room l s.second b ≡ k → Writes Second l s (outputs o b) (Err fault) s (outputs o b')
-      by true k = absurd (let q = (p.fits k).0 in cc)
-      by false k =
+      by : (k : Bool) → has_room l s.second b ≡ k → PutsAfter l b s.second r (put_into s.second b rest) → Writes Second l s (outputs o b) q s (outputs o (put_into s.second b rest))
+      by true k p = absurd (let q = (p.fits k).0 in cc)
+      by false k p =
           let q = p.full k in
           record {
             fits = λ f. false-not-true (sym k ∙ f);
@@ -162,12 +166,12 @@ module _ {ch : Channel} {l : Bytes} {s : State} where
           }
 
 -- a line without a reading is written, or there is no room for it
-module _ {line : Bytes} {s : State} {o o' : Bytes} {r : Result ℕ RunFault} where
-  pub passes_through : {n : ℕ} → r ≡ Ok n → PutsAfter line o s.written r o' → PassesThrough line s o (Ok tt) (with_written s (s.written + n) s.second) o'
-  passes_through u p = record { writes = λ b h. writes_first refl h u p }
+module _ {line : Bytes} {s : State} {o : Bytes} (h : s.written ≤ length o) {r : Result ℕ RunFault} {rest : Bytes} (p : Puts line (mid_of s.written (length o - s.written) o) r rest) where
+  pub passes_through : {n : ℕ} → r ≡ Ok n → PassesThrough line s o (Ok tt) (with_written s (s.written + n) s.second) (put_into s.written o rest)
+  passes_through u = record { writes = λ b k. writes_first h k refl p u }
 
-  pub passes_none : {fault : RunFault} → r ≡ Err fault → s.written ≤ length o → PutsAfter line o s.written r o' → PassesThrough line s o (Err fault) s o'
-  passes_none u h p = record { writes = λ b k. no_room_first refl h k u p }
+  pub passes_none : {fault : RunFault} {q : Result Unit RunFault} → r ≡ Err fault → q ≡ Err fault → PassesThrough line s o q s (put_into s.written o rest)
+  passes_none u v = record { writes = λ b k. no_room_first h k refl p u v }
 
 -- ---- what a line that is written comes to
 

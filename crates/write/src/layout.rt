@@ -35,7 +35,8 @@ impl<'a> Content for Layout<'a> {
 }
 
 // The field or the byte that a layout begins with comes to the front of a slice; the answer is how many bytes it has.
-#[tactic(auto, using(crate::proofs::Fields::run_most, crate::proofs::Fields::part_byte))]
+// Marks, text and call are no Layout: each turn would make one of the text that is left.
+#[tactic(auto, using(crate::proofs::Fields::run_most, crate::proofs::Fields::field_inside, crate::proofs::Fields::part_field, crate::proofs::Fields::part_byte))]
 fn put_part(m: Marks, text: &[u8], call: &Call, out: &mut [u8]) -> usize
     requires there { 0 < length text.now }
     requires out_long { length text.now ≤ length out.old }
@@ -72,7 +73,7 @@ fn run_length(text: &[u8], b: u8) -> usize
     text.iter().position(|&x| x != b).unwrap_or(text.len())
 }
 
-// A field becomes parameter d: cut, or filled with blanks.
+// A field becomes parameter d: cut, or filled with blanks. d is a number, as call has it: a type of 1 to 9 would be made of the digit first.
 #[tactic(auto, using(crate::proofs::Fields::fills_field))]
 fn fill_field(blank: u8, call: &Call, d: usize, out: &mut [u8])
     requires { (1 ≤ d) × (d ≤ 9) }

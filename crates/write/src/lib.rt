@@ -47,6 +47,7 @@ impl<'a> Content for Line<'a> {
 
 // A content and a byte 10 come to the front of what is left of an output. The answer is how many bytes they are; without room for them the
 // run ends with 13.
+#[tactic(auto, using(crate::proofs::Lines::puts_line))]
 fn put<C: Content>(content: &C, left: &mut [u8]) -> Result<usize, RunFault>
     ensures { Puts (C.bytes content.now) left.old result left.new }
 {
@@ -60,6 +61,7 @@ fn put<C: Content>(content: &C, left: &mut [u8]) -> Result<usize, RunFault>
 }
 
 // A content and a byte 10 after it go to a channel. Without room for them nothing changes, and the run ends with 13.
+// How much of each output is written stands in the state: the outputs are lent beside it, since a state borrows nothing.
 // The outputs are no struct of two `&mut`: every function that is lent it would have to say that each is still the caller's reference (tried).
 #[tactic(auto, using(crate::proofs::Lines::writes_nowhere))]
 pub fn write<C: Content>(
@@ -81,7 +83,8 @@ pub fn write<C: Content>(
 }
 
 // A line without a reading is written to the first output as it is.
-#[tactic(auto, using(crate::proofs::Lines::puts_after, crate::proofs::Lines::passes_through))]
+// How much of the one output is written stands in the state, as in write. That it lies in it is a part of Sound, which cycle's offer asks.
+#[tactic(auto, using(crate::proofs::Lines::passes_through))]
 pub fn pass_through(line: &[u8], output: &mut [u8], s: &mut State) -> Result<(), RunFault>
     requires { s.old.written ≤ length output.old }
     ensures { PassesThrough line.now s.old output.old result s.new output.new }
