@@ -148,8 +148,8 @@ module _ {m : Marks} {text : Bytes} {at : ℕ} {r : Option Line} (k : CodeAt m t
           (leaves depth q ∙ ap (λ d. Machine.past_loop m d (body_at m text l.next)) (sym (add-one depth)))
           (omega arith) (code_line k there).within (omega arith)
 
-      pub step-owns : {p : ℕ} → e ≡ Owns → DropsFirst m text l.next p → StepsOver m text at depth (On p depth)
-      step-owns q o =
+      pub step_owns : {p : ℕ} → e ≡ Owns → DropsFirst m text l.next p → StepsOver m text at depth (On p depth)
+      step_owns q o =
           goes (λ n. skips n depth q ∙ ap (λ cs. Machine.pass_over m n depth cs) o.is)
           (leaves depth q ∙ ap (λ cs. Machine.past_loop m depth cs) o.is)
           o.from o.within (omega arith)

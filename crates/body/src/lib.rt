@@ -37,7 +37,8 @@ pub fn skip_layout(marked: &Marked, at: usize) -> usize
     }
 }
 
-// Passes over the code line at `at`, a layout with its owner; `depth` iterations were opened on the way there.
+// Passes over the code line at `at`, a layout with its owner; `depth` iterations were opened on the way there. The two make no struct, since
+// each loop below tests the depth and answers the place.
 fn step_over(marked: &Marked, at: usize, depth: usize) -> Stepped
     requires { (at ≤ length marked.now.text.now) × (depth ≤ at) }
     ensures { StepsOver marked.now.marks marked.now.text.now at depth result }
@@ -59,6 +60,7 @@ fn step_over(marked: &Marked, at: usize, depth: usize) -> Stepped
 
 // Passes over n code lines from `at` on. The line landed on must lie in the iterations of the line skipped from, and a body's end
 // lies in none: else the skip is bad.
+#[tactic(auto, using(crate::proofs::Laws::landed, crate::proofs::Laws::open_landing, crate::proofs::Laws::beyond_end, crate::proofs::Laws::open_end))]
 pub fn pass_over(marked: &Marked, at: usize, n: usize) -> Result<Passed, RunFault>
     requires { at ≤ length marked.now.text.now }
     ensures { PassesOver marked.now.marks marked.now.text.now at n result }
@@ -80,6 +82,7 @@ pub fn pass_over(marked: &Marked, at: usize, n: usize) -> Result<Passed, RunFaul
 }
 
 // The place past the end of the iteration whose first code line is at `at`.
+#[tactic(auto, using(crate::proofs::Laws::leaving_ended))]
 pub fn past_loop(marked: &Marked, at: usize) -> usize
     requires { at ≤ length marked.now.text.now }
     ensures { Leaves marked.now.marks marked.now.text.now at result }

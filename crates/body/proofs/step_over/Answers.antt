@@ -1,5 +1,5 @@
 -- step_over: a code line passed over, by its effect.
-use Rattle.body.proofs.Laws.{step_stays, step_opens, step_closes, step_shuts, step-owns}
+use Rattle.body.proofs.Laws.{step_stays, step_opens, step_closes, step_shuts, step_owns}
 use Rattle.body.proofs.step_over.Goals as goal
 
 pub returns-in-None : goal.returns-in-None
@@ -15,4 +15,4 @@ pub returns-in-Some-checked_sub : goal.returns-in-Some-checked_sub
 returns-in-Some-checked_sub c = search (step_closes, c.in-Some-checked_sub.ensures)
 
 pub returns-in-Owns : goal.returns-in-Owns
-returns-in-Owns c = search step-owns
+returns-in-Owns c = search step_owns
