@@ -163,6 +163,7 @@ fn read_form(a: u8, b: u8, at: usize) -> Option<Token>
 // What an escape at `at` of a code line begins. What the arms hold is cleared where a function starts: in read_token that would be at each
 // byte of a line, and here it is at an escape.
 #[inline(always)]
+#[tactic(auto, using(crate::proofs::Lines::token_short))]
 fn read_escaped(m: Marks, line: &[u8], at: usize) -> Token
     requires { (at < length line.now) × (get_or line.now at 0 ≡ m.escape) }
     ensures { ReadsToken m line.now at result }
@@ -183,6 +184,7 @@ fn read_escaped(m: Marks, line: &[u8], at: usize) -> Token
 // byte that it reads.
 // The place stays beside the line, since it tells the line's start, and an iteration keeps it as that of its delimiters.
 #[inline(always)]
+#[tactic(auto, using(crate::proofs::Lines::token_end, crate::proofs::Lines::token_byte))]
 pub fn read_token(m: Marks, line: &[u8], at: usize) -> Token
     requires { at ≤ length line.now }
     ensures { ReadsToken m line.now at result }
@@ -195,6 +197,7 @@ pub fn read_token(m: Marks, line: &[u8], at: usize) -> Token
 }
 
 // What is done at the end of a code line.
+#[tactic(auto, using(crate::proofs::Lines::ahead_ends))]
 pub fn read_ending(m: Marks, line: &[u8]) -> Ending
     ensures { ReadsEnding m line.now result }
 {

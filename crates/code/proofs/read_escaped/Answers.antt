@@ -1,10 +1,7 @@
 -- read_escaped: the form that an escape begins.
 use borrow.Author.Rules.{rules}
-use Rattle.code.proofs.Lines.{token_short, token_first, token_later, token_form}
+use Rattle.code.proofs.Lines.{token_first, token_later, token_form}
 use Rattle.code.proofs.read_escaped.Goals as goal
-
-pub returns-in_default : goal.returns-in_default
-returns-in_default c = search (token_short, rules)
 
 pub returns-in-70 : goal.returns-in-70
 returns-in-70 c = search (token_first, c.read_first_function.ensures, rules)
