@@ -1,6 +1,7 @@
 // An open call, and the line that its code builds (document 01, "A call's code").
 // Asked is that a parameter's number is 1 to 9, that the pieces that a call is opened with lie in their line, and that what becomes a
 // parameter or an iteration's text has at most 200 bytes. What a call says is free: a length counts as at most 200.
+// A parameter's number stays a usize of 1 to 9: a type of its own would first be made of constants and of a code line's digits.
 #![tactic(auto)]
 
 ghost use Rattle.std.specs.Prelude.{◌≡◌, ◌≤◌, ◌<◌, length};
@@ -13,7 +14,7 @@ use faults::RunFault;
 use model::{LINE_MOST, NESTING_MOST, PLACEHOLDERS_MOST};
 
 // A text of at most 200 bytes.
-// Its length stands beside its bytes, since the library has no heap.
+// Its length stands beside its bytes, since the library has no heap, and an ArrayVec is not Copy.
 #[derive(Clone, Copy)]
 pub struct Text {
     pub len: usize,
@@ -44,7 +45,7 @@ impl Text {
         &self.bytes[..self.len.min(LINE_MOST)]
     }
 
-    // It becomes another.
+    // It becomes another, which comes as a slice: as a type of at most 200 bytes it would be copied first.
     pub fn set(&mut self, bytes: &[u8])
         requires { length bytes.now ≤ line_most }
         ensures { Holds bytes.now self.new }
@@ -94,7 +95,7 @@ impl Param {
     }
 }
 
-// A part of the text, by its places: a call borrows nothing.
+// A part of the text, by its places: a call borrows nothing, and std's Range is not Copy.
 #[derive(Clone, Copy)]
 pub struct Span {
     pub start: usize,
@@ -142,7 +143,7 @@ impl Iteration {
 // An open call.
 #[derive(Clone, Copy)]
 pub struct Call {
-    // which of the run's calls it is, as e0k writes it: no code for a refusal
+    // which of the run's calls it is, as e0k writes it
     pub number: usize,
     // where its next code line starts
     pub next: usize,
@@ -154,7 +155,7 @@ pub struct Call {
 
 impl Call {
     // A call with pieces of a line as its parameters: no pass was made yet, and no iteration is open.
-    // starts and lens are two rows, as a reading has them, which the C interface answers so.
+    // starts and lens are two rows, as a reading has them, which the C interface answers so; of a zip with iter_mut a proof knows no element.
     pub fn open(
         number: usize,
         next: usize,
@@ -166,8 +167,8 @@ impl Call {
         ensures { Opens number next line.now starts lens result }
     {
         let mut params = [Param::EMPTY; PLACEHOLDERS_MOST];
-        for i in 0..9 {
-            params[i].set(&line[starts[i]..starts[i] + lens[i]]);
+        for (i, param) in params.iter_mut().enumerate() {
+            param.set(&line[starts[i]..starts[i] + lens[i]]);
         }
         Call {
             number,
