@@ -43,7 +43,7 @@ pub struct Counted {
 fn is_tail(b: u8) -> bool
     ensures { result ≡ is_tail b }
 {
-    (128 <= b) & (b <= 191)
+    matches!(b, 128..=191)
 }
 
 // Whether b may follow the first byte a of three or four: nothing overlong, no surrogate, nothing above 10FFFF.
@@ -52,10 +52,10 @@ fn is_second(a: u8, b: u8) -> bool
     ensures { result ≡ is_second a b }
 {
     match a {
-        224 => (160 <= b) & (b <= 191),
-        237 => (128 <= b) & (b <= 159),
-        240 => (144 <= b) & (b <= 191),
-        244 => (128 <= b) & (b <= 143),
+        224 => matches!(b, 160..=191),
+        237 => matches!(b, 128..=159),
+        240 => matches!(b, 144..=191),
+        244 => matches!(b, 128..=143),
         _ => is_tail(b),
     }
 }
