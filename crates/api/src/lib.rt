@@ -1,4 +1,5 @@
 // The public calls for C and Rust; include/stage2.h declares them. A slice is a pointer and a count.
+// Rows and rooms go along one by one, as C lends them.
 #![tactic(auto)]
 
 ghost use Rattle.std.specs.Prelude.{◌≡◌, false, ◌≤◌, length};

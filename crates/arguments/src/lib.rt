@@ -48,8 +48,8 @@ impl<'a, E: Env> Arguments<'a, E> {
     }
 }
 
-// With so many arguments, the program's own name among them: a text's file, then -4 and a file, then --report and a file, each or none. Where no
-// name stands before, what follows begins behind argument 0, the program's own name.
+// With so many arguments, the program's own name among them: a text's file, then -4 and a file, then --report and a file, each or none.
+// The 0 where no name stands before is no argument that was found: argument 0 is the program's own name, behind which the others begin.
 pub fn find_names(env: &impl Env, count: usize) -> Option<Names>
     ensures { IfSome result (λ n. IfSome n.file (λ i. i < count) × IfSome n.second (λ i. i < count) × IfSome n.report (λ i. i < count)) }
 {

@@ -1,4 +1,5 @@
 // The line that a code line builds, part by part, and how the code line ends (document 01, "A call's code").
+// `symbols` relates two fields of the state: as the fact of its type each method that changes neither would prove it again.
 #![tactic(auto)]
 
 ghost use Rattle.std.specs.Prelude.{◌≤◌, length};

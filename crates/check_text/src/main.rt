@@ -56,7 +56,8 @@ fn take_files<R: Env + Files>(rt: &R, rows: &mut [u8], n: usize) -> Result<usize
     Ok(at)
 }
 
-// Writes the rows of n - 1 files; the caller shows that they are that.
+// Writes the rows of n - 1 files; the caller shows that they are that, for which alone n goes along.
+// One function for the three programs would be no plainer, as fit_line says.
 fn write_rows(output: &mut impl Write, n: usize, shown: &[u8]) -> Result<(), Trouble>
     requires { HasFiles (n - 1) shown.now (length shown.now) }
 {

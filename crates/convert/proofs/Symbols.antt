@@ -6,6 +6,8 @@ use mathlib.Core.List.{[]}
 use Prim.Native.Nat.{ℕ, suc, ◌+◌, ◌≤◌}
 use native.Mathlib.Omega.{arith}
 use lib.ListN.{length}
+use Rattle.std.proofs.Common.{Bor}
+use Rattle.std.specs.Option.{option_copied, unwrap_or}
 use Rattle.std.specs.Prelude.{Some, None, Result, Ok, Err, Option, IsErrAnd}
 use Rattle.faults.specs.declared.RunFault.{RunFault}
 use Rattle.faults.specs.declared.RunFault.TheVariants.{FullStore}
@@ -44,17 +46,14 @@ pub puts_number : {es : Store} {name : Bytes} {r : Result Unit Full} {es' : Stor
 puts_number {es} {name} {r} {es'} v d p = subst (λ (t : Bytes). PutsText es name t r es') d p
 
 -- the text that is stored, or nothing
-module _ {es : Store} {name : Bytes} {e : Option Bytes} (g : GetsText es name e) where
-  pub stored_text : {t : Bytes} → e ≡ Some t → t ≡ or_nothing (find name es)
-  unfolding or_nothing
-  stored_text t = sym (ap or_nothing (sym g.is ∙ ap found_text t))
+pub stored_or : {es : Store} {name : Bytes} (o : Option (Bor Bytes)) (d : Bor Bytes) → GetsText es name (option_copied o) → d.now ≡ []
+    → (unwrap_or o d).now ≡ or_nothing (find name es)
+unfolding or_nothing
+stored_or (Some t) d g e = ap or_nothing g.is
+stored_or None d g e = e ∙ ap or_nothing g.is
 
-  pub stored_none : e ≡ None → [] ≡ or_nothing (find name es)
-  unfolding or_nothing
-  stored_none t = sym (ap or_nothing (sym g.is ∙ ap found_text t))
-
-  pub missing : e ≡ None → Missing es name
-  missing t = record { is = sym g.is ∙ ap found_text t; few = g.few }
+pub missing : {es : Store} {name : Bytes} {e : Option Bytes} → GetsText es name e → e ≡ None → Missing es name
+missing g t = record { is = sym g.is ∙ ap found_text t; few = g.few }
 
 -- a fault, whatever the calls share
 lengthens_full : {x : Text} {r : Result Unit RunFault} → IsErrAnd r (λ f. f ≡ FullStore) → Lengthens (λ w. failed 19 w) r x

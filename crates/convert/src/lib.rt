@@ -1,5 +1,7 @@
 // What ed0 to ed5 and ed8 put at the end of a line that is built (document 01, "A call's code"). The parameter's text is a
 // lent slice.
+// That a name has below 256 bytes stands where it is asked: a name is a slice of the caller's, of no type of its own.
+// `symbols` relates two fields of the state: as the fact of its type each method that changes neither would prove it again.
 #![tactic(auto)]
 
 ghost use Rattle.std.specs.Prelude.{◌≡◌, [], ◌∷◌, ◌≤◌, ◌<◌, length};
@@ -33,6 +35,7 @@ pub fn add_number(v: usize, line: &mut Text) -> Result<(), RunFault>
 }
 
 // What brings in a text as it lies there: ed0 and ed1.
+// One function answers both: for this place document 01 names the form of a returned part of one of two lent slices, parameter or memory.
 #[derive(Clone, Copy)]
 enum Word {
     // the parameter
@@ -42,16 +45,12 @@ enum Word {
 }
 
 // The text that is brought in, which lies in the parameter or in the store.
-#[tactic(auto, using(crate::proofs::Symbols::stored_none))]
 fn bring<'a>(word: Word, param: &'a [u8], store: &'a Store) -> &'a [u8]
     ensures { result.now ≡ word_of word param.now store.now }
 {
     match word {
         Word::Itself => param,
-        Word::Stored => match store.get(param) {
-            Some(text) => text,
-            None => &[],
-        },
+        Word::Stored => store.get(param).unwrap_or(&[]),
     }
 }
 
@@ -107,7 +106,7 @@ fn add_delimiter(delimiter: Option<u8>, line: &mut Text) -> Result<(), RunFault>
     }
 }
 
-// A value in decimal.
+// A value in decimal, at the front of an array that is lent: there is no heap.
 fn add_signed(m: Marks, v: Integer, line: &mut Text) -> Result<(), RunFault>
     ensures { Appends line.old (written m v) result line.new }
 {

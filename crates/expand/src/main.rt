@@ -23,7 +23,7 @@ const EXPAND: Program = Program {
     usage: b"expand: give the file of a text, or nothing to expand standard input; then -4 and a file for channel 4, or nothing; then --report and a file for the usage report, or nothing\n",
 };
 
-// ---- what is written; the caller of each shows that it is that
+// ---- what is written; the caller of each shows that it is that. Text and room go along, since each clause says of both what is written
 
 // What is printed for a text, with so many bytes of room for channel 4.
 fn write_printed(

@@ -47,6 +47,7 @@ fn fit_lines(
     write_printed(output, text, file, &out[..n])
 }
 
+// Lends the room, an array: there is no heap, and its size is a limit of the program.
 fn lend_room(output: &mut impl Write, text: &[u8], file: &[u8]) -> Result<(), Trouble>
     requires { length file.now ≤ 65536 }
 {

@@ -1,5 +1,6 @@
 // What the programs print, byte for byte, in a lent slice. Each function adds bytes from an offset on and answers where they end;
-// every other byte of the slice stays as it was.
+// every other byte of the slice stays as it was. The slice and the offset stay two parameters, as in rendering's add_bytes.
+// RoomFor is the fact of no type: each function has room for something else.
 #![tactic(auto)]
 
 ghost use Rattle.std.specs.Prelude.{◌≡◌, [], ◌∷◌, ◌++◌, ◌+◌, ◌*◌, ◌≤◌, length};
@@ -91,6 +92,7 @@ pub struct Shown {
 }
 
 // What expand prints for a text, in out, what it writes to channel 4's file, in second, and to the report's, in report.
+// Three rooms and no struct of them: the run takes a part of the first, and each has a clause of its own.
 pub fn print_run(text: &[u8], out: &mut [u8], second: &mut [u8], report: &mut [u8]) -> Shown
     requires { (65603 ≤ length out.old) × (length report.old ≡ 2048) }
     ensures prints { Prints out.old 0 (expand_prints (length second.old) text.now) result.printed out.new }
@@ -124,7 +126,7 @@ pub fn print_check(out: &mut [u8], at: usize, name: &[u8], text: &[u8]) -> usize
     add_checked(out, at, name, with_row::check(text))
 }
 
-// Start and length of each piece.
+// Start and length of each piece. Two rows, as C reads them in Fitted.
 fn add_pieces(out: &mut [u8], at: usize, starts: [u64; 9], lens: [u64; 9]) -> usize
     requires { RoomFor out.old at (piece_row starts lens) }
     ensures { Prints out.old at (piece_row starts lens) result out.new }

@@ -1,6 +1,6 @@
 // Bytes and numbers added to a lent slice, one after another. Each function adds bytes from an offset on and answers where they end;
-// every other byte of the slice stays as it was. What is added has to have room: RoomFor is the fact of no type, since each call asks it of
-// something else.
+// every other byte of the slice stays as it was. What is added has to have room.
+// RoomFor is the fact of no type, since each call asks it of something else.
 // No Display and no Formatter: clauses here and above speak of the bytes of a lent slice, before and after.
 #![tactic(auto)]
 

@@ -1,6 +1,6 @@
 // How often each template was chosen (document 02, request 7): the counts of a run, and the usage report that is printed from them. There is
-// a count for each macro that a text may have, in the order of the text, and a last one for the lines passed through: one row and no struct of
-// both, since a line is counted at one place of it, and the tally that the clauses speak of is made of one list.
+// a count for each macro that a text may have, in the order of the text, and a last one for the lines passed through.
+// One row and no struct of both: a line is counted at one place, and the tally that the clauses speak of is made of one list.
 #![tactic(auto)]
 
 ghost use Rattle.std.specs.Prelude.{◌≡◌, ◌<◌, length, get_or};
@@ -16,7 +16,7 @@ use rendering::{add_bytes, add_decimal};
 // All counts.
 pub const COUNTS_SIZE: usize = 129;
 
-// A line more is counted at a place. The place is no Option of a template: the last one stands for none, and one clause holds for all.
+// A line more is counted at a place. No Option of a template: the last place is that of no template, and one clause holds for all.
 #[tactic(auto, using(crate::proofs::Counts::more_stored))]
 pub fn count_line(counts: &mut [usize], place: usize)
     requires { (place < length counts.old) × (get_or counts.old place 0 < fuel_most) }
@@ -39,8 +39,8 @@ fn add_row(report: &mut [u8], at: usize, line: usize, count: usize) -> usize
     add_bytes(report, end, b"\n")
 }
 
-// The report of these macros, at the front of its room; the answer is its length. The last row's line is 0: document 02 says so of the lines
-// passed through. Entries and counts stay two rows: the counts are the run's, and the entries the text's.
+// The report of these macros, at the front of its room; the answer is its length. Room and place stay two, as in rendering.
+// Entries and counts stay two rows, the text's and the run's. The last row's 0 is document 02's line for the lines passed through.
 pub fn print_report(entries: &[Entry], counts: &[usize], report: &mut [u8]) -> usize
     requires { ReadyToReport entries.now counts.now report.old }
     ensures { PrintsReport entries.now counts.now report.old result report.new }

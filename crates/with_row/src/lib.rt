@@ -32,7 +32,7 @@ pub fn fit(text: &[u8], line: &[u8]) -> Fitted
     stage2::fit(text, &mut row, &mut dead, line)
 }
 
-// Runs a text.
+// Runs a text. The rooms go along one by one, as in run.
 pub fn run(
     text: &[u8],
     fuel: u64,
