@@ -175,7 +175,8 @@ fn pair_differs(a: u8, b: u8, m: Marks) -> bool
     all_differ(&marks)
 }
 
-// Whether marks are legal: all plain, and none equal but marks 1 and 3, and 2 and 4.
+// Whether marks are legal: all plain, and none equal but marks 1 and 3, and 2 and 4. The tests go over a row of bytes, and Marks, which
+// has a name for each, is the model's: so they are listed here.
 fn are_legal(m: Marks) -> bool
     ensures { LegalMarks m result }
 {
