@@ -43,8 +43,7 @@ fn take_atoms(m: Marks, line: &[u8], at: usize, list: &[u8]) -> Result<Taken, Ru
 {
     // where an atom ends is found by reading it, so that the places are no range
     let mut end = at;
-    while end < line.len() {
-        let b = line[end];
+    while let Some(&b) = line.get(end) {
         if has_byte(list, b) {
             return Ok(Taken {
                 end,

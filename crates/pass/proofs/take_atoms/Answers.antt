@@ -5,11 +5,11 @@ use Rattle.atom.proofs.Atoms.{atom-by-brackets}
 use Rattle.pass.proofs.Pieces.{taking_goes_on, taking_fails, taking_ends}
 use Rattle.pass.proofs.take_atoms.Goals as goal
 
-pub returns-in_default : goal.returns-in_default
-returns-in_default c = search (taking_fails, atom-by-brackets, rules)
+pub returns-in_default-end : goal.returns-in_default-end
+returns-in_default-end c = search (taking_fails, atom-by-brackets, rules)
 
-pub loop-end-preserved : goal.loop-end-preserved
-loop-end-preserved c = search (taking_goes_on, atom-by-brackets, rules)
+pub loop-b-preserved : goal.loop-b-preserved
+loop-b-preserved c = search (taking_goes_on, atom-by-brackets, rules)
 
 pub returns : goal.returns
 returns c = search (taking_ends, rules)

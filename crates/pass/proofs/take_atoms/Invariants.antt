@@ -5,8 +5,8 @@ use lib.ListN.{length}
 use Rattle.pass.proofs.Pieces.{Taking}
 use Rattle.pass.proofs.take_atoms.Given as goal
 
-abbrev pub invariant-loop-end : goal.invariant-loop-end
-invariant-loop-end l = Taking l.m l.line l.at l.list l.end
+abbrev pub invariant-loop-b : goal.invariant-loop-b
+invariant-loop-b l = Taking l.m l.line l.at l.list l.end
 
-abbrev pub decreases-loop-end : goal.decreases-loop-end
-decreases-loop-end l = length l.line - l.end
+abbrev pub decreases-loop-b : goal.decreases-loop-b
+decreases-loop-b l = length l.line - l.end
