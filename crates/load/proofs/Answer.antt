@@ -18,17 +18,17 @@ use Rattle.load.specs.Answer.{loaded_of, Loads}
 
 module _ {text : Bytes} {t : Table} {r : Loaded} (h : Loads (load text) text t (Ok r)) where
   -- the macros that are loaded are legal
-  loads_legal : Legal r.marks (macros_in r.marks text t r.count)
+  loads_legal : Legal r.marks (macros_in r.marks text t t.count)
   loads_legal = (load_legal text (loaded_of text t r) h.is).1
 
   -- the templates of the table are theirs
-  loads_templates : templates (macros_in r.marks text t r.count) ≡ templates_in text t r.count
-  loads_templates = macros-templates r.marks text t r.count
+  loads_templates : templates (macros_in r.marks text t t.count) ≡ templates_in text t t.count
+  loads_templates = macros-templates r.marks text t t.count
 
   -- the answer counts the nodes of their tree
-  pub loads_counted : r.nodes ≡ suc (beginnings (templates_in text t r.count))
+  pub loads_counted : r.nodes ≡ suc (beginnings (templates_in text t t.count))
   loads_counted =
-      h.sound.counted ∙ nodes-beginnings (templates_in text t r.count) (macros_in r.marks text t r.count) loads_templates (subst Distinct loads_templates loads_legal.different)
+      h.sound.counted ∙ nodes-beginnings (templates_in text t t.count) (macros_in r.marks text t t.count) loads_templates (subst Distinct loads_templates loads_legal.different)
 
   -- they are 2,048 at most
   pub loads_nodes : r.nodes ≤ 2048

@@ -19,10 +19,9 @@ use Rattle.std.specs.Prelude.{None, Result, Ok, ◌==◌, cond, count_by}
 use Rattle.std.proofs.lemmas.List.Recursion.{is_count_by}
 use Rattle.faults.specs.declared.LoadFault.{LoadFault}
 use Rattle.macros.specs.declared.Table.{Table}
-use Rattle.macros.specs.Table.{order_in, StoresMacro, PutsInOrder, templates_in, macros_in}
-use Rattle.macros.proofs.Entries.{templates_in_length, macros-templates, macros-same, entries_same, stored_order, macros-stored, entries_stored}
+use Rattle.macros.specs.Table.{order_in, PutsMacro, templates_in, macros_in}
+use Rattle.macros.proofs.Entries.{templates_in_length, macros-templates, macros-put, entries_put}
 use Rattle.templates.specs.declared.Found.{Found}
-use Rattle.macros.proofs.Order.{put_same}
 use Rattle.templates.specs.Order.{InOrder}
 use Rattle.templates.proofs.Order.{in_order_more}
 use Rattle.load.specs.declared.Loader.{Loader}
@@ -49,8 +48,8 @@ counted_by b = is_count_by (count b) (λ x. x == b) refl (λ x s. count-cons b x
 -- ---- add_macro
 
 -- the macros of the table
-pub tabled : {m : Marks} {text : Bytes} {l : Loader} → TableSound m text l → Tabled (templates_in text l.table l.count) l.nodes (macros_in m text l.table l.count)
-tabled {m} {text} {l} s = record { stand = macros-templates m text l.table l.count; counted = sym s.counted }
+pub tabled : {m : Marks} {text : Bytes} {l : Loader} → TableSound m text l → Tabled (templates_in text l.table l.table.count) l.nodes (macros_in m text l.table l.table.count)
+tabled {m} {text} {l} s = record { stand = macros-templates m text l.table l.table.count; counted = sym s.counted }
 
 seen-template : (m : Marks) (r : Load.Progress) (n : ℕ) (l : Bytes) (ls : List Bytes) → r.in_body ≡ false → line_seen m r n l ls ≡ template_line m r n (up_to m.source l) ls
 unfolding line_seen
@@ -67,22 +66,22 @@ template-tested m r n l c ls w e f = rw (e, f)
 
 module _ {m : Marks} {text : Bytes} {l : Loader} {start next : ℕ} {bytes c : Bytes} {stop : ℕ} {w : Result Found LoadFault} (s : TableSound m text l) (i : l.next ≡ Template)
     (b : LineIn text start bytes next) (f : FindsByte bytes 0 (length bytes) m.source stop) (z : c ≡ take stop bytes)
-    (h : Weighs m.placeholder (templates_in text l.table l.count) (order_in l.table) l.nodes c w) where
+    (h : Weighs m.placeholder (templates_in text l.table l.table.count) (order_in l.table) l.nodes c w) where
   -- what the line comes to by what its template is found to be
   by-template : (n : ℕ) → line_seen m (progress_of m text l) n bytes (lines (drop next text))
       ≡ unless (weighed_fault w) (begun (progress_of m text l) (record { line = n; template = c; body = body_at m text next }))
   by-template n =
       seen-template m (progress_of m text l) n bytes (lines (drop next text)) (ap in_body i)
-      ∙ template-tested m (progress_of m text l) n bytes c (lines (drop next text)) w (sym (z ∙ content_is f)) (h.is m refl (macros_in m text l.table l.count) (tabled s))
+      ∙ template-tested m (progress_of m text l) n bytes c (lines (drop next text)) w (sym (z ∙ content_is f)) (h.is m refl (macros_in m text l.table l.table.count) (tabled s))
 
   module _ {y : Found} (e : w ≡ Ok y) where
-    room : HasRoom m.placeholder (templates_in text l.table l.count) (order_in l.table) l.nodes c y
+    room : HasRoom m.placeholder (templates_in text l.table l.table.count) (order_in l.table) l.nodes c y
     room = rw e at h.room
 
-    -- v is the table with the macro stored, and u that with the macro put in order
-    module _ (n : ℕ) (v u : Table) (q : StoresMacro l.table l.count (record { start = start; len = length c; line = n; body = next }) v) (o : PutsInOrder v l.count y.place u) where
-      few : l.count < 128
-      few = omega (arith, room.few, templates_in_length text l.table l.count)
+    -- u is the table with the macro
+    module _ (n : ℕ) (u : Table) (q : PutsMacro l.table (record { start = start; len = length c; line = n; body = next }) y.place u) where
+      few : l.table.count < 128
+      few = omega (arith, room.few, templates_in_length text l.table l.table.count)
 
       long : length c ≡ stop
       long = ap length z ∙ length-take-le stop bytes f.high
@@ -96,35 +95,33 @@ module _ {m : Marks} {text : Bytes} {l : Loader} {start next : ℕ} {bytes c : B
       new-macro = record { line = n; template = c; body = body_at m text next }
 
       -- the macro comes after those before it
-      macros-more : macros_in m text u (l.count + 1) ≡ macros_in m text l.table l.count ++ (new-macro ∷ [])
+      macros-more : macros_in m text u u.count ≡ macros_in m text l.table l.table.count ++ (new-macro ∷ [])
       macros-more =
-          macros-same m text v u (l.count + 1) (put_same o (l.count + 1)) (l.count + 1) (omega arith)
-          ∙ macros-stored q m text ∙ ap (λ (d : Bytes). macros_in m text l.table l.count ++ (record { line = n; template = d; body = body_at m text next } ∷ [])) template_is
+          macros-put q m text
+          ∙ ap (λ (d : Bytes). macros_in m text l.table l.table.count ++ (record { line = n; template = d; body = body_at m text next } ∷ [])) template_is
 
       -- and so does its template
-      templates-more : templates_in text l.table l.count ++ (c ∷ []) ≡ templates_in text u (l.count + 1)
+      templates-more : templates_in text l.table l.table.count ++ (c ∷ []) ≡ templates_in text u u.count
       templates-more =
-          ap (λ (x : List Bytes). x ++ (c ∷ [])) (sym (macros-templates m text l.table l.count))
-          ∙ sym (templates_snoc (macros_in m text l.table l.count) new-macro) ∙ ap templates (sym macros-more)
-          ∙ macros-templates m text u (l.count + 1)
+          ap (λ (x : List Bytes). x ++ (c ∷ [])) (sym (macros-templates m text l.table l.table.count))
+          ∙ sym (templates_snoc (macros_in m text l.table l.table.count) new-macro) ∙ ap templates (sym macros-more)
+          ∙ macros-templates m text u u.count
 
       -- with it the templates are in order
-      order-more : InOrder m.placeholder (templates_in text u (l.count + 1)) (order_in u)
+      order-more : InOrder m.placeholder (templates_in text u u.count) (order_in u)
       order-more =
-          let z = templates_in_length text l.table l.count in
-          rw templates-more at (in_order_more s.in_order room.goes room.within (λ i a. o.before i a ∙ stored_order q i) (o.there ∙ sym z)
-          (λ i a b. o.further i a (omega arith) ∙ stored_order q i))
+          let z = templates_in_length text l.table l.table.count in
+          rw templates-more at (in_order_more s.in_order room.goes room.within q.before (q.there ∙ sym z) (λ i a b. q.further i a (omega arith)))
 
       -- the line begins the macro
-      pub macro_more : SeesLine m text l n bytes next (record { table = u; count = l.count + 1; nodes = l.nodes + y.new; codes = l.codes; next = Code 0 }) (Ok None)
+      pub macro_more : SeesLine m text l n bytes next (record { table = u; nodes = l.nodes + y.new; codes = l.codes; next = Code 0 }) (Ok None)
       unfolding unless
       macro_more =
           record {
             is = by-template n ∙ rw (e, macros-more);
             left = record {
-              inside = entries_same text v u (l.count + 1) (put_same o (l.count + 1))
-                  (entries_stored q text few (omega (arith, f.high, b.high, b.within, long)) room.short b.within s.inside);
-              counted = rw macros-more (sym (nodes_snoc (macros_in m text l.table l.count) new-macro ∙ room.counted (macros_in m text l.table l.count) (tabled s)));
+              inside = entries_put q text few (omega (arith, f.high, b.high, b.within, long)) room.short b.within s.inside;
+              counted = rw macros-more (sym (nodes_snoc (macros_in m text l.table l.table.count) new-macro ∙ room.counted (macros_in m text l.table l.table.count) (tabled s)));
               tree = room.tree;
               in_order = order-more;
             };

@@ -12,7 +12,7 @@ use Rattle.load.specs.declared.Refused.{Refused}
 
 -- the loaded text; t is the table
 abbrev pub loaded_of : Bytes → Table → Loaded → Load.Loaded
-loaded_of text t r = record { marks = r.marks; macros = macros_in r.marks text t r.count; last = r.line; input = lines (drop r.input text) }
+loaded_of text t r = record { marks = r.marks; macros = macros_in r.marks text t t.count; last = r.line; input = lines (drop r.input text) }
 
 -- what an answer says: the loaded text, or document 01's number and the line of a fault
 abbrev pub answer_of : Bytes → Table → Result Loaded Refused → Load.Load
@@ -21,9 +21,9 @@ answer_of text t (Err f) = Load.refused (load_number f.fault) f.line
 
 -- what else is known of a loaded text
 pub record LoadedSound (text : Bytes) (t : Table) (r : Loaded) : Type 0 where
-  pub inside : EntriesInside text t r.count
-  pub counted : r.nodes ≡ nodes (macros_in r.marks text t r.count)
-  pub in_order : InOrder r.marks.placeholder (templates_in text t r.count) (order_in t)
+  pub inside : EntriesInside text t t.count
+  pub counted : r.nodes ≡ nodes (macros_in r.marks text t t.count)
+  pub in_order : InOrder r.marks.placeholder (templates_in text t t.count) (order_in t)
   pub input : r.input ≤ length text
   pub read : r.line ≤ r.input
 

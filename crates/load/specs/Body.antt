@@ -27,7 +27,6 @@ pub record Follows (m : Marks) (next : Next) (c : Bytes) (r : Option Next) : Typ
 -- the macros are as they were
 pub record MacrosKept (l k : Loader) : Type 0 where
   pub table : k.table ≡ l.table
-  pub count : k.count ≡ l.count
   pub nodes : k.nodes ≡ l.nodes
 
 -- no code line ends the section
@@ -44,7 +43,7 @@ pub record AddsCode (m : Marks) (l : Loader) (line : Bytes) (k : Loader) (r : Li
 abbrev pub EndKept : Marks → Loader → ℕ → ℕ → Loader → LineSeen → Type 0
 EndKept m l n next k (Err f) = Unit {0}
 EndKept m l n next k (Ok None) = MacrosKept l k
-EndKept m l n next k (Ok (Some x)) = (k.table ≡ l.table) × (x ≡ record { line = n; marks = m; count = l.count; nodes = l.nodes; input = next })
+EndKept m l n next k (Ok (Some x)) = (k.table ≡ l.table) × (x ≡ record { line = n; marks = m; nodes = l.nodes; input = next })
 
 -- the end of a macro or of the section, line n, comes to r, and the loader l to k; `rest` is what follows the line's first byte
 pub record EndsMacro (m : Marks) (l : Loader) (n next : ℕ) (rest : Bytes) (k : Loader) (r : LineSeen) : Type 0 where

@@ -35,7 +35,7 @@ abbrev pub LineSeen : Type 0
 LineSeen = Result (Option Loaded) LoadFault
 
 abbrev pub progress_of : Marks → Bytes → Loader → Load.Progress
-progress_of m text l = record { macros = macros_in m text l.table l.count; codes = l.codes; in_body = in_body l.next; opened = opened l.next; due = due l.next }
+progress_of m text l = record { macros = macros_in m text l.table l.table.count; codes = l.codes; in_body = in_body l.next; opened = opened l.next; due = due l.next }
 
 -- the loader is l after it
 abbrev pub seen_of : Marks → Bytes → Loader → LineSeen → Load.Seen
@@ -45,10 +45,10 @@ seen_of m text l (Ok (Some x)) = Load.section_ends
 
 -- the table holds the macros so far and has them in order, and their tree's nodes are counted
 pub record TableSound (m : Marks) (text : Bytes) (l : Loader) : Type 0 where
-  pub inside : EntriesInside text l.table l.count
-  pub counted : l.nodes ≡ nodes (macros_in m text l.table l.count)
+  pub inside : EntriesInside text l.table l.table.count
+  pub counted : l.nodes ≡ nodes (macros_in m text l.table l.table.count)
   pub tree : l.nodes ≤ nodes_most
-  pub in_order : InOrder m.placeholder (templates_in text l.table l.count) (order_in l.table)
+  pub in_order : InOrder m.placeholder (templates_in text l.table l.table.count) (order_in l.table)
 
 -- the bytes stand in the text from `start` on, before the place `next`
 pub record LineIn (text : Bytes) (start : ℕ) (bytes : Bytes) (next : ℕ) : Type 0 where
@@ -60,7 +60,7 @@ pub record LineIn (text : Bytes) (start : ℕ) (bytes : Bytes) (next : ℕ) : Ty
 abbrev pub Left : Marks → Bytes → Loader → ℕ → ℕ → Loader → LineSeen → Type 0
 Left m text l n next k (Err f) = Unit {0}
 Left m text l n next k (Ok None) = TableSound m text k
-Left m text l n next k (Ok (Some x)) = (k.table ≡ l.table) × (x ≡ record { line = n; marks = m; count = l.count; nodes = l.nodes; input = next })
+Left m text l n next k (Ok (Some x)) = (k.table ≡ l.table) × (x ≡ record { line = n; marks = m; nodes = l.nodes; input = next })
 
 -- line n has these bytes, and the next one starts at `next`: it comes to r, and the loader l to k
 pub record SeesLine (m : Marks) (text : Bytes) (l : Loader) (n : ℕ) (bytes : Bytes) (next : ℕ) (k : Loader) (r : LineSeen) : Type 0 where

@@ -71,7 +71,6 @@ impl Loader {
             return Ok(Some(Loaded {
                 line: line.nth,
                 marks: m,
-                count: self.count,
                 nodes: self.nodes,
                 input: line.next,
             }));

@@ -25,8 +25,7 @@ pub struct Loaded {
     // its section's last line
     pub line: usize,
     pub marks: Marks,
-    // the first so many macros of the table are its macros, and their tree has so many nodes
-    pub count: usize,
+    // its templates' tree has so many nodes
     pub nodes: usize,
     // where the input starts
     pub input: usize,
@@ -62,9 +61,8 @@ struct SectionLine<'a> {
 // How far the macros are read.
 #[derive(Clone, Copy)]
 struct Loader {
-    // the macros so far, how many they are, and the nodes of their tree
+    // the macros so far, and the nodes of their tree
     table: Table,
-    count: usize,
     nodes: usize,
     // the code lines so far
     codes: usize,

@@ -56,8 +56,7 @@ pub fn load_section(marked: &Marked, first: usize, table: &mut Table) -> Result<
 {
     let text = marked.text;
     let mut loader = Loader {
-        table: *table,
-        count: 0,
+        table: Table { count: 0, ..*table },
         nodes: 1,
         codes: 0,
         next: Next::Template,

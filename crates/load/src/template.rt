@@ -24,7 +24,7 @@ fn count_byte(s: &[u8], b: u8) -> usize
 #[tactic(auto, using(crate::proofs::Macros::counted_by, crate::proofs::Macros::tabled_length, macros::proofs::Entries::templates_in_length), unfolding(model::specs::Load::template_fault, model::specs::Load::lowest))]
 fn weigh_template(ordered: &Ordered, nodes: usize, template: &[u8]) -> Result<Found, LoadFault>
     requires { nodes ≤ nodes_most }
-    ensures { Weighs ordered.now.mark (templates_in ordered.now.text.now ordered.now.table.now ordered.now.n) (order_in ordered.now.table.now) nodes template.now result }
+    ensures { Weighs ordered.now.mark (templates_in ordered.now.text.now ordered.now.table.now ordered.now.table.now.count) (order_in ordered.now.table.now) nodes template.now result }
 {
     if LINE_MOST < template.len() {
         return Err(LoadFault::LongContent);
@@ -34,7 +34,7 @@ fn weigh_template(ordered: &Ordered, nodes: usize, template: &[u8]) -> Result<Fo
     }
     let place = ordered.find_place(template);
     let found = place.ok_or(LoadFault::MetTemplate)?;
-    if MACROS_MOST <= ordered.n || NODES_MOST - nodes < found.new {
+    if MACROS_MOST <= ordered.table.count || NODES_MOST - nodes < found.new {
         return Err(LoadFault::OverLimit);
     }
     Ok(found)
@@ -55,7 +55,6 @@ impl Loader {
             mark: m.placeholder,
             text: marked.text,
             table: &self.table,
-            n: self.count,
         };
         let found = weigh_template(&ordered, self.nodes, template)?;
         let entry = Entry {
@@ -64,9 +63,7 @@ impl Loader {
             line: line.nth,
             body: line.next,
         };
-        self.table.put_macro(self.count, entry);
-        self.table.put_in_order(self.count, found.place);
-        self.count += 1;
+        self.table.put_macro(entry, found.place);
         self.nodes += found.new;
         self.next = Next::Code(0);
         Ok(None)

@@ -14,7 +14,7 @@ use Rattle.model.specs.Load.{no_macro, templates, body_at}
 use Rattle.model.proofs.Loading.{templates_snoc}
 use Rattle.macros.specs.declared.Entry.{Entry}
 use Rattle.macros.specs.declared.Table.{Table}
-use Rattle.macros.specs.Table.{no_entry, entry_in, start_in, len_in, line_in, body_in, order_in, StoresMacro, template_in, templates_in, macro_in, macros_in, EntriesInside}
+use Rattle.macros.specs.Table.{no_entry, entry_in, start_in, len_in, line_in, body_in, PutsMacro, template_in, templates_in, macro_in, macros_in, EntriesInside}
 
 -- what holds below n and of n holds below n + 1
 pub one_more : (n : ℕ) (P : ℕ → Type 0) → ((k : ℕ) → k < n → P k) → P n → (k : ℕ) → k < n + 1 → P k
@@ -90,48 +90,44 @@ entries_same text t t' n h i = record {
 
 -- ---- a macro more
 
-module _ {t t' : Table} {k : ℕ} {e : Entry} (h : StoresMacro t k e t') where
+module _ {t t' : Table} {e : Entry} {place : ℕ} (h : PutsMacro t e place t') where
   -- the others are as they were
-  stored_other : (j : ℕ) → ¬ (j ≡ k) → entry_in t' j ≡ entry_in t j
-  stored_other j f = ap (λ (u : Table). entry_in u j) h.is ∙ get_or-set_other t.entries k j e no_entry f
+  put_other : (j : ℕ) → ¬ (j ≡ t.count) → entry_in t' j ≡ entry_in t j
+  put_other j f = ap (λ (es : List Entry). get_or es j no_entry) h.entries ∙ get_or-set_other t.entries t.count j e no_entry f
 
-  stored_same : SameMacros t t' k
-  stored_same = same_entries k (λ j u. stored_other j (λ z. omega arith))
+  put_same : SameMacros t t' t.count
+  put_same = same_entries t.count (λ j u. put_other j (λ z. omega arith))
 
-  -- and so is the order
-  pub stored_order : (i : ℕ) → order_in t' i ≡ order_in t i
-  stored_order i = ap (λ (u : Table). order_in u i) h.is
+  put_start : start_in t' t.count ≡ e.start
+  put_start = ap (λ (x : Entry). x.start) h.last
 
-  stored_start : start_in t' k ≡ e.start
-  stored_start = ap (λ (x : Entry). x.start) h.there
-
-  stored_len : len_in t' k ≡ e.len
-  stored_len = ap (λ (x : Entry). x.len) h.there
+  put_len : len_in t' t.count ≡ e.len
+  put_len = ap (λ (x : Entry). x.len) h.last
 
   -- the new macro comes after the earlier ones
-  pub macros-stored : (m : Marks) (text : Bytes) → macros_in m text t' (k + 1)
-      ≡ macros_in m text t k ++ (record { line = e.line; template = part text e.start (e.start + e.len); body = body_at m text e.body } ∷ [])
+  pub macros-put : (m : Marks) (text : Bytes) → macros_in m text t' t'.count
+      ≡ macros_in m text t t.count ++ (record { line = e.line; template = part text e.start (e.start + e.len); body = body_at m text e.body } ∷ [])
   unfolding macros_in
-  macros-stored m text =
-      ap (macros_in m text t') (add-one k)
+  macros-put m text =
+      ap (macros_in m text t') (h.more ∙ add-one t.count)
       ∙ rw (
-        macros-same m text t t' k stored_same k (omega arith),
-        stored_start,
-        stored_len,
-        ap (λ (x : Entry). x.line) h.there,
-        ap (λ (x : Entry). x.body) h.there,
+        macros-same m text t t' t.count put_same t.count (omega arith),
+        put_start,
+        put_len,
+        ap (λ (x : Entry). x.line) h.last,
+        ap (λ (x : Entry). x.body) h.last,
       )
 
   -- each lies in the text where the new one does
-  pub entries_stored : (text : Bytes) → k < 128 → e.start + e.len ≤ length text → e.len ≤ 200 → e.body ≤ length text
-      → EntriesInside text t k → EntriesInside text t' (k + 1)
-  entries_stored text u a l b g =
-      let g' = entries_same text t t' k stored_same g in
-      record {
+  pub entries_put : (text : Bytes) → t.count < 128 → e.start + e.len ≤ length text → e.len ≤ 200 → e.body ≤ length text
+      → EntriesInside text t t.count → EntriesInside text t' t'.count
+  entries_put text u a l b g =
+      let g' = entries_same text t t' t.count put_same g in
+      subst (EntriesInside text t') (sym h.more) (record {
         entries = record {
           few = omega arith;
-          inside = one_more k (λ j. start_in t' j + len_in t' j ≤ length text) g'.entries.inside (rw (stored_start, stored_len) a);
+          inside = one_more t.count (λ j. start_in t' j + len_in t' j ≤ length text) g'.entries.inside (rw (put_start, put_len) a);
         };
-        short = one_more k (λ j. len_in t' j ≤ 200) g'.short (rw stored_len l);
-        body = one_more k (λ j. body_in t' j ≤ length text) g'.body (rw (ap (λ (x : Entry). x.body) h.there) b);
-      }
+        short = one_more t.count (λ j. len_in t' j ≤ 200) g'.short (rw put_len l);
+        body = one_more t.count (λ j. body_in t' j ≤ length text) g'.body (rw (ap (λ (x : Entry). x.body) h.last) b);
+      })

@@ -1,3 +1,2 @@
--- The laws of the table of macros and of its order.
+-- The laws of the table of macros.
 pub mod Entries
-pub mod Order

@@ -32,23 +32,21 @@ body_in t k = (entry_in t k).body
 abbrev pub order_in : Table → ℕ → ℕ
 order_in t place = get_or t.order place 0
 
--- macro k is stored, and all else is as it was
-pub record StoresMacro (t : Table) (k : ℕ) (e : Entry) (t' : Table) : Type 0 where
-  pub is : t' ≡ record t { entries = set t.entries k e }
-  pub there : entry_in t' k ≡ e
-
 -- a row that has where each macro's body starts
 pub record HasBodies (t : Table) (bodies : List ℕ) : Type 0 where
   pub whole : macros_most ≤ length bodies
   pub same : (k : ℕ) → k < macros_most → get_or bodies k 0 ≡ body_in t k
 
--- macro k stands at a place of the order, those of the first k from there on one place further, and all else is as it was
-pub record PutsInOrder (t : Table) (k place : ℕ) (t' : Table) : Type 0 where
+-- the table has one macro more, the last in the text: its number stands at a place of the order, those of the others from there on one place
+-- further, and all else is as it was
+pub record PutsMacro (t : Table) (e : Entry) (place : ℕ) (t' : Table) : Type 0 where
+  pub more : t'.count ≡ t.count + 1
+  pub entries : t'.entries ≡ set t.entries t.count e
+  pub last : entry_in t' t.count ≡ e
   pub before : (i : ℕ) → i < place → order_in t' i ≡ order_in t i
-  pub there : order_in t' place ≡ k
-  pub further : (i : ℕ) → place ≤ i → i < k → order_in t' (suc i) ≡ order_in t i
-  pub behind : (i : ℕ) → k < i → order_in t' i ≡ order_in t i
-  pub others : t'.entries ≡ t.entries
+  pub there : order_in t' place ≡ t.count
+  pub further : (i : ℕ) → place ≤ i → i < t.count → order_in t' (suc i) ≡ order_in t i
+  pub behind : (i : ℕ) → t.count < i → order_in t' i ≡ order_in t i
 
 -- ---- what a table stands for
 

@@ -3,7 +3,7 @@
 
 ghost use Rattle.std.specs.Prelude.{◌≡◌, ◌+◌, ◌≤◌, ◌<◌, length};
 ghost use Rattle.model.specs.Limits.{macros_most};
-ghost use Rattle.macros.specs.Table.{start_in, len_in, line_in, order_in, template_in, StoresMacro, HasBodies, PutsInOrder};
+ghost use Rattle.macros.specs.Table.{start_in, len_in, line_in, order_in, template_in, HasBodies, PutsMacro};
 
 use model::MACROS_MOST;
 
@@ -19,11 +19,12 @@ pub struct Entry {
     pub body: usize,
 }
 
-// The macros in the order of the text, and their numbers in the order of their templates' keys.
+// So many macros: what is kept of each in the order of the text, and their numbers in the order of their templates' keys.
 #[derive(Clone, Copy, Default)]
 pub struct Table {
     pub entries: [Entry; MACROS_MOST],
     pub order: [usize; MACROS_MOST],
+    pub count: usize,
 }
 
 // A macro's number is an index of both arrays, and is counted and ordered: a type of its own would be made of a number, and read as one, at each use.
@@ -65,20 +66,15 @@ impl Table {
         bodies
     }
 
-    // Stores macro k.
-    pub fn put_macro(&mut self, k: usize, entry: Entry)
-        requires { k < macros_most }
-        ensures { StoresMacro self.old k entry self.new }
+    // Puts the next macro into the table, and its number at a place of the order; those from there on stand one place further.
+    pub fn put_macro(&mut self, entry: Entry, place: usize)
+        requires { (self.old.count < macros_most) × (place ≤ self.old.count) }
+        ensures { PutsMacro self.old entry place self.new }
     {
+        let k = self.count;
         self.entries[k] = entry;
-    }
-
-    // Puts macro k at a place of the order of the k macros before it; those from there on stand one place further.
-    pub fn put_in_order(&mut self, k: usize, place: usize)
-        requires { (k < macros_most) × (place ≤ k) }
-        ensures { PutsInOrder self.old k place self.new }
-    {
         self.order.copy_within(place..k, place + 1);
         self.order[place] = k;
+        self.count += 1;
     }
 }

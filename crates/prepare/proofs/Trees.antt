@@ -30,13 +30,13 @@ module _ {text : Bytes} {t : Prepared} (h : Loads (load text) text t.table (Ok t
 
   -- the macros, and their templates as the table has them
   abbrev macros : List Macro
-  macros = macros_in r.marks text t.table r.count
+  macros = macros_in r.marks text t.table t.table.count
 
   abbrev listed : List Bytes
-  listed = templates_in text t.table r.count
+  listed = templates_in text t.table t.table.count
 
   same : templates macros ≡ listed
-  same = macros-templates r.marks text t.table r.count
+  same = macros-templates r.marks text t.table t.table.count
 
   legal : Lawful r.marks × Legal r.marks macros
   legal = load_legal text (loaded_of text t.table r) h.is
@@ -44,7 +44,7 @@ module _ {text : Bytes} {t : Prepared} (h : Loads (load text) text t.table (Ok t
   -- the templates are ready for their tree, in a row of 2,048 nodes or more
   pub ready : {row : List Node} → 2048 ≤ length row → ReadyToBuild r.marks.placeholder listed row
   ready u = record {
-    few = omega (arith, templates_in_length text t.table r.count, h.sound.inside.entries.few);
+    few = omega (arith, templates_in_length text t.table t.table.count, h.sound.inside.entries.few);
     short = λ k. subst (λ (ts : List Bytes). length (get_or ts k []) ≤ 200) same (legal.1.short k);
     nine = λ k. subst (λ (ts : List Bytes). count r.marks.placeholder (get_or ts k []) ≤ 9) same (legal.1.nine k);
     room = omega (arith, loads_counted h, loads_nodes h);

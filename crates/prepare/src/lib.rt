@@ -29,7 +29,6 @@ pub fn prepare(text: &[u8], nodes: &mut [Node]) -> Result<Prepared, Refused>
         mark: loaded.marks.placeholder,
         text,
         table: &table,
-        n: loaded.count,
     };
     build(&ordered, nodes);
     Ok(Prepared { loaded, table })

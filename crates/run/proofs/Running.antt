@@ -87,8 +87,8 @@ ready {text} {row} {t} p b =
     let h = p.loads in
     let inside = h.sound.inside in
     let q = p.has_tree in
-    let count = macros_in_length l.marks text t.table l.count in
-    let at = macros_in_at l.marks text t.table l.count in
+    let count = macros_in_length l.marks text t.table t.table.count in
+    let at = macros_in_at l.marks text t.table t.table.count in
     record {
       loads = h.is;
       book = record {
@@ -127,13 +127,13 @@ module _ {text : Bytes} {row : List Node} {bodies : List ℕ} {t : Prepared} (y 
 
   -- the entries of its macros
   abbrev entries : List Entry
-  entries = take l.count t.table.entries
+  entries = take t.table.count t.table.entries
 
   -- what the report is printed from
-  pub report_ready : {counts : List ℕ} {fuel : ℕ} {report : Bytes} → l.count ≤ length t.table.entries → Counts counts fuel → 2048 ≤ length report → ReadyToReport entries counts report
+  pub report_ready : {counts : List ℕ} {fuel : ℕ} {report : Bytes} → t.table.count ≤ length t.table.entries → Counts counts fuel → 2048 ≤ length report → ReadyToReport entries counts report
   report_ready long h room = record {
-    few = omega (arith, length-take-le l.count t.table.entries long, y.few);
-    lines = entry_lines t.table l.count long y.lines;
+    few = omega (arith, length-take-le t.table.count t.table.entries long, y.few);
+    lines = entry_lines t.table t.table.count long y.lines;
     long = h.long;
     counted = counts_few h;
     room = room;
@@ -181,13 +181,13 @@ module _ {text : Bytes} {row : List Node} {bodies : List ℕ} {t : Prepared} (y 
           ∙ ap (λ (z : Next). outcome u (after fuel (rooms (length output) (length second)) u z)) begins ∙ expands.same u y.book)
 
       -- the report is that of the loaded text
-      whole_report : {report : Bytes} {n : ℕ} {report' : Bytes} → l.count ≤ length t.table.entries → PrintsReport entries counts' report n report'
+      whole_report : {report : Bytes} {n : ℕ} {report' : Bytes} → t.table.count ≤ length t.table.entries → PrintsReport entries counts' report n report'
           → Written report (report_bytes (report_rows u.macros (tally_in u counts'))) n report'
       whole_report {report} {n} {report'} long p =
-          let lines = on_lines t.table l.count long l.marks text in
+          let lines = on_lines t.table t.table.count long l.marks text in
           subst (λ (k : ℕ). Written report (report_bytes (report_rows u.macros (tally_of k counts'))) n report') (sym lines.as_many) (p.is u.macros lines)
 
-      pub loaded_runs : {store report : Bytes} {r : Ran} {n : ℕ} {store' report' : Bytes} → l.count ≤ length t.table.entries → PrintsReport entries counts' report n report' → EndsRun q n s' store r store'
+      pub loaded_runs : {store report : Bytes} {r : Ran} {n : ℕ} {store' report' : Bytes} → t.table.count ≤ length t.table.entries → PrintsReport entries counts' report n report' → EndsRun q n s' store r store'
           → Runs (run fuel (rooms (length output) (length second)) (load text)) output second store report r output' second' store' report'
       unfolding ran_as
       loaded_runs {store} {report} {r} {n} {store'} {report'} long p d =

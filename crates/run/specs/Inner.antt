@@ -23,8 +23,8 @@ basis_of text row bodies t = record { marks = t.loaded.marks; text = text; nodes
 pub record ReadyToRun (text : Bytes) (row : List Node) (bodies : List ℕ) (t : Prepared) : Type 0 where
   pub loads : load text ≡ loaded (loaded_of text t.table t.loaded)
   pub book : Book (basis_of text row bodies t) (loaded_of text t.table t.loaded)
-  pub few : t.loaded.count ≤ macros_most
-  pub lines : (k : ℕ) → k < t.loaded.count → line_in t.table k ≤ text_most
+  pub few : t.table.count ≤ macros_most
+  pub lines : (k : ℕ) → k < t.table.count → line_in t.table k ≤ text_most
   pub at : t.loaded.input ≤ length text
   pub line : t.loaded.line ≤ text_most
 

@@ -126,7 +126,7 @@ fn run_loaded(
         bodies,
     };
     let ended = expand_input(&script, dead, output, second, &mut counts, &mut s);
-    let reported = print_report(&t.table.entries[..loaded.count], &counts, report);
+    let reported = print_report(&t.table.entries[..t.table.count], &counts, report);
     end(ended, reported, &s, store)
 }
 

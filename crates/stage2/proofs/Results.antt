@@ -122,7 +122,7 @@ module _ {text : Bytes} {t : Prepared} {row : List Node} (line : Bytes) (p : IsP
   l = t.loaded
 
   abbrev macros : List Macro
-  macros = macros_in l.marks text t.table l.count
+  macros = macros_in l.marks text t.table t.table.count
 
   -- a line over 200 bytes
   pub fit_long : {k : ℕ} {f : Fitted} → 200 < length line → k ≡ 11 → f ≡ without_pieces k 0 → f ≡ fitted_in line (load text)
@@ -149,8 +149,8 @@ module _ {text : Bytes} {t : Prepared} {row : List Node} (line : Bytes) (p : IsP
     read : c.bytes ≡ bytes_read l.marks (templates macros) line
     read = h.bytes (templates macros) p.has_tree.fits
 
-    place : {r : Reading} → Chosen l.marks (templates macros) line r → r.template < l.count
-    place w = omega (arith, w.place, templates-length macros, macros_in_length l.marks text t.table l.count)
+    place : {r : Reading} → Chosen l.marks (templates macros) line r → r.template < t.table.count
+    place w = omega (arith, w.place, templates-length macros, macros_in_length l.marks text t.table t.table.count)
 
     -- the chosen template is one of the table's
     pub template_within : IfSome c.reading (λ r. r.template < 128)
@@ -174,7 +174,7 @@ module _ {text : Bytes} {t : Prepared} {row : List Node} (line : Bytes) (p : IsP
     unfolding fitted_as
     call {r} w =
         let x : macro_in l.marks text t.table r.template ≡ get_or macros w.reading.which no_macro =
-        sym (macros_in_at l.marks text t.table l.count r.template (place w)) ∙ ap (λ (k : ℕ). get_or macros k no_macro) (sym w.which) in
+        sym (macros_in_at l.marks text t.table t.table.count r.template (place w)) ∙ ap (λ (k : ℕ). get_or macros k no_macro) (sym w.which) in
         let y : get_or (templates macros) r.template [] ≡ (get_or macros w.reading.which no_macro).template =
         template_at macros r.template ∙ ap (λ (k : ℕ). (get_or macros k no_macro).template) (sym w.which) in
         let starts = w.starts ∙ ap (λ (q : Bytes). nine (starts_of l.marks 0 q w.reading.pieces)) y in

@@ -68,14 +68,13 @@ pub struct Pick {
     pub end: usize,
 }
 
-// The templates of a table in their order: the placeholder's mark, the text, and the table, which has n of them.
+// The templates of a table in their order: the placeholder's mark, the text, and the table.
 #[derive(Clone, Copy)]
 pub struct Ordered<'a> {
     pub mark: u8,
     pub text: &'a [u8],
     pub table: &'a Table,
-    pub n: usize,
-    pub ghost in_order: { Entries text.now table.now n × InOrder mark (templates_in text.now table.now n) (order_in table.now) } by { ordered_prop },
+    pub ghost in_order: { Entries text.now table.now table.now.count × InOrder mark (templates_in text.now table.now table.now.count) (order_in table.now) } by { ordered_prop },
 }
 
 impl<'a> Ordered<'a> {
@@ -84,7 +83,7 @@ impl<'a> Ordered<'a> {
     // The template at a place of the order.
     #[tactic(auto, using(crate::proofs::Placed::placed_few, crate::proofs::Placed::placed_inside, crate::proofs::Placed::placed_is))]
     fn template_at(&self, place: usize) -> &'a [u8]
-        requires { place < self.now.n }
+        requires { place < self.now.table.now.count }
         ensures { result.now ≡ placed (templates_of self.now) (order_of self.now) place }
     {
         self.table.template(self.text, self.table.macro_at(place))
@@ -97,7 +96,7 @@ impl<'a> Ordered<'a> {
         ensures { FindsPlace self.now.mark (templates_of self.now) (order_of self.now) template.now result }
     {
         let mut low = 0;
-        let mut high = self.n;
+        let mut high = self.table.count;
         let mut below = 0;
         let mut above = 0;
         while low < high {
@@ -123,7 +122,7 @@ impl<'a> Ordered<'a> {
 
     // The key at place d of the template at a place of the order.
     fn key_in_order(&self, place: usize, d: usize) -> u16
-        requires { place < self.now.n }
+        requires { place < self.now.table.now.count }
         ensures { (result ≡ keys self.now.mark (templates_of self.now) (order_of self.now place) d) × (result ≤ placeholder_key) }
     {
         key_at(self.mark, self.template_at(place), d)
@@ -131,7 +130,7 @@ impl<'a> Ordered<'a> {
 
     // The run of those that have the key of the first at place d, from a place of the order on, before another.
     pub fn take_run(&self, from: usize, to: usize, d: usize) -> Pick
-        requires { (from < to) × (to ≤ self.now.n) }
+        requires { (from < to) × (to ≤ self.now.table.now.count) }
         ensures { (result.from ≡ from) × TakesRun (keys self.now.mark (templates_of self.now)) (order_of self.now) from to d result.key result.template result.end }
     {
         let key = self.key_in_order(from, d);

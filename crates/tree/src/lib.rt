@@ -127,6 +127,6 @@ pub fn build(ordered: &Ordered, nodes: &mut [Node]) -> usize
     ensures { Builds ordered.now.mark (templates_of ordered.now) nodes.new result }
 {
     bound_bytes(ordered.text);
-    nodes[0] = make_root(ordered.n);
+    nodes[0] = make_root(ordered.table.count);
     grow_tree(ordered, nodes)
 }

@@ -11,4 +11,4 @@ expand_input-ended-requires c =
     (starts_sound ready begins few, c.requires.3, starts_counted ready begins few)
 
 pub returns : goal.returns
-returns c = loaded_runs c.requires.0 c.start-s.ensures c.expand_input-ended.ensures (omega (arith, length-take c.args.t.now.loaded.count c.args.t.now.table.entries)) c.print_report-reported.ensures c.end.ensures
+returns c = loaded_runs c.requires.0 c.start-s.ensures c.expand_input-ended.ensures (omega (arith, length-take c.args.t.now.table.count c.args.t.now.table.entries)) c.print_report-reported.ensures c.end.ensures

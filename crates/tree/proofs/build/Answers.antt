@@ -10,8 +10,8 @@ use Rattle.tree.proofs.build.Goals as goal
 pub grow_tree-requires : goal.grow_tree-requires
 grow_tree-requires c =
     let o = c.args.ordered.now in
-    let small = table_small o.text.now o.table.now o.n c.bound_bytes.ensures in
-    let planted = root_alone _ _ _ small _ o.n c.requires (templates_in_length o.text.now o.table.now o.n) c.make_root.ensures refl in
+    let small = table_small o.text.now o.table.now o.table.now.count c.bound_bytes.ensures in
+    let planted = root_alone _ _ _ small _ o.table.now.count c.requires (templates_in_length o.text.now o.table.now o.table.now.count) c.make_root.ensures refl in
     (ready_kept c.requires (length-set c.args.nodes.now 0 c.make_root.result), planted)
 
 pub returns : goal.returns

@@ -9,7 +9,7 @@ pub take_run-r-requires : goal.take_run-r-requires
 take_run-r-requires c =
     let few = last_within _ _ _ c.loop-at.invariant c.end_of_children-end.ensures in
     let o = c.args.ordered.now in
-    (c.loop-at-test.true, omega (arith, few, templates_in_length o.text.now o.table.now o.n))
+    (c.loop-at-test.true, omega (arith, few, templates_in_length o.text.now o.table.now o.table.now.count))
 
 pub make_child-requires : goal.make_child-requires
 make_child-requires c =

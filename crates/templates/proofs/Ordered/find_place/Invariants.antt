@@ -6,7 +6,7 @@ use Rattle.templates.proofs.Finding.{Seeking}
 use Rattle.templates.proofs.Ordered.find_place.Given as goal
 
 abbrev pub invariant-loop-low : goal.invariant-loop-low
-invariant-loop-low l = Seeking l.self.mark (templates_of l.self) (order_of l.self) l.template l.self.n l.low l.high l.below l.above
+invariant-loop-low l = Seeking l.self.mark (templates_of l.self) (order_of l.self) l.template l.self.table.now.count l.low l.high l.below l.above
 
 abbrev pub decreases-loop-low : goal.decreases-loop-low
 decreases-loop-low l = l.high - l.low
