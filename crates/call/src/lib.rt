@@ -109,7 +109,7 @@ pub struct Pieces {
     pub param: usize,
     // the list of delimiters
     pub list: Span,
-    // where the rest of the line starts
+    // where the rest of the line starts: a place, since a slice of `line` beside it would be lent by the struct itself
     pub from: usize,
     pub line: Text,
     // the parameter's value before them
@@ -160,8 +160,8 @@ impl Call {
         number: usize,
         next: usize,
         line: &[u8],
-        starts: [usize; 9],
-        lens: [usize; 9],
+        starts: [usize; PLACEHOLDERS_MOST],
+        lens: [usize; PLACEHOLDERS_MOST],
     ) -> Call
         requires { PiecesInside line.now starts lens }
         ensures { Opens number next line.now starts lens result }

@@ -2,6 +2,7 @@
 // (`Placed`; start_repeat asks it of the next code line alone), and where an iteration is begun, that fewer than four are open; start_pass
 // asks too that its parameter's number is 1 to 9, that its line has at most 200 bytes and that its list of delimiters lies in the text.
 // That a call lies in the text is asked, and is no fact of the type, since a call borrows no text.
+// marked and call are two parameters, as are an iteration and params: a struct of two would hold `&mut`s, and each clause would name them behind fields.
 #![tactic(auto)]
 
 ghost use Rattle.std.specs.Prelude.{◌≡◌, ◌≤◌, ◌<◌, length};
@@ -12,7 +13,7 @@ ghost use Rattle.model.specs.Limits.{line_most, nesting_most};
 use body::past_loop;
 use call::{Call, Iteration, Kind, Param, Pieces, Span, Text};
 use faults::RunFault;
-use model::Integer;
+use model::{Integer, PLACEHOLDERS_MOST};
 use pass::take_piece;
 use scan::Marked;
 
@@ -27,7 +28,11 @@ fn set_piece(param: &mut Param, piece: &[u8], delimiter: Option<u8>)
 }
 
 // An ed7 makes a pass over the rest of its line.
-fn take_pass(marked: &Marked, pieces: &mut Pieces, params: &mut [Param; 9]) -> Result<(), RunFault>
+fn take_pass(
+    marked: &Marked,
+    pieces: &mut Pieces,
+    params: &mut [Param; PLACEHOLDERS_MOST],
+) -> Result<(), RunFault>
     requires { PlacedPieces marked.now.text.now pieces.old }
     ensures { TakesPass marked.now.marks marked.now.text.now pieces.old params.old result pieces.new params.new }
 {
@@ -73,7 +78,7 @@ pub fn start_pass(
 fn pass_again(
     marked: &Marked,
     iteration: &mut Iteration,
-    params: &mut [Param; 9],
+    params: &mut [Param; PLACEHOLDERS_MOST],
 ) -> Result<Option<usize>, RunFault>
     requires { PlacedLoop marked.now.text.now iteration.old }
     ensures { GoesOn marked.now.marks marked.now.text.now iteration.old params.old result iteration.new params.new }

@@ -1,4 +1,5 @@
 // What a run carries from one event to the next. The outputs are lent slices beside it.
+// What is read of the text and written of the outputs are places and numbers here: as slices they would be borrowed, and a state borrows nothing.
 // An event asks that fuel is left, and what is counted has to be at most 1,000,000, so that no sum is too large. Nothing else is asked.
 #![tactic(auto)]
 
