@@ -1,6 +1,6 @@
 // The row of nodes that holds the tree of the templates, and the two looks for a child. Node 0 is the root, and nobody's child. The children
 // of a node stand side by side, in the order of their keys, so one is found by halving their run, and the placeholder child is the last one.
-// They are places of the row and no boxes: the library has no heap, and C lends the row.
+// Nodes are places of the row and no boxes: the library has no heap, and C lends the row.
 // Who looks for a child is asked that the node and its children stand in the row, and that these ascend up to the placeholder's key; nothing
 // else is asked.
 #![tactic(auto)]

@@ -1,7 +1,7 @@
 // The builder of the tree of the templates, in which a line's first reading is found. The tree is laid breadth first: a node's templates are
 // a run of their order, which the node holds in place of its children until it is given these. Each run of templates that have one key after
 // the node's beginning makes a child, so the children of a node stand side by side in the order of their keys.
-// How many nodes are made stands beside their row: the row is the caller's, who lends it whole, and C reads it after the call.
+// How many nodes are made stands beside their row, which is lent: each method of a struct with a `&mut` would have to say that it is the caller's.
 #![tactic(auto)]
 
 ghost use Rattle.std.specs.Prelude.{◌≡◌, ◌+◌, ◌-◌, ◌≤◌, ◌<◌, length, get_or, set};
