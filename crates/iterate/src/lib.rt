@@ -2,7 +2,7 @@
 // (`Placed`; start_repeat asks it of the next code line alone), and where an iteration is begun, that fewer than four are open; start_pass
 // asks too that its parameter's number is 1 to 9, that its line has at most 200 bytes and that its list of delimiters lies in the text.
 // That a call lies in the text is asked, and is no fact of the type, since a call borrows no text.
-// marked and call are two parameters, as are an iteration and params: a struct of two would hold `&mut`s, and each clause would name them behind fields.
+// marked and call are two parameters, as are an iteration and params: a struct of two would hold `&mut`s, which each clause would name behind fields.
 #![tactic(auto)]
 
 ghost use Rattle.std.specs.Prelude.{◌≡◌, ◌≤◌, ◌<◌, length};

@@ -94,6 +94,7 @@ impl<'a> Iterator for Entries<'a> {
 }
 
 // What is listed of each entry.
+// No closure: the clauses say whether names or texts are written, and it would have to promise which, by a ghost value that no call here can pick.
 #[derive(Clone, Copy)]
 enum Part {
     Name,
@@ -145,11 +146,10 @@ fn seek<'a>(memory: &'a [u8], index: Index, name: &[u8]) -> Option<&'a [u8]>
     requires { Kept memory.now index }
     ensures { SeeksName memory.now index name.now (option_copied result) }
 {
-    let entry = find_entry(memory, index, name)?;
-    Some(entry.text)
+    find_entry(memory, index, name).map(|entry| entry.text)
 }
 
-// The text of the name whose entry begins at offset at is replaced.
+// The text of the name whose entry begins at offset at is replaced. An Entry in its place would lend the memory that is changed.
 #[tactic(auto, using(crate::proofs::Placed::entry_used, crate::proofs::Placed::used_within))]
 fn replace(
     memory: &mut [u8],
@@ -186,8 +186,7 @@ fn append_entry(memory: &mut [u8], index: Index, name: &[u8], text: &[u8]) -> Re
     requires name_len_bound { (length name.now < 256) × (length text.now < 256) }
     ensures { Puts memory.old index name.now text.now memory.new result }
 {
-    let count = index.count;
-    let used = index.used;
+    let Index { count, used } = index;
     if count == NAMES_MOST {
         return Err(Full);
     }
