@@ -1,21 +1,19 @@
 -- What a run answers for every argument, and that it is what document 01 demands: from what running a prepared text ensures.
 use mathlib.Core.Path.{◌≡◌, refl, sym, ◌∙◌, ap}
-use mathlib.Core.Bool.{Bool, true, false, ◌||◌}
+use mathlib.Core.Bool.{Bool, true, false}
 use Prim.Native.Nat.{ℕ, ◌≤◌}
 use native.Mathlib.Omega.{arith}
-use lib.Dec.{ltb}
 use mathlib.Core.List.{List}
 use lib.ListN.{length}
-use borrow.Author.Tests.{ltb-false}
 use Rattle.model.specs.declared.Ran.{Ran}
 use Rattle.model.specs.Text.{Bytes}
 use Rattle.model.specs.Load.{Loaded, loaded, load}
 use Rattle.model.specs.Machine.{Rooms, rooms, Result, no_run, run}
-use Rattle.model.specs.Results.{short_row, short_dead, illegal, run_text, ran_as}
+use Rattle.model.specs.Results.{illegal, run_text, ran_as}
 use Rattle.model.specs.Runs.{Runs}
 use Rattle.model.specs.Demands.{FollowsExpansion}
 use Rattle.model.proofs.Theorems.{run_follows}
-use Rattle.model.proofs.Choices.{when_true, when_false, or_false, false-not-true}
+use Rattle.model.proofs.Choices.{when_true, when_false, false-not-true}
 use Rattle.nodes.specs.declared.Node.{Node}
 use Rattle.nodes.specs.SideBySide.{HoldsTree}
 use Rattle.std.specs.Prelude as Prelude
@@ -28,31 +26,6 @@ use Rattle.run.proofs.Running.{same_runs, refuses}
 use Rattle.stage2.specs.Rooms.{TestsRooms}
 
 -- ---- the test of fuel and rooms
-
--- the tests of what is lent
-abbrev lent : (rows dead store report : ℕ) → Bool
-lent rows dead store report = ltb rows 2048 || (ltb dead 51456 || (ltb store 8704 || ltb report 2048))
-
-pub tested : (fuel rows dead store report : ℕ)
-    → TestsRooms fuel rows dead store report (ltb fuel 1 || (ltb 1000000 fuel || lent rows dead store report))
-unfolding illegal short_row short_dead
-tested fuel rows dead store report = record {
-  is = refl;
-  few = λ e. ltb-false _ _ (or_false (ltb 1000000 fuel) _ (past_fuel e)).0;
-  nodes = λ e. ltb-false _ _ (or_false (ltb rows 2048) _ (rest e)).0;
-  places = λ e. ltb-false _ _ (or_false (ltb dead 51456) _ (or_false (ltb rows 2048) _ (rest e)).1).0;
-  room = λ e. ltb-false _ _ (last e).0;
-  reports = λ e. ltb-false _ _ (last e).1;
-}
-  where
-    past_fuel : (ltb fuel 1 || (ltb 1000000 fuel || lent rows dead store report)) ≡ false → (ltb 1000000 fuel || lent rows dead store report) ≡ false
-    past_fuel e = (or_false (ltb fuel 1) _ e).1
-
-    rest : (ltb fuel 1 || (ltb 1000000 fuel || lent rows dead store report)) ≡ false → lent rows dead store report ≡ false
-    rest e = (or_false (ltb 1000000 fuel) _ (past_fuel e)).1
-
-    last : (ltb fuel 1 || (ltb 1000000 fuel || lent rows dead store report)) ≡ false → (ltb store 8704 ≡ false) × (ltb report 2048 ≡ false)
-    last e = or_false _ _ (or_false (ltb dead 51456) _ (or_false (ltb rows 2048) _ (rest e)).1).1
 
 pub legal_fuel : {fuel rows dead store report f : ℕ} {b : Bool} → TestsRooms fuel rows dead store report b → b ≡ false → f ≡ fuel → f ≤ 1000000
 legal_fuel h e u = omega (arith, h.few e)

@@ -7,20 +7,20 @@ use mathlib.Core.List.{List, [], ◌∷◌}
 use Prim.Native.Nat.{ℕ, zero, suc, ◌≤◌, ◌<◌}
 use native.Mathlib.Omega.{arith}
 use lib.Dec.{ltb}
-use lib.ListN.{length, get_or, replicate}
-use borrow.Author.Tests.{ltb-false, lt-ltb, le-ltb}
+use lib.ListN.{length, get_or}
+use borrow.Author.Tests.{lt-ltb, le-ltb}
 use Rattle.model.specs.declared.Checked.{Checked}
 use Rattle.model.specs.declared.Fitted.{Fitted}
 use Rattle.model.specs.Text.{Bytes}
 use Rattle.model.specs.Reading.{Reading as ReadingOf, chosen}
 use Rattle.model.specs.Load as Load
 use Rattle.model.specs.Load.{Macro, no_macro, templates, load, loaded, refused}
-use Rattle.model.specs.Results.{short_row, short_dead, checked_as, check_text, starts_of, nine, without_pieces, fitted_as, fitted_in, fit_of_line}
+use Rattle.model.specs.Results.{short_row, short_dead, checked_as, starts_of, nine, without_pieces, fitted_as, fitted_in, fit_of_line}
 use Rattle.model.specs.Places.{places_taken, bytes_read}
 use Rattle.model.specs.FirstReading.{FitsFirst}
 use Rattle.model.proofs.Choices.{false-not-true}
 use Rattle.model.proofs.Theorems.{fit_is_first}
-use Rattle.model.proofs.Choices.{when_true, when_false, or_false}
+use Rattle.model.proofs.Choices.{when_true, when_false}
 use Rattle.model.proofs.Loading.{templates-length}
 use Rattle.nodes.specs.declared.Node.{Node}
 use Rattle.nodes.specs.SideBySide.{HoldsTree}
@@ -45,16 +45,6 @@ use Rattle.stage2.specs.Rooms.{TestsRows}
 
 -- ---- check
 
--- a row of nodes below 2,048 gives 1
-module _ (rows : ℕ) (text : Bytes) {b : Bool} (h : b ≡ short_row rows) where
-  pub check_short : {k : ℕ} → b ≡ true → k ≡ 1 → record { number = k; line = 0 } ≡ check_text rows text
-  unfolding check_text
-  check_short e u = (λ i. record { number = u i; line = 0 }) ∙ sym (when_true _ _ (sym h ∙ e))
-
-  pub check_legal : {x : Checked} → b ≡ false → x ≡ checked_as (load text) → x ≡ check_text rows text
-  unfolding check_text
-  check_legal e a = a ∙ sym (when_false _ _ (sym h ∙ e))
-
 -- what loading answers is what check answers
 module _ {text : Bytes} {t : Table} where
   pub checked-loaded : {r : Loaded} {x : Result Loaded Refused} → Loads (load text) text t x → x ≡ Ok r → record { number = 0; line = r.line } ≡ checked_as (load text)
@@ -67,11 +57,6 @@ module _ {text : Bytes} {t : Table} where
   checked-refused {f} h e u = (λ i. record { number = u i; line = f.line }) ∙ ap checked_as (sym (h.is ∙ ap (Answer.answer_of text t) e))
 
 -- ---- fit
-
--- the test of both rows
-pub rows_tested : (rows dead : ℕ) → TestsRows rows dead (ltb rows 2048 || ltb dead 51456)
-unfolding short_row short_dead
-rows_tested rows dead = record { is = refl; nodes = λ e. ltb-false _ _ (or_false (ltb rows 2048) _ e).0; places = λ e. ltb-false _ _ (or_false (ltb rows 2048) _ e).1 }
 
 -- a row that is too short gives 1
 module _ (rows dead : ℕ) (text line : Bytes) {b : Bool} (h : TestsRows rows dead b) where
@@ -100,11 +85,6 @@ module _ {rows dead : ℕ} (text line : Bytes) {row : List Node} {f : Fitted} (e
   -- nor with a text that is refused
   pub refused_rule : {k n : ℕ} → load text ≡ refused k n → (t : Load.Loaded) → load text ≡ loaded t → 2048 ≤ rows → 51456 ≤ dead → HoldsTree t row × (length line ≤ 200 → FitsFirst t line f)
   refused_rule r t l u d = absurd (refused-loads text t r l)
-
--- the answer with no pieces
-pub no_pieces : {k n k' n' : ℕ} → k ≡ k' → n ≡ n' → record { number = k; line = n; start = replicate 9 0; length = replicate 9 0; places = 0; bytes = 0 } ≡ without_pieces k' n'
-unfolding without_pieces nine
-no_pieces u v = λ i. record { number = u i; line = v i; start = replicate 9 0; length = replicate 9 0; places = 0; bytes = 0 }
 
 template_at : (ms : List Macro) (k : ℕ) → get_or (templates ms) k [] ≡ (get_or ms k no_macro).template
 unfolding templates no_macro

@@ -37,6 +37,7 @@ fn widen_nine(a: [usize; 9]) -> [u64; 9]
 }
 
 // Whether a row of so many nodes is below the least legal length.
+#[tactic(auto, unfolding(model::specs::Results::short_row))]
 fn is_short(rows: usize) -> bool
     ensures { result ≡ short_row rows }
 {
@@ -44,10 +45,11 @@ fn is_short(rows: usize) -> bool
 }
 
 // Whether that row, or a row of so many bytes for dead places, is.
+#[tactic(auto, unfolding(model::specs::Results::short_row, model::specs::Results::short_dead))]
 fn lack_room(rows: usize, dead: usize) -> bool
     ensures { TestsRows rows dead result }
 {
-    (rows < NODES_MOST) | (dead < DEAD_LEAST)
+    is_short(rows) || dead < DEAD_LEAST
 }
 
 // A text checked, with a legal row of nodes. Numbers and lines are document 01's, here and below: C callers read 0 where there is none.
@@ -69,6 +71,7 @@ fn check_in(text: &[u8]) -> Checked
 }
 
 // Checks a text: 0 and the section's last line where it loads, else the number of its first fault and the fault's line.
+#[tactic(auto, unfolding(model::specs::Results::check_text))]
 pub fn check(text: &[u8], nodes: &mut [Node]) -> Checked
     ensures { result ≡ check_text (length nodes.old) text.now }
 {
@@ -82,6 +85,7 @@ pub fn check(text: &[u8], nodes: &mut [Node]) -> Checked
 }
 
 // A fault and a line, with no pieces, no place taken up and no byte read.
+#[tactic(auto, unfolding(model::specs::Results::without_pieces, model::specs::Results::nine))]
 fn no_pieces(fault: Fault, line: usize) -> Fitted
     ensures { result ≡ without_pieces (fault_number fault) line }
 {
@@ -97,6 +101,7 @@ fn no_pieces(fault: Fault, line: usize) -> Fitted
 }
 
 // What a choice comes to; the table says each template's line.
+#[tactic(auto, unfolding(model::specs::Results::nine))]
 fn answer_choice(table: &Table, c: Choice) -> Fitted
     requires { IfSome c.reading (λ r. r.template < macros_most) }
     ensures { result ≡ answer_of table.now c.reading c.places c.bytes }
@@ -153,13 +158,14 @@ pub fn fit(text: &[u8], nodes: &mut [Node], dead: &mut [u8], line: &[u8]) -> Fit
 
 // Whether the fuel is not 1 to 1,000,000, the node row below 2,048, the row of dead places below 51,456, the store below 8,704 or the report
 // below 2,048.
+#[tactic(auto, unfolding(model::specs::Results::illegal, model::specs::Results::short_row, model::specs::Results::short_dead))]
 fn is_illegal(fuel: u64, rows: usize, dead: usize, store: usize, report: usize) -> bool
     ensures { TestsRooms fuel rows dead store report result }
 {
-    (fuel < 1)
-        | ((FUEL_MOST < fuel)
-            | ((rows < NODES_MOST)
-                | ((dead < DEAD_LEAST) | ((store < STORE_LEAST) | (report < REPORT_LEAST)))))
+    !(1..=FUEL_MOST).contains(&fuel)
+        || lack_room(rows, dead)
+        || store < STORE_LEAST
+        || report < REPORT_LEAST
 }
 
 // Runs a text. No more than 2,048 nodes and 51,456 bytes of the lent rows are used. Channel 3 is the output, and
