@@ -1,3 +1,3 @@
 -- The laws of copying.
-mod Names
+mod Measured
 mod Lines

@@ -7,9 +7,11 @@ use Rattle.std.specs.Prelude.{Result, Ok, Err}
 use Rattle.faults.specs.declared.RunFault.{RunFault}
 use Rattle.faults.specs.Numbers.{run_number}
 use mathlib.Core.List.{List, [], ◌∷◌}
-use Prim.Native.Nat.{ℕ, ◌+◌, ◌-◌, ◌≤◌, ◌<◌}
+use Prim.Native.Nat.{ℕ, ◌+◌, ◌≤◌}
 use native.Mathlib.Omega.{arith}
-use lib.ListN.{length, drop, drop_of_length-le}
+use lib.Dec.{eqb}
+use Rattle.std.specs.Cmp.Lexicographic.{pointwise}
+use lib.ListN.{length, take, drop, drop_of_length-le}
 use native.Mathlib.Numerals.{add-one}
 use Rattle.model.specs.declared.Marks.{Marks}
 use Rattle.model.specs.declared.Channel.{Channel}
@@ -28,9 +30,10 @@ use Rattle.call.specs.Call.{frame_of, Placed}
 use Rattle.call.specs.Params.{Reads}
 use Rattle.answer.specs.Answers.{settle, next_of, rooms_of}
 use Rattle.answer.specs.Kept.{Stays, ExtendsBoth}
-use Rattle.answer.proofs.Following.{extends_none, both_none, both_more, rooms_kept, stays_same}
+use Rattle.answer.proofs.Following.{both_none, both_more, rooms_kept, stays_same}
 use Rattle.write.specs.Output.{has_room_on, Writes}
-use Rattle.copying.specs.Copies.{ReadyToCopy, CopiesContent, CopiesLines, CopiesInput}
+use Rattle.copying.specs.Copies.{CopiesContent, CopiesLines, CopiesInput}
+use Rattle.copying.proofs.Measured.{begins_front}
 
 -- ---- how far the state has moved
 
@@ -88,13 +91,6 @@ pub record Copied (m : Marks) (text : Bytes) (ch : Channel) (name : Bytes) (s : 
   pub same : (frames : List Frame) (y : Tally) → copy_lines m (rooms_of o) ch name (lines (drop s.at text)) (state_of text none frames y s o) ≡ copy_lines m (rooms_of o) ch name (lines (drop st.at text)) (state_of text none frames y st o₁)
   pub moved : Moved text s o st o₁
 
--- at first none is
-pub copied_none : {m : Marks} {text : Bytes} {ch : Channel} {name : Bytes} {s : State} {o : Outputs} → ReadyToCopy text s o → Copied m text ch name s o s o
-copied_none h = record {
-  same = λ frames y. refl;
-  moved = record { is = refl; from = omega arith; within = h.within; lines = h.lines; extends = record { first = extends_none h.written; second = extends_none h.second } };
-}
-
 module _ {m : Marks} {text : Bytes} {ch : Channel} {name : Bytes} {s : State} {o : Outputs} {t : State} {o₂ : Outputs} (v : Moved text s o t o₂) where
   -- the copy is over and the call goes on
   copy_over : ((frames : List Frame) (y : Tally) → copy_lines m (rooms_of o) ch name (lines (drop s.at text)) (state_of text none frames y s o) ≡ running (state_of text none frames y t o₂)) → CopiesLines m text ch name s o (Ok tt) t o₂
@@ -113,13 +109,16 @@ module _ {m : Marks} {text : Bytes} {ch : Channel} {name : Bytes} {s : State} {o
   unfolding copy_lines lines
   copied_all h = copy_over v.moved (λ frames y. v.same frames y ∙ ap (λ (x : Bytes). copy_lines m (rooms_of o) ch name (lines x) (state_of text none frames y st o₁)) (drop_of_length-le text h))
 
-  module _ {end next : ℕ} {b : Bool} {t : State} (g : ContentAt text m.source st.at end next) (n : b ≡ begins name (part text st.at end)) (et : t ≡ with_input st next (st.line + 1)) where
+  module _ {end next : ℕ} {b : Bool} {t : State} (g : ContentAt text m.source st.at end next) (n : b ≡ pointwise eqb name (take (length name) (part text st.at end))) (et : t ≡ with_input st next (st.line + 1)) where
     abbrev content : Bytes
     content = part text st.at end
 
     -- the state with the line read
     abbrev read : State
     read = with_input st next (st.line + 1)
+
+    begun : b ≡ begins name content
+    begun = n ∙ begins_front name content
 
     past_is : (frames : List Frame) (y : Tally) → past_line (lines (drop next text)) (state_of text none frames y st o₁) ≡ state_of text none frames y read o₁
     unfolding past_line
@@ -151,17 +150,10 @@ module _ {m : Marks} {text : Bytes} {ch : Channel} {name : Bytes} {s : State} {o
         ∙ ap (λ (ls : List Bytes). copy_lines m (rooms_of o) ch name ls (state_of text none frames y st o₁)) g.is
         ∙ ap (next_line frames y) (sym g.content)
 
-    -- what writing it asks
-    pub first_written : t.written ≤ length o₁.first
-    first_written = subst (λ (z : State). z.written ≤ length o₁.first) (sym et) (omega (arith, v.moved.extends.first.long, v.moved.extends.first.fits))
-
-    pub second_written : t.second ≤ length o₁.second
-    second_written = subst (λ (z : State). z.second ≤ length o₁.second) (sym et) (omega (arith, v.moved.extends.second.long, v.moved.extends.second.fits))
-
     -- it begins with the name
     pub copied_stops : b ≡ true → CopiesLines m text ch name s o (Ok tt) t o₁
     copied_stops e = subst (λ (z : State). CopiesLines m text ch name s o (Ok tt) z o₁) (sym et)
-        (copy_over (moved_read v.moved g) (λ frames y. next_is frames y ∙ when_true _ _ (sym n ∙ e) ∙ ap (λ (x : Machine.State). running x) (past_is frames y)))
+        (copy_over (moved_read v.moved g) (λ frames y. next_is frames y ∙ when_true _ _ (sym begun ∙ e) ∙ ap (λ (x : Machine.State). running x) (past_is frames y)))
 
     module _ {r : Result Unit RunFault} {s₂ : State} {o₂ : Outputs} (e : b ≡ false) (y : CopiesContent ch content t o₁ r s₂ o₂) where
       -- the state before is that of the line read
@@ -172,14 +164,14 @@ module _ {m : Marks} {text : Bytes} {ch : Channel} {name : Bytes} {s : State} {o
       moved_on = moved_read v.moved g
 
       not-begun : (frames : List Frame) (y : Tally) → copy_lines m (rooms_of o) ch name (lines (drop s.at text)) (state_of text none frames y s o) ≡ by_length frames y content
-      not-begun frames y = next_is frames y ∙ when_false _ _ (sym n ∙ e)
+      not-begun frames y = next_is frames y ∙ when_false _ _ (sym begun ∙ e)
 
       writes_as : {w : Math.Option Shared} → wrote (rooms_of o₁) ch content (shared_of read o₁) ≡ w → wrote (rooms_of o) ch content (shared_of st o₁) ≡ w
       writes_as f = ap (λ (k : Rooms). wrote k ch content (shared_of st o₁)) (sym (rooms_kept v.moved.extends)) ∙ f
 
       -- it is too long, or there is no room: the run ends
-      pub copied_ends : {fault : RunFault} → r ≡ Err fault → CopiesLines m text ch name s o (Err fault) s₂ o₂
-      copied_ends {fault} left = by (is_too_long ch content) refl
+      pub copied_ends : {fault : RunFault} {x : Result Unit RunFault} → r ≡ Err fault → x ≡ Err fault → CopiesLines m text ch name s o x s₂ o₂
+      copied_ends {fault} left ends = subst (λ (z : Result Unit RunFault). CopiesLines m text ch name s o z s₂ o₂) (sym ends) (by (is_too_long ch content) refl)
         where
           failed : {k : RunFault} → r ≡ Err k → s₂ ≡ read → o₂ ≡ o₁ → ((frames : List Frame) (y : Tally) → copy_lines m (rooms_of o) ch name (lines (drop s.at text)) (state_of text none frames y s o) ≡ ended (run_number k) (state_of text none frames y read o₁))
               → CopiesLines m text ch name s o (Err fault) s₂ o₂
@@ -222,21 +214,6 @@ module _ {m : Marks} {text : Bytes} {ch : Channel} {name : Bytes} {s : State} {o
           by true q = absurd (let z = (at_read.long q).0 in cc)
           by false q = by_room (has_room_on ch content read o₁) refl q (at_read.writes q)
 
-      -- and less text is left
-      pub copied_falls : {u : Unit} → r ≡ Ok u → length text - s₂.at < length text - st.at
-      copied_falls on = by (is_too_long ch content) refl
-        where
-          falls : s₂.at ≡ next → length text - s₂.at < length text - st.at
-          falls k = omega (arith, k, g.ahead, g.within)
-
-          by_room : (k : Bool) → has_room_on ch content read o₁ ≡ k → Writes ch content read o₁ r s₂ o₂ → length text - s₂.at < length text - st.at
-          by_room true k w = falls (ap (λ (z : State). z.at) (w.fits k).1)
-          by_room false k w = absurd (let z = (w.full k).0 in cc)
-
-          by : (q : Bool) → is_too_long ch content ≡ q → length text - s₂.at < length text - st.at
-          by true q = absurd (let z = (at_read.long q).0 in cc)
-          by false q = by_room (has_room_on ch content read o₁) refl (at_read.writes q)
-
 -- ---- F2
 
 -- with an empty name the call goes on
@@ -246,9 +223,9 @@ unnamed m room ch (y ∷ name) x h = absurd (omega (arith, h))
 
 module _ {m : Marks} {text : Bytes} {ch : Channel} {c : Call} {s : State} {o : Outputs} {name : Bytes} (q : Placed text c) (l : Reads c 1 name) where
   -- with an empty parameter no line is read
-  pub copies-none : length name ≡ 0 → CopiesInput m text ch c s o (Ok tt) s o
+  pub copies_none : length name ≡ 0 → CopiesInput m text ch c s o (Ok tt) s o
   unfolding stepped state_with settle next_of
-  copies-none z = record {
+  copies_none z = record {
     comes = λ b h. record {
       same = λ fs y. ap settle (unnamed m (rooms_of o) ch (param (frame_of m text c) 1) (state_of text none (frame_of m text c ∷ fs) y s o) (ap (λ (x : Bytes). length x) (l.is m text) ∙ z));
       sound = h;

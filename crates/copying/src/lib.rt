@@ -1,9 +1,11 @@
 // F2: the contents of the input lines that follow are copied to a channel, until one begins with parameter 1, which is dropped, or the input
 // ends (document 02, ticket 4). Each line is compared, then measured, then written; on channel 0 it is compared and dropped. No event is counted.
+// The outputs are no struct of two `&mut`: every function that is lent it would have to say that each is still the caller's reference (tried).
+// Asked is that the call lies in the text: it is no fact of the type, since a call borrows no text.
+// How much is written and read stands in the state, beside the outputs and the text: they are lent, and a state borrows nothing.
 #![tactic(auto)]
 
-ghost use Rattle.std.specs.Prelude.{◌≡◌, ◌≤◌, length};
-ghost use Rattle.model.specs.Load.{begins};
+ghost use Rattle.std.specs.Prelude.{◌≤◌, length};
 ghost use Rattle.model.specs.Machine.{outputs};
 ghost use Rattle.call.specs.Call.{Placed};
 ghost use Rattle.copying.specs.Copies.{MeasuresLong, CopiesContent, CopiesLines, CopiesInput, ReadyToCopy};
@@ -15,14 +17,8 @@ use scan::Marked;
 use state::State;
 use write::{Line, write};
 
-// Whether a content begins with a name.
-fn begins_name(content: &[u8], name: &[u8]) -> bool
-    ensures { result ≡ begins name.now content.now }
-{
-    content.starts_with(name)
-}
-
 // Whether a content of n bytes is too long to be copied; a dropped one isn't measured.
+#[tactic(auto, using(crate::proofs::Measured::long_nowhere, crate::proofs::Measured::long_written))]
 fn is_too_long(ch: Channel, n: usize) -> bool
     ensures { MeasuresLong ch n result }
 {
@@ -33,7 +29,6 @@ fn is_too_long(ch: Channel, n: usize) -> bool
 }
 
 // A content goes to a channel, or the run ends with 11 or 13.
-// The outputs are no struct of two `&mut`: every function that is lent it would have to say that each is still the caller's reference (tried).
 fn copy_content(
     ch: Channel,
     content: &[u8],
@@ -51,7 +46,6 @@ fn copy_content(
 }
 
 // The lines up to one that begins with the name, or up to the input's end.
-// The outputs are no struct of two `&mut`: every function that is lent it would have to say that each is still the caller's reference (tried).
 fn copy_lines(
     marked: &Marked,
     ch: Channel,
@@ -69,7 +63,7 @@ fn copy_lines(
         let line = marked.read_input(s.at);
         let content = &marked.text[s.at..line.end];
         s.set_input(line.next, s.line + 1);
-        if begins_name(content, name) {
+        if content.starts_with(name) {
             return Ok(());
         }
         copy_content(ch, content, output, second, s)?;
@@ -78,7 +72,6 @@ fn copy_lines(
 }
 
 // F2 of a call. With an empty parameter 1 no line is read.
-// The outputs are no struct of two `&mut`: every function that is lent it would have to say that each is still the caller's reference (tried).
 pub fn copy_input(
     marked: &Marked,
     ch: Channel,

@@ -1,4 +1,6 @@
 // Ways to end a code line that are more than one step (document 01, "A call's code"): a layout, a text that is stored, and a count of passes.
+// Asked is that the call lies in the text: it is no fact of the type, since a call borrows no text.
+// Asked of the state is, as of write's, that what is written lies in the outputs, which are lent beside it.
 #![tactic(auto)]
 
 ghost use Rattle.std.specs.Prelude.{◌≡◌, ◌≤◌, ◌<◌, length};
@@ -18,6 +20,7 @@ use write::{Layout, write};
 
 // F1 at the line's start: the next code line is a layout, written in place of the line.
 // The outputs are no struct of two `&mut`: every function that is lent it would have to say that each is still the caller's reference (tried).
+#[tactic(auto, using(crate::proofs::Lines::no_layout, crate::proofs::Lines::writes_layout))]
 pub fn write_layout_line(
     marked: &Marked,
     ch: Channel,
@@ -44,6 +47,7 @@ pub fn write_layout_line(
 }
 
 // F3: parameter 2 is stored under parameter 1.
+#[tactic(auto, using(crate::proofs::Storing::saves))]
 pub fn save(call: &Call, s: &mut State) -> Result<(), RunFault>
     ensures { Saves call.now s.old result s.new }
 {

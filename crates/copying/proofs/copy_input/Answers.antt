@@ -3,13 +3,13 @@ use mathlib.Core.Path.{sym, ◌∙◌}
 use borrow.Author.Rules.{rules}
 use borrow.Author.Tests.{eqb-false}
 use lib.ListN.{length}
-use Rattle.copying.proofs.Lines.{copies-none, copies_input}
+use Rattle.copying.proofs.Lines.{copies_none, copies_input}
 use Rattle.copying.proofs.copy_input.Goals as goal
 
 pub returns-then-is_empty : goal.returns-then-is_empty
 returns-then-is_empty c =
     let q = c.requires.0 in
-    search (copies-none, rules)
+    search (copies_none, rules)
 
 pub returns : goal.returns
 returns c =

@@ -1,4 +1,4 @@
--- copy_lines copies line by line: the loop keeps `Copied`, that what is left of the input comes to the same, and the text that is left falls.
+-- The loop keeps `Copied`, that what is left of the input comes to the same, and the text that is left falls.
 use Prim.Native.Nat.{◌-◌}
 use lib.ListN.{length}
 use Rattle.model.specs.Machine.{outputs}
