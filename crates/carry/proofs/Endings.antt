@@ -3,9 +3,7 @@ use mathlib.Core.Path.{◌≡◌, refl, sym, ap, ◌∙◌, subst}
 use mathlib.Core.Bool.{Bool}
 use Prim.Native.Nat.{ℕ, ◌+◌, ◌≤◌, ◌<◌}
 use native.Mathlib.Omega.{arith}
-use lib.ListN.{length, drop}
 use Rattle.std.specs.Prelude.{Result, Ok, Err}
-use Rattle.std.specs.Result.{result_and}
 use Rattle.faults.specs.declared.RunFault.{RunFault}
 use Rattle.model.specs.declared.Marks.{Marks}
 use Rattle.model.specs.declared.Channel.{Channel}
@@ -46,10 +44,6 @@ module _ {code : Bytes} {c : Call} {k : Ending} {line : Bytes} (y : ReadyToFinis
   pub iterate_parameter : {d p : ℕ} → k ≡ Iterate d p → Parameter d
   iterate_parameter e = (at_ending e).ranged.0
 
-  -- its delimiters start within the code line
-  pub iterate_within : (text : Bytes) (a b : ℕ) {d p : ℕ} → code ≡ part text a b → a ≤ b → k ≡ Iterate d p → a + p ≤ b
-  iterate_within text a b z h e = omega (arith, (at_ending e).ranged.1, part_most text a b, ap (λ (x : Bytes). length x) z)
-
   pub iterate_depth : {d p : ℕ} → k ≡ Iterate d p → c.depth < 4
   unfolding effect_of
   iterate_depth e = (at_ending e).depth refl
@@ -58,16 +52,23 @@ module _ {code : Bytes} {c : Call} {k : Ending} {line : Bytes} (y : ReadyToFinis
   unfolding effect_of
   repeat_depth e = (at_ending e).depth refl
 
+-- its delimiters start within the code line
+pub iterate_within : (text : Bytes) (a b : ℕ) {c : Call} {k : Ending} {line : Bytes} {d p : ℕ} → ReadyToFinish (part text a b) c k line → k ≡ Iterate d p → a ≤ b → a + p ≤ b
+iterate_within text a b y e h = omega (arith, (at_ending y e).ranged.1, part_most text a b)
+
 -- ---- what they come to
 
--- what is done, and then the call goes on
-and-goes_on : (d : Result Unit RunFault) → result_and d (Ok Continues) ≡ goes_on d
-and-goes_on (Ok u) = refl
-and-goes_on (Err fault) = refl
+-- what is done, and then the call goes on; or a fault ends the run
+module _ {d : Result Unit RunFault} {r : Answer} where
+  pub went_on : {u : Unit} → d ≡ Ok u → r ≡ Ok Continues → r ≡ goes_on d
+  went_on e f = f ∙ ap goes_on (sym e)
 
-done_as : {m : Marks} {text : Bytes} {p : Step} {s : State} {o : Outputs} {b : Bytes} (d : Result Unit RunFault) {r : Answer} {s' : State} {c' : Call} {o' : Outputs} → r ≡ result_and d (Ok Continues) → Comes m text p s o b (goes_on d) s' c' o'
+  pub broke_off : {fault : RunFault} → d ≡ Err fault → r ≡ Err fault → r ≡ goes_on d
+  broke_off e f = f ∙ ap goes_on (sym e)
+
+done_as : (d : Result Unit RunFault) {r : Answer} {m : Marks} {text : Bytes} {p : Step} {s : State} {o : Outputs} {b : Bytes} {s' : State} {c' : Call} {o' : Outputs} → r ≡ goes_on d → Comes m text p s o b (goes_on d) s' c' o'
     → Comes m text p s o b r s' c' o'
-done_as {m} {text} {p} {s} {o} {b} d {s' = s'} {c'} {o'} z f = subst (λ (x : Answer). Comes m text p s o b x s' c' o') (sym (z ∙ and-goes_on d)) f
+done_as d {m = m} {text} {p} {s} {o} {b} {s'} {c'} {o'} z f = subst (λ (x : Answer). Comes m text p s o b x s' c' o') (sym z) f
 
 -- a pass: its call goes on, or a fault ends the run
 pass_comes : (d : Result Unit RunFault) {m : Marks} {text : Bytes} {c : Call} {s : State} {o : Outputs} {b : Bytes} {t : Step} → Sound text s o → Placed text c
@@ -120,36 +121,36 @@ module _ {m : Marks} {text code : Bytes} {c : Call} {k : Ending} {line : Bytes} 
     ends_value e f = ends_as e (record { comes = f.comes o line q h })
 
   -- those after which the call goes on
-  module _ {d : Result Unit RunFault} (z : r ≡ result_and d (Ok Continues)) where
-    pub ends_iterate : (a b : ℕ) {i p : ℕ} {c' : Call} → code ≡ part text a b → k ≡ Iterate i p → StartsPass m text c i line (a + p) b d c' → Finishes m text code c k line s o r s c' o
+  module _ {d : Result Unit RunFault} where
+    pub ends_again : {c' : Call} → k ≡ Again → EndsPass m text c d c' → r ≡ goes_on d → Finishes m text code c k line s o r s c' o
     unfolding finish
-    ends_iterate a b {i} {p} w e f =
-        let list : drop p code ≡ part text (a + p) b = ap (λ (x : Bytes). drop p x) w ∙ part-drop text a b p in
-        ends_as e (record {
-          comes = comes_as (ap (λ (x : Bytes). finish (rooms_of o) m (Code.iterate i x) line (frame_of m text c) (shared_of s o)) list)
-              (done_as d z (pass_comes d h f.placed (f.step (shared_of s o))));
-        })
+    ends_again e f z = ends_as e (record { comes = done_as d z (pass_comes d h f.placed (f.step (shared_of s o))) })
 
-    pub ends_again : {c' : Call} → k ≡ Again → EndsPass m text c d c' → Finishes m text code c k line s o r s c' o
+    pub ends_write : {ch : Channel} {s' : State} {o' : Outputs} → k ≡ Write ch → Writes ch line s o d s' o' → r ≡ goes_on d → Finishes m text code c k line s o r s' c o'
     unfolding finish
-    ends_again e f = ends_as e (record { comes = done_as d z (pass_comes d h f.placed (f.step (shared_of s o))) })
+    ends_write e f z = ends_as e (record { comes = done_as d z (wrote_on h q f) })
 
-    pub ends_write : {ch : Channel} {s' : State} {o' : Outputs} → k ≡ Write ch → Writes ch line s o d s' o' → Finishes m text code c k line s o r s' c o'
+    pub ends_layout : {ch : Channel} {s' : State} {c' : Call} {o' : Outputs} → k ≡ Layout ch → WritesLayoutLine m text ch c s o d c' s' o' → r ≡ goes_on d → Finishes m text code c k line s o r s' c' o'
     unfolding finish
-    ends_write e f = ends_as e (record { comes = done_as d z (wrote_on h q f) })
+    ends_layout e f z = ends_as e (record { comes = done_as d z (f.comes line h) })
 
-    pub ends_layout : {ch : Channel} {s' : State} {c' : Call} {o' : Outputs} → k ≡ Layout ch → WritesLayoutLine m text ch c s o d c' s' o' → Finishes m text code c k line s o r s' c' o'
+    pub ends_copy : {ch : Channel} {s' : State} {o' : Outputs} → k ≡ Copy ch → CopiesInput m text ch c s o d s' o' → r ≡ goes_on d → Finishes m text code c k line s o r s' c o'
     unfolding finish
-    ends_layout e f = ends_as e (record { comes = done_as d z (f.comes line h) })
+    ends_copy e f z = ends_as e (record { comes = done_as d z (f.comes line h) })
 
-    pub ends_copy : {ch : Channel} {s' : State} {o' : Outputs} → k ≡ Copy ch → CopiesInput m text ch c s o d s' o' → Finishes m text code c k line s o r s' c o'
+    pub ends_save : {s' : State} → k ≡ Save → Saves c s d s' → r ≡ goes_on d → Finishes m text code c k line s o r s' c o
     unfolding finish
-    ends_copy e f = ends_as e (record { comes = done_as d z (f.comes line h) })
+    ends_save e f z = ends_as e (record { comes = done_as d z (f.comes m text o line q h) })
 
-    pub ends_save : {s' : State} → k ≡ Save → Saves c s d s' → Finishes m text code c k line s o r s' c o
+    pub ends_repeat : {c' : Call} → k ≡ Repeat → Repeats m text c line s d c' → r ≡ goes_on d → Finishes m text code c k line s o r s c' o
     unfolding finish
-    ends_save e f = ends_as e (record { comes = done_as d z (f.comes m text o line q h) })
+    ends_repeat e f z = ends_as e (record { comes = done_as d z (f.comes o line q h) })
 
-    pub ends_repeat : {c' : Call} → k ≡ Repeat → Repeats m text c line s d c' → Finishes m text code c k line s o r s c' o
-    unfolding finish
-    ends_repeat e f = ends_as e (record { comes = done_as d z (f.comes o line q h) })
+pub ends_iterate : (a b : ℕ) {m : Marks} {text : Bytes} {c : Call} {k : Ending} {line : Bytes} {s : State} {o : Outputs} {r : Answer} → Sound text s o → Placed text c
+    → {i p : ℕ} {d : Result Unit RunFault} {c' : Call} → k ≡ Iterate i p → StartsPass m text c i line (a + p) b d c' → r ≡ goes_on d
+    → Finishes m text (part text a b) c k line s o r s c' o
+unfolding finish
+ends_iterate a b {m} {text} {c} {line = line} {s} {o} h q {i} {p} {d} e f z = ends_as h q e (record {
+  comes = comes_as (ap (λ (x : Bytes). finish (rooms_of o) m (Code.iterate i x) line (frame_of m text c) (shared_of s o)) (part-drop text a b p))
+      (done_as d z (pass_comes d h f.placed (f.step (shared_of s o))));
+})

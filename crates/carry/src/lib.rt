@@ -1,4 +1,7 @@
 // A code line of a call is carried out, but for the offering of what it builds (document 01, "A call's code").
+// Sound is of the text, the state and both outputs, which are lent beside each other, so that it is no struct's.
+// The outputs are no struct of two `&mut`: every function that is lent it would have to say that each is still the caller's reference (tried).
+// Placed and Open say that the call lies in the text: that is no fact of its type, since a call borrows no text.
 #![tactic(auto)]
 
 ghost use Rattle.std.specs.Prelude.{◌≤◌, length};
@@ -23,8 +26,7 @@ use state::State;
 use write::{Line, write};
 
 // What is done at the end of a code line, with the line that it built. The call's next code line is the one after it.
-// Sound is of the text, the state and both outputs, which are lent beside each other, so that it is no struct's.
-// The outputs are no struct of two `&mut`: every function that is lent it would have to say that each is still the caller's reference (tried).
+#[tactic(auto, using(crate::proofs::Endings::iterate_within))]
 fn finish_code(
     marked: &Marked,
     code: Span,
@@ -42,41 +44,31 @@ fn finish_code(
         (outputs output.old second.old) result s.new call.new (outputs output.new second.new) }
 {
     match ending {
-        Ending::Offer => Ok(Turn::Offers),
-        Ending::Assign(d) => {
-            call.set_param(d, line);
-            Ok(Turn::Continues)
-        }
+        Ending::Offer => return Ok(Turn::Offers),
+        Ending::Assign(d) => call.set_param(d, line),
         Ending::Iterate(d, list) => {
             let start = code.start + list;
             let list = Span { start, ..code };
-            start_pass(marked, call, d, line, list).and(Ok(Turn::Continues))
+            start_pass(marked, call, d, line, list)?;
         }
-        Ending::Stop => Ok(Turn::Ends),
-        Ending::Write(ch) => {
-            write(ch, &Line { bytes: line }, output, second, s).and(Ok(Turn::Continues))
-        }
-        Ending::Layout(ch) => {
-            write_layout_line(marked, ch, call, output, second, s).and(Ok(Turn::Continues))
-        }
-        Ending::Copy(ch) => {
-            copy_input(marked, ch, call, output, second, s).and(Ok(Turn::Continues))
-        }
-        Ending::Save => save(call, s).and(Ok(Turn::Continues)),
-        Ending::Skip => skip_by(marked, call, 1, s),
-        Ending::SkipText(equal) => skip_text(marked, call, equal, s),
-        Ending::SkipValue(how) => skip_value(marked, call, how, s),
-        Ending::Repeat => repeat(marked, call, line, s).and(Ok(Turn::Continues)),
-        Ending::Again => end_pass(marked, call).and(Ok(Turn::Continues)),
-        Ending::Leave => Ok(Turn::Back(0)),
-        Ending::Malformed => Ok(Turn::Continues),
+        Ending::Stop => return Ok(Turn::Ends),
+        Ending::Write(ch) => write(ch, &Line { bytes: line }, output, second, s)?,
+        Ending::Layout(ch) => write_layout_line(marked, ch, call, output, second, s)?,
+        Ending::Copy(ch) => copy_input(marked, ch, call, output, second, s)?,
+        Ending::Save => save(call, s)?,
+        Ending::Skip => return skip_by(marked, call, 1, s),
+        Ending::SkipText(equal) => return skip_text(marked, call, equal, s),
+        Ending::SkipValue(how) => return skip_value(marked, call, how, s),
+        Ending::Repeat => repeat(marked, call, line, s)?,
+        Ending::Again => end_pass(marked, call)?,
+        Ending::Leave => return Ok(Turn::Back(0)),
+        Ending::Malformed => {}
     }
+    Ok(Turn::Continues)
 }
 
 // The next code line of a call: an event is counted, the call moves past the line, and it is carried out. With no code line left the call
 // is left; with no fuel left the run ends.
-// Sound is of the text, the state and both outputs, which are lent beside each other, so that it is no struct's.
-// The outputs are no struct of two `&mut`: every function that is lent it would have to say that each is still the caller's reference (tried).
 pub fn step(
     marked: &Marked,
     call: &mut Call,

@@ -1,7 +1,7 @@
--- finish_code does what the ending says: each arm is its leaf's.
+-- finish_code does what the ending says: each arm is its leaf's. After those that a fault may end the call goes on.
 use mathlib.Core.Path.{refl}
 use borrow.Author.Rules.{rules}
-use Rattle.carry.proofs.Endings.{iterate_parameter, iterate_within, iterate_depth, repeat_depth}
+use Rattle.carry.proofs.Endings.{iterate_parameter, iterate_depth, repeat_depth, went_on, broke_off}
 use Rattle.carry.proofs.Endings.{ends_offer, ends_assign, ends_iterate, ends_stop, ends_write, ends_layout, ends_copy, ends_save, ends_skip, ends_text, ends_value, ends_repeat, ends_again, ends_leave, ends_malformed}
 use Rattle.carry.proofs.finish_code.Goals as goal
 
@@ -10,13 +10,6 @@ start_pass-requires-clause-depth_lt_nesting_most c =
     let ready = c.requires.ready in
     let d = iterate_parameter ready c.in-Iterate.is in
     (iterate_depth ready c.in-Iterate.is, (d.least, d.most))
-
-pub start_pass-requires-clause-line_len_bound : goal.start_pass-requires-clause-line_len_bound
-start_pass-requires-clause-line_len_bound c =
-    let pre = c.requires in
-    let code = c.args.code in
-    let within = iterate_within pre.ready c.args.marked.now.text.now code.start code.end refl pre.code_in_bounds.0 c.in-Iterate.is in
-    (pre.ready.short, (within, pre.code_in_bounds.1))
 
 pub repeat-requires : goal.repeat-requires
 repeat-requires c =
@@ -29,33 +22,8 @@ returns-in-Offer c = search (ends_offer, rules)
 pub returns-in-Assign : goal.returns-in-Assign
 returns-in-Assign c = search (ends_assign, rules)
 
-pub returns-in-Iterate : goal.returns-in-Iterate
-returns-in-Iterate c =
-    let sound = c.requires.sound in
-    ends_iterate sound.0 sound.1 c.and.ensures _ c.args.code.end refl c.in-Iterate.is c.start_pass.ensures
-
 pub returns-in-Stop : goal.returns-in-Stop
 returns-in-Stop c = search (ends_stop, rules)
-
-pub returns-in-Write : goal.returns-in-Write
-returns-in-Write c =
-    let sound = c.requires.sound in
-    ends_write sound.0 sound.1 c.and-in-Write.ensures c.in-Write.is c.write.ensures
-
-pub returns-in-Layout : goal.returns-in-Layout
-returns-in-Layout c =
-    let sound = c.requires.sound in
-    ends_layout sound.0 sound.1 c.and-in-Layout.ensures c.in-Layout.is c.write_layout_line.ensures
-
-pub returns-in-Copy : goal.returns-in-Copy
-returns-in-Copy c =
-    let sound = c.requires.sound in
-    ends_copy sound.0 sound.1 c.and-in-Copy.ensures c.in-Copy.is c.copy_input.ensures
-
-pub returns-in-Save : goal.returns-in-Save
-returns-in-Save c =
-    let sound = c.requires.sound in
-    ends_save sound.0 sound.1 c.and-in-Save.ensures c.in-Save.is c.save.ensures
 
 pub returns-in-Skip : goal.returns-in-Skip
 returns-in-Skip c = search (ends_skip, rules)
@@ -66,18 +34,78 @@ returns-in-SkipText c = search (ends_text, rules)
 pub returns-in-SkipValue : goal.returns-in-SkipValue
 returns-in-SkipValue c = search (ends_value, rules)
 
-pub returns-in-Repeat : goal.returns-in-Repeat
-returns-in-Repeat c =
-    let sound = c.requires.sound in
-    ends_repeat sound.0 sound.1 c.and-in-Repeat.ensures c.in-Repeat.is c.repeat.ensures
-
-pub returns-in-Again : goal.returns-in-Again
-returns-in-Again c =
-    let sound = c.requires.sound in
-    ends_again sound.0 sound.1 c.and-in-Again.ensures c.in-Again.is c.end_pass.ensures
-
 pub returns-in-Leave : goal.returns-in-Leave
 returns-in-Leave c = search (ends_leave, rules)
 
 pub returns-in-Malformed : goal.returns-in-Malformed
 returns-in-Malformed c = search (ends_malformed, rules)
+
+pub returns-in_ok-start_pass-in-Iterate : goal.returns-in_ok-start_pass-in-Iterate
+returns-in_ok-start_pass-in-Iterate c =
+    let sound = c.requires.sound in
+    ends_iterate _ c.args.code.end sound.0 sound.1 c.in-Iterate.is c.start_pass.ensures (went_on c.in_ok-start_pass-in-Iterate.was refl)
+
+pub returns-in_err-start_pass-in-Iterate : goal.returns-in_err-start_pass-in-Iterate
+returns-in_err-start_pass-in-Iterate c =
+    let sound = c.requires.sound in
+    ends_iterate _ c.args.code.end sound.0 sound.1 c.in-Iterate.is c.start_pass.ensures (broke_off c.in_err-start_pass-in-Iterate.was (search rules))
+
+pub returns-in_ok-write-in-Write : goal.returns-in_ok-write-in-Write
+returns-in_ok-write-in-Write c =
+    let sound = c.requires.sound in
+    ends_write sound.0 sound.1 c.in-Write.is c.write.ensures (went_on c.in_ok-write-in-Write.was refl)
+
+pub returns-in_err-write-in-Write : goal.returns-in_err-write-in-Write
+returns-in_err-write-in-Write c =
+    let sound = c.requires.sound in
+    ends_write sound.0 sound.1 c.in-Write.is c.write.ensures (broke_off c.in_err-write-in-Write.was (search rules))
+
+pub returns-in_ok-write_layout_line-in-Layout : goal.returns-in_ok-write_layout_line-in-Layout
+returns-in_ok-write_layout_line-in-Layout c =
+    let sound = c.requires.sound in
+    ends_layout sound.0 sound.1 c.in-Layout.is c.write_layout_line.ensures (went_on c.in_ok-write_layout_line-in-Layout.was refl)
+
+pub returns-in_err-write_layout_line-in-Layout : goal.returns-in_err-write_layout_line-in-Layout
+returns-in_err-write_layout_line-in-Layout c =
+    let sound = c.requires.sound in
+    ends_layout sound.0 sound.1 c.in-Layout.is c.write_layout_line.ensures (broke_off c.in_err-write_layout_line-in-Layout.was (search rules))
+
+pub returns-in_ok-copy_input-in-Copy : goal.returns-in_ok-copy_input-in-Copy
+returns-in_ok-copy_input-in-Copy c =
+    let sound = c.requires.sound in
+    ends_copy sound.0 sound.1 c.in-Copy.is c.copy_input.ensures (went_on c.in_ok-copy_input-in-Copy.was refl)
+
+pub returns-in_err-copy_input-in-Copy : goal.returns-in_err-copy_input-in-Copy
+returns-in_err-copy_input-in-Copy c =
+    let sound = c.requires.sound in
+    ends_copy sound.0 sound.1 c.in-Copy.is c.copy_input.ensures (broke_off c.in_err-copy_input-in-Copy.was (search rules))
+
+pub returns-in_ok-save-in-Save : goal.returns-in_ok-save-in-Save
+returns-in_ok-save-in-Save c =
+    let sound = c.requires.sound in
+    ends_save sound.0 sound.1 c.in-Save.is c.save.ensures (went_on c.in_ok-save-in-Save.was refl)
+
+pub returns-in_err-save-in-Save : goal.returns-in_err-save-in-Save
+returns-in_err-save-in-Save c =
+    let sound = c.requires.sound in
+    ends_save sound.0 sound.1 c.in-Save.is c.save.ensures (broke_off c.in_err-save-in-Save.was (search rules))
+
+pub returns-in_ok-repeat-in-Repeat : goal.returns-in_ok-repeat-in-Repeat
+returns-in_ok-repeat-in-Repeat c =
+    let sound = c.requires.sound in
+    ends_repeat sound.0 sound.1 c.in-Repeat.is c.repeat.ensures (went_on c.in_ok-repeat-in-Repeat.was refl)
+
+pub returns-in_err-repeat-in-Repeat : goal.returns-in_err-repeat-in-Repeat
+returns-in_err-repeat-in-Repeat c =
+    let sound = c.requires.sound in
+    ends_repeat sound.0 sound.1 c.in-Repeat.is c.repeat.ensures (broke_off c.in_err-repeat-in-Repeat.was (search rules))
+
+pub returns-in_ok-end_pass-in-Again : goal.returns-in_ok-end_pass-in-Again
+returns-in_ok-end_pass-in-Again c =
+    let sound = c.requires.sound in
+    ends_again sound.0 sound.1 c.in-Again.is c.end_pass.ensures (went_on c.in_ok-end_pass-in-Again.was refl)
+
+pub returns-in_err-end_pass-in-Again : goal.returns-in_err-end_pass-in-Again
+returns-in_err-end_pass-in-Again c =
+    let sound = c.requires.sound in
+    ends_again sound.0 sound.1 c.in-Again.is c.end_pass.ensures (broke_off c.in_err-end_pass-in-Again.was (search rules))
