@@ -1,27 +1,31 @@
 -- Runs of digits, read with a cap.
 use mathlib.Core.Path.{◌≡◌, refl, sym, ap, ◌∙◌}
-use mathlib.Core.Bool.{Bool, true, false, not, ◌&&◌}
+use mathlib.Core.Bool.{Bool, true, false, ◌&&◌}
 use mathlib.Core.List.{List, [], ◌∷◌}
 use Prim.Native.Nat.{ℕ, zero, suc, ◌+◌, ◌*◌, ◌-◌, ◌≤◌, ◌<◌}
 use native.Mathlib.Numerals.{add-one}
 use native.Mathlib.Omega.{arith}
-use borrow.Author.Tests.{leb-true, leb-false, le-leb, lt-leb, eq-eqb, ne_eqb, not-true, not-false}
+use borrow.Author.Tests.{leb-true, leb-false, le-leb, eq-eqb, ne_eqb}
 use lib.Dec.{leb, eqb}
-use lib.IntN.{pos}
-use lib.ListN.{length, get_or, take, drop, length-drop}
-use lib.Seq.{drop-cons, drop-length, take-length}
+use lib.IntN.{ℤ, pos, neg_ℤ, ◌-ℤ◌}
+use lib.ListN.{length, get_or, take, drop, length-drop, drop_of_length-le}
+use lib.Seq.{drop-cons, take-length}
 use lib.Signed.{mag}
 use Rattle.model.specs.Limits.{digits_most}
 use Rattle.model.specs.Text.{is_digit}
 use Rattle.model.specs.declared.Marks.{Marks}
 use Rattle.model.specs.Value.{number, only_digits, is_stored_number, stored_number, checked}
-use Rattle.model.proofs.Choices.{and_left, and_right}
-use Rattle.model.proofs.Depth.{number_leaves}
-use Rattle.number.specs.Number.{end, Gives, Valued}
-use Rattle.number.specs.Run.{DigitRun, DigitsRead, Numerals, saturated, with_sign, signed_number}
+use Rattle.model.proofs.Choices.{and_left, and_right, false-not-true}
+use Rattle.number.specs.Number.{width, end, Gives, Valued}
+use Rattle.number.specs.Run.{DigitRun, DigitsRead, Numerals, saturated, Parsing}
 use Rattle.number.specs.declared.Run.{Run}
-use Rattle.std.specs.Prelude.{None}
-use Rattle.number.proofs.Signed.{checked_out, gives_value}
+use Rattle.std.specs.Result.{result_ok}
+use Rattle.std.specs.Bool.{then_some}
+use Rattle.number.proofs.Steps.{gives_amount, gives_minus}
+use mir.Val.{SFits}
+use mathlib.Core.Option.{Option, none}
+use Rattle.std.specs.Prelude.{Option as Answered, Some, None, SomeIff, Result, OkIff}
+use Rattle.number.proofs.Signed.{read_back, told_in, checked_out, gives_value}
 
 and-false : (t : Bool) → t && false ≡ false
 and-false true = refl
@@ -66,69 +70,59 @@ cap_early a (x ∷ l) = go (is_digit x) refl (λ n. cap_early n l)
         (sym (ih (saturated a * 10 + (x - 48))) ∙ ap (λ n. saturated (number n l).0) inner ∙ ih (a * 10 + (x - 48)))
     go false e ih = rw (number_other (saturated a) x l e, number_other a x l e) (omega arith)
 
+-- what a pattern calls the first byte and those after it
+rest_is : (l : List ℕ) → take (length l - 1) (drop 1 l) ≡ drop 1 l
+rest_is l = rw (← length-drop 1 l) (take-length (drop 1 l))
+
 -- ---- the loop that reads digits
 
-module _ {s : List ℕ} {at : ℕ} where
-  module _ {amount i : ℕ} (r : DigitsRead s at amount i) where
-    stops : number amount (drop i s) ≡ (amount, drop i s) → DigitRun s at (record { amount = amount; end = i })
-    stops e =
-        let a = rw e at r.amounts in
-        let b = rw e at r.rest in
-        record { amount = sym (sym a ∙ capped_small); rest = sym b; from = r.from; upto = r.upto }
-      where
-        capped_small : saturated amount ≡ amount
-        capped_small = omega (arith, r.small)
+module _ {s : List ℕ} {amount : ℕ} (i : ℕ) (r : DigitsRead s amount (drop i s)) where
+  stops : number amount (drop i s) ≡ (amount, drop i s) → {run : Run} → run.amount ≡ amount → run.rest.now ≡ drop i s → DigitRun s run
+  stops e p q =
+      let a = rw e at r.amounts in
+      let b = rw e at r.rest in
+      let small : saturated amount ≡ amount = omega (arith, r.small) in
+      record { amount = p ∙ sym small ∙ a; rest = sym b ∙ sym q }
 
-    pub reading_ended : i ≡ length s → DigitRun s at (record { amount = amount; end = length s })
-    reading_ended e = rw (← e) (stops (rw (e, drop-length s) (number-none amount)))
+  pub reading_ended : length s ≤ i → {run : Run} → run.amount ≡ amount → run.rest.now ≡ [] → DigitRun s run
+  reading_ended h p q = stops (rw (drop_of_length-le s h) (number-none amount)) p (q ∙ sym (drop_of_length-le s h))
 
-    module _ (inside : i < length s) {q : Bool} (tested : q ≡ is_digit (get_or s i 0)) where
-      pub reading_other : not q ≡ true → DigitRun s at (record { amount = amount; end = i })
-      reading_other e = stops (rw (drop-cons s i 0 inside) (number_other amount _ _ (sym tested ∙ not-true q e)))
+  module _ (inside : i < length s) {d : Bool} (tested : d ≡ is_digit (get_or s i 0)) where
+    pub reading_other : d ≡ false → {run : Run} → run.amount ≡ amount → run.rest.now ≡ take (length s - i) (drop i s) → DigitRun s run
+    reading_other e p q = stops (rw (drop-cons s i 0 inside) (number_other amount _ _ (sym tested ∙ e))) p (q ∙ rw (← length-drop i s) (take-length (drop i s)))
 
-      pub reading-digit : not q ≡ false → is_digit (get_or s i 0) ≡ true
-      reading-digit e = sym tested ∙ not-false q e
-
-      pub reading-more : {a : ℕ} → not q ≡ false → a ≡ saturated (amount * 10 + (get_or s i 0 - 48)) → DigitsRead s at a (i + 1)
-      reading-more e w =
-          let step : number amount (drop i s) ≡ number (amount * 10 + (get_or s i 0 - 48)) (drop (suc i) s) = rw (drop-cons s i 0 inside) (number-digit amount _ _ (reading-digit e)) in
-          rw (w, add-one i) (record {
-            amounts = cap_early (amount * 10 + (get_or s i 0 - 48)) (drop (suc i) s) ∙ ap (λ p. saturated p.0) (sym step) ∙ r.amounts;
-            rest = rest-same _ _ (drop (suc i) s) ∙ ap (λ p. p.1) (sym step) ∙ r.rest;
-            from = omega (arith, r.from);
-            upto = omega arith;
-            small = omega arith;
-          })
+    pub reading_more : {a : ℕ} → d ≡ true → a ≡ saturated (amount * 10 + (get_or s i 0 - 48)) → DigitsRead s a (drop (i + 1) s)
+    reading_more e w =
+        let next = amount * 10 + (get_or s i 0 - 48) in
+        let step : number amount (drop i s) ≡ number next (drop (suc i) s) = rw (drop-cons s i 0 inside) (number-digit amount _ _ (sym tested ∙ e)) in
+        rw (w, add-one i) (record {
+          amounts = cap_early next (drop (suc i) s) ∙ ap (λ p. saturated p.0) (sym step) ∙ r.amounts;
+          rest = rest-same _ _ (drop (suc i) s) ∙ ap (λ p. p.1) (sym step) ∙ r.rest;
+          small = omega arith;
+        })
 
 -- ---- a value from a run
 
--- above the cap neither sign brings a number into range
-far : (minus : Bool) (n : ℕ) → end < n → end ≤ mag (with_sign minus (pos n))
-far false n h = omega arith
-far true zero h = absurd (omega arith)
-far true (suc n) h = omega arith
+-- above the cap an amount is no value, and neither is it below 0
+far-minus : (n : ℕ) → end < n → end ≤ mag (neg_ℤ (pos n))
+far-minus zero h = absurd (omega arith)
+far-minus (suc n) h = omega arith
 
-pub saturated_checked : (minus : Bool) (n : ℕ) → checked (with_sign minus (pos (saturated n))) ≡ checked (with_sign minus (pos n))
-saturated_checked minus n = go (leb n end) refl
+-- the cap changes no value
+capped : (f : ℕ → ℤ) → ((n : ℕ) → end < n → end ≤ mag (f n)) → (n : ℕ) → checked (f (saturated n)) ≡ checked (f n)
+capped f far n = go (leb n end) refl
   where
-    go : (t : Bool) → leb n end ≡ t → checked (with_sign minus (pos (saturated n))) ≡ checked (with_sign minus (pos n))
-    go true e = let small : saturated n ≡ n = omega (arith, leb-true n end e) in ap (λ k. checked (with_sign minus (pos k))) small
+    go : (t : Bool) → leb n end ≡ t → checked (f (saturated n)) ≡ checked (f n)
+    go true e = let small : saturated n ≡ n = omega (arith, leb-true n end e) in ap (λ k. checked (f k)) small
     go false e =
         let h = leb-false n end e in
-        checked_out _ (far minus (saturated n) (omega arith)) ∙ sym (checked_out _ (far minus n h))
+        checked_out _ (far (saturated n) (omega arith)) ∙ sym (checked_out _ (far n h))
 
-pub numeral : {s : List ℕ} {at : ℕ} {r : Run} → DigitRun s at r → {v : Valued} → Gives v (checked (with_sign false (pos r.amount))) → Numerals s at (record { value = v; end = r.end })
-numeral {s} {at} {r} run g = record {
-  gives = rw (run.amount, saturated_checked false (number 0 (drop at s)).0) at g;
-  rest = run.rest;
-  from = run.from;
-  past = λ l d.
-      let first : number 0 (drop at s) ≡ number (0 * 10 + (get_or s at 0 - 48)) (drop (suc at) s) = rw (drop-cons s at 0 l) (number-digit 0 _ _ d) in
-      let a = ap (λ p. length p.1) first in
-      let b = ap (λ t. length t) run.rest in
-      omega (arith, number_leaves (0 * 10 + (get_or s at 0 - 48)) (drop (suc at) s), length-drop (suc at) s, length-drop r.end s, run.from, run.upto);
-  upto = run.upto;
-}
+pub saturated_plain : (n : ℕ) → checked (pos (saturated n)) ≡ checked (pos n)
+saturated_plain = capped (λ n. pos n) (λ n h. omega arith)
+
+pub saturated_minus : (n : ℕ) → checked (neg_ℤ (pos (saturated n))) ≡ checked (neg_ℤ (pos n))
+saturated_minus = capped (λ n. neg_ℤ (pos n)) far-minus
 
 -- all bytes are digits where none is left after the digits
 all_digits : (a : ℕ) (l : List ℕ) → only_digits l ≡ eqb (length (number a l).1) 0
@@ -140,67 +134,91 @@ all_digits a (x ∷ l) = go (is_digit x) refl (all_digits (a * 10 + (x - 48)) l)
     go true e ih = rw (number-digit a x l e, e) ih
     go false e ih = rw (number_other a x l e, e) (sym (ne_eqb (suc (length l)) 0 (λ p. omega arith)))
 
--- the length and the digits, as the code tests them
-module _ (minus : Bool) (s : List ℕ) where
-  fault : is_stored_number s ≡ false → Gives None (signed_number minus s)
-  unfolding signed_number
-  fault e = gives_value (rw (e, signed_number)) tt
+-- ---- a number at the front of a text
 
-  pub no_digit : length s ≡ 0 → Gives None (signed_number minus s)
+module _ {s : List ℕ} {run : Run} (d : DigitRun s run) {E : Type 0} (t : Result ℤ E) (h : OkIff t (SFits width (pos run.amount)) (pos run.amount)) {o : Valued} (made : o ≡ result_ok t) where
+  value_is : Gives o (checked (pos (number 0 s).0))
+  value_is = rw (made) (rw (d.amount, saturated_plain (number 0 s).0) at (gives_amount {E = E} run.amount t h))
+
+  pub no_numeral : o ≡ None → {r : Parsing} → r ≡ None → Numerals s r
+  no_numeral e q = rw q (record { gives = rw e at value_is; rest = tt })
+
+  pub numeral_read : {z : ℤ} → o ≡ Some z → Numerals s (Some (record { value = read_back z; rest = run.rest }))
+  numeral_read {z} e = let g = rw e at value_is in record { gives = rw (told_in z g.fits) g; rest = d.rest }
+
+-- ---- the amount of a stored text
+
+pub no_amount : (s : List ℕ) → (1 ≤ length s → length s ≤ digits_most → ⊥) → is_stored_number s ≡ true → ⊥
+unfolding is_stored_number
+no_amount s h e =
+    let a = and_left (leb 1 (length s)) (leb (length s) digits_most && only_digits s) e in
+    let b = and_right (leb 1 (length s)) (leb (length s) digits_most && only_digits s) e in
+    h (leb-true 1 (length s) a) (leb-true (length s) digits_most (and_left (leb (length s) digits_most) (only_digits s) b))
+
+module _ {s : List ℕ} {run : Run} (d : DigitRun s run) (some : 1 ≤ length s) (few : length s ≤ digits_most) where
+  amount_is : is_stored_number s ≡ eqb (length run.rest.now) 0
   unfolding is_stored_number
-  no_digit h = fault (rw h)
+  amount_is = rw (all_digits 0 s, d.rest, le-leb (length s) digits_most few, le-leb 1 (length s) some) refl
 
-  pub too_many : digits_most < length s → Gives None (signed_number minus s)
-  unfolding is_stored_number
-  too_many h = fault (rw (lt-leb (length s) digits_most h) (and-false (leb 1 (length s))))
+  pub amount_read : {q : Bool} → q ≡ eqb (length run.rest.now) 0 → {r : Answered ℕ} → r ≡ then_some q run.amount → SomeIff r (is_stored_number s ≡ true) (saturated (number 0 s).0)
+  amount_read {q} e w = rw (w, amount_is, ← e) (go q)
+    where
+      go : (q : Bool) → SomeIff (then_some q run.amount) (q ≡ true) (saturated (number 0 s).0)
+      go true = (refl, d.amount)
+      go false = λ e. false-not-true e
 
-  module _ {r : Run} (run : DigitRun s 0 r) where
-    left : length (number 0 s).1 ≡ length s - r.end
-    left = rw run.rest (length-drop r.end s)
+-- ---- a stored text
 
-    pub cut_short : r.end < length s → Gives None (signed_number minus s)
-    unfolding is_stored_number
-    cut_short h = fault (rw (all_digits 0 s, left, ne_eqb (length s - r.end) 0 (λ e. omega arith), and-false (leb (length s) digits_most)) (and-false (leb 1 (length s))))
+-- r is the amount of s, if that is one
+abbrev Amount : List ℕ → Answered ℕ → Type 0
+Amount s r = SomeIff r (is_stored_number s ≡ true) (saturated (number 0 s).0)
 
-    module _ (some : length s ≡ 0 → ⊥) (few : length s ≤ digits_most) (h : length s ≤ r.end) where
-      good : is_stored_number s ≡ true
-      unfolding is_stored_number
-      good = rw (all_digits 0 s, left, le-leb (length s) digits_most few, le-leb 1 (length s) (omega arith), eq-eqb (length s - r.end) 0 (omega arith))
+-- a value that is there where the text may be stored
+abbrev where_stored : Bool → Option ℤ → Option ℤ
+where_stored t o = elim t [ true ↦ o | false ↦ none ]
 
-      stored : signed_number minus s ≡ checked (with_sign minus (pos (number 0 s).0))
-      unfolding signed_number
-      stored = rw (good, signed_number)
+module _ (s : List ℕ) {o : Option ℤ} (x : Option ℤ) (is : o ≡ where_stored (is_stored_number s) x) where
+  not_stored : Amount s None → Gives None o
+  not_stored h = gives_value (sym (is ∙ go (is_stored_number s) h)) tt
+    where
+      go : (t : Bool) → (t ≡ true → ⊥) → where_stored t x ≡ none
+      go true n = absurd (n refl)
+      go false n = refl
 
-      pub all_read : {v : Valued} → Gives v (checked (with_sign minus (pos r.amount))) → Gives v (signed_number minus s)
-      all_read g = rw stored (rw (run.amount, saturated_checked minus (number 0 s).0) at g)
+  stored_is : is_stored_number s ≡ true → o ≡ x
+  stored_is e = is ∙ ap (λ t. where_stored t x) e
 
 module _ (m : Marks) where
-  pub stored-none : (s : List ℕ) → length s < 1 → Gives None (stored_number m s)
+  pub stored_none : (s : List ℕ) → length s < 1 → Gives None (stored_number m s)
   unfolding stored_number
-  stored-none [] h = gives_value refl tt
-  stored-none (x ∷ s) h = absurd (omega arith)
+  stored_none [] h = gives_value refl tt
+  stored_none (x ∷ s) h = absurd (omega arith)
 
-  by_minus : (s : List ℕ) → 1 ≤ length s → get_or s 0 0 ≡ m.minus → stored_number m s ≡ signed_number true (drop 1 s)
-  unfolding stored_number signed_number
+  by_minus : (s : List ℕ) → 1 ≤ length s → get_or s 0 0 ≡ m.minus → stored_number m s ≡ where_stored (is_stored_number (drop 1 s)) (checked (neg_ℤ (pos (number 0 (drop 1 s)).0)))
+  unfolding stored_number
   by_minus [] h e = absurd (omega arith)
   by_minus (x ∷ s) h e = rw (eq-eqb x m.minus e, stored_number)
 
-  pub stored_minus : (s : List ℕ) {v : Valued} → 1 ≤ length s → get_or s 0 0 ≡ m.minus → Gives v (signed_number true (take (length s - 1) (drop 1 s))) → Gives v (stored_number m s)
-  stored_minus s h e g = rw (by_minus s h e) (rw (← length-drop 1 s, take-length (drop 1 s)) at g)
-
-  by-plain : (s : List ℕ) → 1 ≤ length s → (get_or s 0 0 ≡ m.minus → ⊥) → stored_number m s ≡ signed_number false s
-  unfolding stored_number signed_number
+  by-plain : (s : List ℕ) → 1 ≤ length s → (get_or s 0 0 ≡ m.minus → ⊥) → stored_number m s ≡ where_stored (is_stored_number s) (checked (pos (number 0 s).0))
+  unfolding stored_number
   by-plain [] h n = absurd (omega arith)
   by-plain (x ∷ s) h n = rw (ne_eqb x m.minus n, stored_number)
 
-  pub stored-plain : (s : List ℕ) {v : Valued} → 1 ≤ length s → (get_or s 0 0 ≡ m.minus → ⊥) → Gives v (signed_number false s) → Gives v (stored_number m s)
-  stored-plain s h n g = rw (by-plain s h n) g
+  module _ (s : List ℕ) (some : 1 ≤ length s) (e : get_or s 0 0 ≡ m.minus) where
+    pub minus-none : Amount (take (length s - 1) (drop 1 s)) None → Gives None (stored_number m s)
+    minus-none h = not_stored (drop 1 s) _ (by_minus s some e) (rw (rest_is s) at h)
 
--- what the goals of read_digits go by
-pub ruleset reading = (reading-more, reading_other, reading_ended)
+    pub minus_stored : {a : ℕ} → Amount (take (length s - 1) (drop 1 s)) (Some a) → {r : Valued} → SomeIff r (SFits width (pos 0 -ℤ pos a)) (pos 0 -ℤ pos a) → Gives r (stored_number m s)
+    minus_stored {a} h {r} g =
+        let k = rw (rest_is s) at h in
+        rw (stored_is (drop 1 s) _ (by_minus s some e) k.0) (rw (k.1, saturated_minus (number 0 (drop 1 s)).0) at (gives_minus a r g))
 
--- what the goals of read_signed go by
-pub ruleset signed = (no_digit, too_many, cut_short, all_read)
+  module _ (s : List ℕ) (some : 1 ≤ length s) (plain : get_or s 0 0 ≡ m.minus → ⊥) where
+    pub plain-none : Amount s None → Gives None (stored_number m s)
+    plain-none h = not_stored s _ (by-plain s some plain) h
+
+    pub plain_stored : {a : ℕ} → Amount s (Some a) → {E : Type 0} (t : Result ℤ E) → OkIff t (SFits width (pos a)) (pos a) → {r : Valued} → r ≡ result_ok t → Gives r (stored_number m s)
+    plain_stored {a} h {E} t g w = rw (w, stored_is s _ (by-plain s some plain) h.0) (rw (h.1, saturated_plain (number 0 s).0) at (gives_amount {E = E} a t g))
 
 -- what the goals of read_stored go by
-pub ruleset storing = (stored-none, stored_minus, stored-plain)
+pub ruleset storing = (stored_none, minus-none, minus_stored, plain-none, plain_stored)

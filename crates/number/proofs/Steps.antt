@@ -5,13 +5,13 @@ use Prim.Native.Nat.{ℕ, zero, suc, ◌≤◌, ◌<◌}
 use native.Mathlib.Omega.{arith}
 use borrow.Author.Tests.{ltb-true, ltb-false, eqb-true, eqb-false}
 use lib.Dec.{ltb, eqb, lit<}
-use lib.IntN.{ℤ, pos, negsuc, neg_ℤ, ◌+ℤ◌, ◌-ℤ◌, +ℤ_idl}
+use lib.IntN.{ℤ, pos, negsuc, neg_ℤ, ◌-ℤ◌, +ℤ_idl}
 use lib.Signed.{mag, quot_z}
 use mir.Val.{SFits, of_z}
-use Rattle.std.specs.Prelude.{Some, None, SomeIff}
+use Rattle.std.specs.Prelude.{Some, None, SomeIff, Result, Ok, Err, OkIff}
+use Rattle.std.specs.Result.{result_ok}
 use Rattle.model.specs.Value.{checked, quotient, divided}
 use Rattle.number.specs.Number.{width, end, Gives, Valued}
-use Rattle.number.specs.Run.{with_sign}
 use Rattle.number.proofs.Signed.{same_bits, checked_in, checked_out, gives_value}
 
 unfit : (z : ℤ) → ¬ SFits width z → end ≤ mag z
@@ -26,11 +26,12 @@ pub gives_checked : (z : ℤ) (r : Valued) → SomeIff r (SFits width z) z → G
 gives_checked z None h = gives_value (sym (checked_out z (unfit z h))) tt
 gives_checked z (Some x) h = rw h.1 (gives_value (sym (checked_in z h.0.sfits)) h.0.sfits)
 
--- an amount with or without a minus
-pub gives_amount : (amount : ℕ) (r : Valued) → SomeIff r (SFits width (pos 0 +ℤ pos amount)) (pos 0 +ℤ pos amount) → Gives r (checked (with_sign false (pos amount)))
-gives_amount amount r h = gives_checked (pos amount) r (rw (+ℤ_idl (pos amount)) at h)
+-- an amount without a minus and with one
+pub gives_amount : {E : Type 0} (amount : ℕ) (r : Result ℤ E) → OkIff r (SFits width (pos amount)) (pos amount) → Gives (result_ok r) (checked (pos amount))
+gives_amount amount (Ok z) h = gives_checked (pos amount) (Some z) h
+gives_amount amount (Err e) h = gives_checked (pos amount) None h
 
-pub gives_minus : (amount : ℕ) (r : Valued) → SomeIff r (SFits width (pos 0 -ℤ pos amount)) (pos 0 -ℤ pos amount) → Gives r (checked (with_sign true (pos amount)))
+pub gives_minus : (amount : ℕ) (r : Valued) → SomeIff r (SFits width (pos 0 -ℤ pos amount)) (pos 0 -ℤ pos amount) → Gives r (checked (neg_ℤ (pos amount)))
 gives_minus amount r h = gives_checked (neg_ℤ (pos amount)) r (rw (+ℤ_idl (neg_ℤ (pos amount))) at h)
 
 -- ---- the quotient of two values

@@ -1,162 +1,171 @@
--- One turn of each function of the cycle, over plain values. The hypotheses are what the code learns on its way; `ReadsAbove` says
+-- One turn of each loop of the cycle, over plain values. The hypotheses are what the code learns on its way; `ReadsAbove` says
 -- what is read at every bound that is large enough, so no law says that the bound does not matter.
---     done, fails, faults, goes_on     the four ways through `expression`, and through `product`, which is the same one level down
---     nothing, digits_read, name_read, bracketed     the ways through `operand`
 use mathlib.Core.Path.{◌≡◌, refl, sym, ap, ◌∙◌}
 use mathlib.Core.Bool.{Bool, true, false, cond}
 use mathlib.Core.Option.{none, some}
 use mathlib.Core.List.{List, [], ◌∷◌}
-use Prim.Native.Nat.{ℕ, zero, suc, ◌+◌, ◌-◌, ◌*◌, ◌≤◌, ◌<◌}
-use native.Mathlib.Nat.{le_refl, le_trans}
-use native.Mathlib.Numerals.{add-one}
+use Prim.Native.Nat.{ℕ, zero, suc, ◌+◌, ◌*◌, ◌≤◌, ◌<◌}
+use native.Mathlib.Nat.{le_refl}
 use native.Mathlib.Omega.{arith}
-use borrow.Author.Tests.{ltb-true, ltb-false}
-use lib.Dec.{ltb, eqb, lit<}
+use borrow.Author.Tests.{ne_eqb}
+use lib.Dec.{eqb, lit<}
 use lib.IntN.{ℤ, pos}
-use lib.ListN.{length, get_or, drop, drop_of_length-le}
-use lib.Seq.{drop-cons}
+use lib.ListN.{length}
 use lib.Signed.{mag}
-use mir.Val.{to_z, of_z}
 use Rattle.model.specs.declared.Marks.{Marks}
-use Rattle.model.specs.Text.{is_digit}
 use Rattle.model.specs.Store.{Store}
-use Rattle.model.specs.Value.{value_fault, Read, and_then, giving, is_mark, closing, expression, sum, product, factors, operand, whole, value_of}
+use Rattle.model.specs.Value.{value_fault, Read, and_then, giving, expression, sum, product, factors, operand, whole, value_of}
 use Rattle.std.specs.Prelude.{Some, None}
-use Rattle.number.specs.Number.{width, end, step_value, Gives, Valued, number_of}
+use Rattle.std.specs.Bool.{then_some}
+use Rattle.number.specs.Number.{end, step_value, Gives, Valued}
+use Rattle.number.specs.Run.{Parsing}
+use Rattle.number.specs.declared.Parsed.{Parsed}
 use Rattle.number.specs.declared.Step.{Step}
 use Rattle.number.specs.declared.Step.TheVariants.{First, Negated, Plus, Minus, Times, Divide}
-use Rattle.number.proofs.Signed.{told_in}
-use Rattle.value.specs.declared.Join.{Join}
-use Rattle.value.specs.declared.Join.TheVariants.{Go, Done}
-use Rattle.value.specs.declared.Lead.TheVariants.{Digits, Bracket, Name}
-use Rattle.value.specs.declared.Parsed.{Parsed}
-use Rattle.value.specs.Place.{start_at, join_at, sum_at, factor_at, place_of, Joins, Leading, lead_at, Leads, Parsing, closed_at}
-use Rattle.value.specs.Reads.{read_of, EndsWithin, ReadsValue, ReadsAbove, Values, numeral_at, name_at}
-use Rattle.value.proofs.Operands.{reads_above, whole_failed}
+use Rattle.number.proofs.Signed.{read_back, told_in, gives_value}
+use Rattle.value.specs.Turns.{Going, start_of, next_of, next_sum, next_factor}
+use Rattle.value.specs.Reads.{read_of, LeavesBelow, ReadsAbove, Values}
+use Rattle.value.proofs.Operands.{reads_above, from_suc}
 
--- ---- where values end
+wider : (r : Parsing) (n n' : ℕ) → n ≤ n' → LeavesBelow n r → LeavesBelow n' r
+wider (Some p) n n' l w = omega (arith, l, w)
+wider None n n' l w = tt
 
-pub ended_at : {r : Parsing} {μ lo : ℕ} {s : List ℕ} {F : ℕ → Read} {p : Parsed} → r ≡ Some p → ReadsAbove μ lo s r F → (lo ≤ p.end) × (p.end ≤ length s)
-ended_at q c = rw q at c.ends
+pub left_by : {r : Parsing} {μ n : ℕ} {F : ℕ → Read} {p : Parsed} → r ≡ Some p → ReadsAbove μ n r F → length p.rest.now < n
+left_by q c = rw q at c.leaves
 
-wider : (r : Parsing) (lo lo' hi : ℕ) → lo ≤ lo' → EndsWithin lo' hi r → EndsWithin lo hi r
-wider (Some p) lo lo' hi l w = (le_trans l w.0, w.1)
-wider None lo lo' hi l w = tt
+-- what is left where the next value begins, behind a value that leaves l
+abbrev pub left_of : List ℕ → Going → List ℕ
+left_of l (Some t) = t.1
+left_of l None = l
 
-pub placed : {j : Join} {k : Step} {at : ℕ} → j ≡ Go k at → place_of j ≡ at
-placed q = rw q
+-- what comes of it leaves fewer bytes than these
+abbrev most_of : List ℕ → Going → ℕ
+most_of l (Some t) = length t.1
+most_of l None = length l + 1
 
--- the least end of what begins with a join
-abbrev least_of : Join → ℕ
-least_of (Go k at) = at + 1
-least_of (Done at) = at
+-- a turn goes forward
+abbrev pub Shorter : List ℕ → Going → Type 0
+Shorter l (Some t) = length t.1 < length l
+Shorter l None = Unit {0}
 
-place-least : (j : Join) → place_of j ≤ least_of j
-place-least (Go k at) = omega arith
-place-least (Done at) = le_refl _
+abbrev NoLonger : List ℕ → Going → Type 0
+NoLonger l (Some t) = length t.1 ≤ length l
+NoLonger l None = Unit {0}
 
--- what is read at a bound above μ, from what is read one bound further
-from_suc : (F : ℕ → Read) (r : Read) (μ : ℕ) → ((n : ℕ) → μ ≤ n → r ≡ F (suc n)) → (n : ℕ) → μ < n → r ≡ F n
-from_suc F r μ h zero l = absurd (omega arith)
-from_suc F r μ h (suc n) l = h n (omega arith)
+shorter-left : (l : List ℕ) (j : Going) → Shorter l j → length (left_of l j) ≤ length l
+shorter-left l (Some t) h = omega (arith, h)
+shorter-left l None h = le_refl _
+
+shorter-most : (l : List ℕ) (j : Going) → Shorter l j → most_of l j ≤ length l + 1
+shorter-most l (Some t) h = omega (arith, h)
+shorter-most l None h = le_refl _
+
+left-no_longer : (l : List ℕ) (j : Going) → NoLonger l j → length (left_of l j) ≤ length l
+left-no_longer l (Some t) h = h
+left-no_longer l None h = le_refl _
+
+most-no_longer : (l : List ℕ) (j : Going) → NoLonger l j → most_of l j ≤ length l + 1
+most-no_longer l (Some t) h = omega (arith, h)
+most-no_longer l None h = le_refl _
 
 -- ---- sums and products alike
 
 -- a step: g reads the next value, h goes on after it
-abbrev pub step_at : (ℕ → List ℕ → Read) → (ℕ → ℤ → List ℕ → Read) → ℕ → ℤ → Step → List ℕ → Read
-step_at g h n a k l = and_then (g n l) (λ w r. and_then (giving (step_value k a w) r) (λ u t. h n u t))
+abbrev step_of : (ℕ → List ℕ → Read) → (ℕ → ℤ → List ℕ → Read) → ℕ → ℤ → Step → List ℕ → Read
+step_of g h n a k l = and_then (g n l) (λ w r. and_then (giving (step_value k a w) r) (λ u t. h n u t))
 
--- what a join gives
-abbrev pub joined : (ℕ → List ℕ → Read) → (ℕ → ℤ → List ℕ → Read) → List ℕ → ℕ → ℤ → Join → Read
-joined g h s zero a j = none
-joined g h s (suc n) a (Done at) = some (a, drop at s)
-joined g h s (suc n) a (Go k at) = step_at g h n a k (drop at s)
+-- what a turn makes of the value a, which leaves l
+abbrev joined : (ℕ → List ℕ → Read) → (ℕ → ℤ → List ℕ → Read) → ℕ → ℤ → List ℕ → Going → Read
+joined g h zero a l j = none
+joined g h (suc n) a l None = some (a, l)
+joined g h (suc n) a l (Some t) = step_of g h n a t.0 t.1
 
 -- What `expression` and `product` have in common: the level below, g, and the way on, h. Its measure is d more than 3 for each byte left.
-pub record Level (s : List ℕ) : Type 0 where
+pub record Level : Type 0 where
   pub d : ℕ
   pub d' : ℕ
   pub g : ℕ → List ℕ → Read
   pub h : ℕ → ℤ → List ℕ → Read
-  pub more : ℕ → Join
+  pub more : List ℕ → Going
   pub down : d' < d
-  pub on : (n : ℕ) (a : ℤ) (e : ℕ) → h n a (drop e s) ≡ joined g h s n a (more e)
+  pub on : (n : ℕ) (a : ℤ) (l : List ℕ) → h n a l ≡ joined g h n a l (more l)
+  pub shorter : (l : List ℕ) → Shorter l (more l)
 
--- r comes of the value a and the join j
-abbrev pub From : {s : List ℕ} → Level s → Parsing → ℤ → Join → Type 0
-From {s} L r a j = ReadsAbove (3 * (length s - place_of j) + L.d) (least_of j) s r (λ n. joined L.g L.h s n a j)
+-- r comes of the value in p and the turn j
+abbrev pub From : Level → Parsing → Parsed → Going → Type 0
+From L r p j = ReadsAbove (3 * length (left_of p.rest.now j) + L.d) (most_of p.rest.now j) r (λ n. joined L.g L.h n p.value p.rest.now j)
 
--- r comes of the level below at `at`
-abbrev pub Below : {s : List ℕ} → Level s → Parsing → ℕ → Type 0
-Below {s} L r at = ReadsAbove (3 * (length s - at) + L.d') (at + 1) s r (λ n. L.g n (drop at s))
+-- r comes of the level below, where l is left
+abbrev pub Below : Level → Parsing → List ℕ → Type 0
+Below L r l = ReadsAbove (3 * length l + L.d') (length l) r (λ n. L.g n l)
 
-module _ {s : List ℕ} (L : Level s) (a : ℤ) {j : Join} where
-  open L use {d, d', g, h, more, down, on}
+module _ (L : Level) (p : Parsed) {j : Going} where
+  open L use {d, d', g, h, more, down, on, shorter}
 
-  pub done : {at : ℕ} → j ≡ Done at → place_of j ≤ length s → From L (Some (record { value = a; end = at })) a j
-  done {at} q l = rw q (reads_above
-      (from_suc (λ n. joined g h s n a (Done at)) (some (a, drop at s)) (3 * (length s - at) + d) (λ n _. refl))
-      (le_refl _, rw q at l))
+  done : j ≡ None → From L (Some p) p j
+  done q = rw q (reads_above (Some p) (from_suc (λ n. joined g h n p.value p.rest.now None) (some (p.value, p.rest.now)) (3 * length p.rest.now + d) (λ n _. refl)) (omega arith))
 
-  module _ {k : Step} {at : ℕ} (q : j ≡ Go k at) {r : Parsing} (b : Below L r at) where
-    pub fails : r ≡ None → From L None a j
+  module _ {k : Step} {l : List ℕ} (q : j ≡ Some (k, l)) {r : Parsing} (b : Below L r l) where
+    fails : r ≡ None → From L None p j
     unfolding and_then
-    fails e = rw q (reads_above (from_suc (λ n. joined g h s n a (Go k at)) none (3 * (length s - at) + d) (λ n l. sym (rw (← b.is n (omega arith), e)))) tt)
+    fails e = rw q (reads_above None (from_suc (λ n. joined g h n p.value p.rest.now (Some (k, l))) none (3 * length l + d) (λ n i. sym (rw (← b.is n (omega (arith, down, i)), e)))) tt)
 
-    -- x is what `apply` gives of a value that is read back from its bits
-    module _ {p : Parsed} (w : r ≡ Some p) (in-v : mag p.value < end) {x : Valued} (made : Gives x (step_value k a (to_z width (of_z width p.value)))) where
-      step_is : number_of x ≡ step_value k a p.value
-      step_is = rw (told_in p.value in-v) at made.is
-
-      pub faults : x ≡ None → From L None a j
+    -- x is what `apply` gives
+    module _ {v : Parsed} (w : r ≡ Some v) {x : Valued} (made : Gives x (step_value k p.value v.value)) where
+      faults : x ≡ None → From L None p j
       unfolding and_then giving
       faults c =
-          let f : none ≡ step_value k a p.value = rw c at step_is in
-          rw q (reads_above (from_suc (λ n. joined g h s n a (Go k at)) none (3 * (length s - at) + d) (λ n l. sym (rw (← b.is n (omega arith), w, ← f)))) tt)
+          let f : none ≡ step_value k p.value v.value = rw c at made.is in
+          rw q (reads_above None (from_suc (λ n. joined g h n p.value p.rest.now (Some (k, l))) none (3 * length l + d) (λ n i. sym (rw (← b.is n (omega (arith, down, i)), w, ← f)))) tt)
 
-      pub goes_on : {z : ℤ} → x ≡ Some z → mag z < end → {j' : Join} → Joins s p.end j' (more p.end) → {r' : Parsing} → From L r' (to_z width (of_z width z)) j' → From L r' a j
+      goes_on : {z : ℤ} → x ≡ Some z → {r' : Parsing} → From L r' (record { value = z; rest = v.rest }) (more v.rest.now) → From L r' p j
       unfolding and_then giving
-      goes_on {z} i in-z {j'} u {r'} c =
-          let past = ended_at w b in
-          let f : some z ≡ step_value k a p.value = rw i at step_is in
-          rw q (reads_above
-          (from_suc (λ n. joined g h s n a (Go k at)) (read_of s r') (3 * (length s - at) + d)
-          (λ n l. rw (told_in z in-z) at (c.is n (omega (arith, u.from, u.upto))) ∙ ap (joined g h s n z) u.is ∙ sym (on n z p.end) ∙ sym (rw (← b.is n (omega arith), w, ← f))))
-          (wider r' (at + 1) (least_of j') (length s) (omega (arith, place-least j', u.from)) c.ends))
+      goes_on {z} i {r'} c =
+          let near = left_by w b in
+          let f : some z ≡ step_value k p.value v.value = rw i at made.is in
+          let t = v.rest.now in
+          rw q (reads_above r'
+          (from_suc (λ n. joined g h n p.value p.rest.now (Some (k, l))) (read_of r') (3 * length l + d)
+          (λ n m. c.is n (omega (arith, near, shorter-left t (more t) (shorter t), m)) ∙ sym (on n z t) ∙ sym (rw (← b.is n (omega (arith, down, m)), w, ← f))))
+          (wider r' (most_of t (more t)) (length l) (omega (arith, near, shorter-most t (more t) (shorter t))) c.leaves))
 
--- The invariant of both loops: what comes of the join j with the value so far comes of F, the whole from `at` on. s is the text, and L
--- the level, a sum's or a product's; every bound above μ is enough for F, and the whole ends from lo on; so_far is the value up to j.
-pub record Going {s : List ℕ} (L : Level s) (μ lo : ℕ) (F : ℕ → Read) (at : ℕ) (so_far : ℤ) (j : Join) : Type 0 where
-  pub from : at ≤ place_of j
-  pub upto : place_of j ≤ length s
-  pub gives : (r : Parsing) → From L r so_far j → ReadsAbove μ lo s r F
+-- The invariant of both loops: what comes of the turn j with the value in p comes of F, the whole, at whose start s was left. L is
+-- the level, a sum's or a product's; every bound above μ is enough for F, and the whole leaves fewer than n bytes.
+pub record Reading (L : Level) (μ n : ℕ) (F : ℕ → Read) (s : List ℕ) (p : Parsed) (j : Going) : Type 0 where
+  pub within : length (left_of p.rest.now j) ≤ length s
+  pub fits : mag p.value < end
+  pub gives : (r : Parsing) → From L r p j → ReadsAbove μ n r F
 
-module _ {s : List ℕ} {L : Level s} {μ lo : ℕ} {F : ℕ → Read} {at : ℕ} {so_far : ℤ} {j : Join} (going : Going L μ lo F at so_far j) where
-  pub going_done : {e : ℕ} → j ≡ Done e → ReadsAbove μ lo s (Some (record { value = so_far; end = e })) F
-  going_done q = going.gives _ (done L so_far q going.upto)
+module _ {L : Level} {μ n : ℕ} {F : ℕ → Read} {s : List ℕ} {p : Parsed} {j : Going} (reading : Reading L μ n F s p j) where
+  pub reading_done : j ≡ None → ReadsAbove μ n (Some p) F
+  reading_done q = reading.gives _ (done L p q)
 
-  module _ {k : Step} {p : ℕ} (q : j ≡ Go k p) {r : Parsing} (b : Below L r p) where
-    pub going_fails : r ≡ None → ReadsAbove μ lo s None F
-    going_fails e = going.gives _ (fails L so_far q b e)
+  module _ {k : Step} {l : List ℕ} (q : j ≡ Some (k, l)) where
+    pub reading_within : length l ≤ length s
+    reading_within = rw q at reading.within
 
-    module _ {v : Parsed} (w : r ≡ Some v) where
-      pub going_faults : mag v.value < end → {x : Valued} → Gives x (step_value k so_far (to_z width (of_z width v.value))) → x ≡ None → ReadsAbove μ lo s None F
-      going_faults in-v made p = going.gives _ (faults L so_far q b w in-v made p)
+    module _ {r : Parsing} (b : Below L r l) where
+      pub reading_fails : r ≡ None → ReadsAbove μ n None F
+      reading_fails e = reading.gives _ (fails L p q b e)
 
-      -- a turn goes forward
-      module _ {j' : Join} (u : Joins s v.end j' (L.more v.end)) where
-        pub going_on : mag v.value < end → {x : Valued} → Gives x (step_value k so_far (to_z width (of_z width v.value))) → {z : ℤ} → x ≡ Some z → mag z < end → Going L μ lo F at (to_z width (of_z width z)) j'
-        going_on in-v made p in-z = record {
-          from = omega (arith, going.from, placed q, ended_at w b, u.from);
-          upto = u.upto;
-          gives = λ r' c. going.gives r' (goes_on L so_far q b w in-v made p in-z u c);
-        }
+      module _ {v : Parsed} (w : r ≡ Some v) {x : Valued} (made : Gives x (step_value k (read_back p.value) (read_back v.value))) (in-v : mag v.value < end) where
+        plainly : Gives x (step_value k p.value v.value)
+        plainly = rw (told_in p.value reading.fits, told_in v.value in-v) at made
 
--- ---- what is known of the text at an operand
+        pub reading_faults : x ≡ None → ReadsAbove μ n None F
+        reading_faults e = reading.gives _ (faults L p q b w plainly e)
 
-module _ {m : Marks} {s : List ℕ} {at : ℕ} {l o : Leading} (lead : Leads m s at l o) where
-  pub inside : {i : ℕ} → l ≡ Some (Bracket i) → (i ≡ at + 1) × (i ≤ length s)
-  inside q = rw q at lead.to
+        pub reading_on : {z : ℤ} → x ≡ Some z → mag z < end → {j' : Going} → j' ≡ L.more v.rest.now → Reading L μ n F s (record { value = read_back z; rest = v.rest }) j'
+        reading_on {z} e in-z {j'} i = rw (i, told_in z in-z) (record {
+          within = omega (arith, reading_within, left_by w b, shorter-left v.rest.now (L.more v.rest.now) (L.shorter v.rest.now));
+          fits = in-z;
+          gives = λ r' c. reading.gives r' (goes_on L p q b w plainly e c);
+        })
+
+-- each turn leaves fewer bytes
+pub smaller : (L : Level) (p : Parsed) {j : Going} {k : Step} {l : List ℕ} → j ≡ Some (k, l) → {r : Parsing} → Below L r l → {v : Parsed} → r ≡ Some v → {j' : Going} → j' ≡ L.more v.rest.now → length (left_of v.rest.now j') < length (left_of p.rest.now j)
+smaller L p q b {v} w i = rw (q, i) (omega (arith, left_by w b, shorter-left v.rest.now (L.more v.rest.now) (L.shorter v.rest.now)))
 
 -- ---- the definitions, by the tests that the code makes
 
@@ -165,188 +174,125 @@ by_test : {A B : Type 0} (F : A → B) (t : Bool) (x y : B) (i j : A) → x ≡ 
 by_test F true x y i j p q = p
 by_test F false x y i j p q = q
 
--- and the bytes from `at` on are none, or a byte with those after it
-by_place : {A B : Type 0} (G : List ℕ → B) (F : A → B) (s : List ℕ) (at : ℕ) (i j : A)
-    → (drop at s ≡ get_or s at 0 ∷ drop (suc at) s → G (get_or s at 0 ∷ drop (suc at) s) ≡ F i) → (drop at s ≡ [] → G [] ≡ F j) → G (drop at s) ≡ F (cond (ltb at (length s)) i j)
-by_place {A} {B} G F s at i j p q = go (ltb at (length s)) refl
+pub next-shorter : (l : List ℕ) (b : ℕ) (k : Step) (b' : ℕ) (k' : Step) → Shorter l (next_of l b k b' k')
+unfolding next_of
+next-shorter [] b k b' k' = tt
+next-shorter (x ∷ l) b k b' k' = go (eqb x b) (eqb x b')
   where
-    go : (t : Bool) → ltb at (length s) ≡ t → G (drop at s) ≡ F (cond t i j)
-    go true e = let first = drop-cons s at 0 (ltb-true at (length s) e) in ap G first ∙ p first
-    go false e = let end = drop_of_length-le s (ltb-false at (length s) e) in ap G end ∙ q end
+    go : (t u : Bool) → Shorter (x ∷ l) (cond t (Some (k, l)) (cond u (Some (k', l)) None))
+    go true u = omega arith
+    go false true = omega arith
+    go false false = tt
 
-past : (s : List ℕ) (at : ℕ) → drop (suc at) s ≡ drop (at + 1) s
-past s at = ap (λ k. drop k s) (sym (add-one at))
-
--- a sum and a product go on after two marks
-module _ (g : ℕ → List ℕ → Read) (h : ℕ → ℤ → List ℕ → Read) (s : List ℕ) (n : ℕ) (a : ℤ) (e b : ℕ) (k : Step) (b' : ℕ) (k' : Step) where
-  joins_on : (G : List ℕ → Read) → G [] ≡ some (a, [])
-      → ((x : ℕ) (l : List ℕ) → G (x ∷ l) ≡ elim (eqb x b) [ true ↦ step_at g h n a k l | false ↦ elim (eqb x b') [ true ↦ step_at g h n a k' l | false ↦ some (a, x ∷ l) ] ])
-      → G (drop e s) ≡ joined g h s (suc n) a (join_at s e b k b' k')
-  unfolding join_at
-  joins_on G none_left first_byte =
-      by_place G (joined g h s (suc n) a) s e
-      (cond (eqb (get_or s e 0) b) (Go k (e + 1)) (cond (eqb (get_or s e 0) b') (Go k' (e + 1)) (Done e)))
-      (Done e)
-      (λ first.
-      first_byte (get_or s e 0) (drop (suc e) s)
-      ∙ by_test (joined g h s (suc n) a) (eqb (get_or s e 0) b) _ _ (Go k (e + 1)) _ (ap (step_at g h n a k) (past s e))
-      (by_test (joined g h s (suc n) a) (eqb (get_or s e 0) b') _ _ (Go k' (e + 1)) (Done e) (ap (step_at g h n a k') (past s e)) (ap (λ l. some (a, l)) (sym first))))
-      (λ end. none_left ∙ ap (λ l. some (a, l)) (sym end))
+start-no_longer : (m : Marks) (l : List ℕ) → NoLonger l (start_of m l)
+unfolding start_of
+start-no_longer m [] = tt
+start-no_longer m (x ∷ l) = go (eqb x m.right) (eqb x m.minus) (eqb x m.plus)
+  where
+    go : (t u v : Bool) → NoLonger (x ∷ l) (cond t None (cond u (Some (Negated, l)) (cond v (Some (First, l)) (Some (First, x ∷ l)))))
+    go true u v = tt
+    go false true v = omega arith
+    go false false true = omega arith
+    go false false false = le_refl _
 
 module _ (m : Marks) (st : Store) where
-  abbrev pub products : ℕ → List ℕ → Read
+  abbrev products : ℕ → List ℕ → Read
   products n t = product n m st t
 
-  abbrev pub sums : ℕ → ℤ → List ℕ → Read
+  abbrev sums : ℕ → ℤ → List ℕ → Read
   sums n a t = sum n m st a t
 
-  abbrev pub operands : ℕ → List ℕ → Read
+  abbrev operands : ℕ → List ℕ → Read
   operands n t = operand n m st t
 
-  abbrev pub powers : ℕ → ℤ → List ℕ → Read
+  abbrev powers : ℕ → ℤ → List ℕ → Read
   powers n a t = factors n m st a t
 
-module _ (m : Marks) (st : Store) (s : List ℕ) where
-  pub sum_on : (n : ℕ) (a : ℤ) (e : ℕ) → sum n m st a (drop e s) ≡ joined (products m st) (sums m st) s n a (sum_at m s e)
-  unfolding sum
-  sum_on zero a e = refl
-  sum_on (suc n) a e = joins_on (products m st) (sums m st) s n a e m.plus Plus m.minus Minus (sum (suc n) m st a) refl (λ x l. refl)
+  pub sum_on : (n : ℕ) (a : ℤ) (l : List ℕ) → sum n m st a l ≡ joined products sums n a l (next_sum m l)
+  unfolding sum next_of
+  sum_on zero a l = refl
+  sum_on (suc n) a [] = refl
+  sum_on (suc n) a (x ∷ l) =
+      by_test (joined products sums (suc n) a (x ∷ l)) (eqb x m.plus) _ _ (Some (Plus, l)) _ refl
+      (by_test (joined products sums (suc n) a (x ∷ l)) (eqb x m.minus) _ _ (Some (Minus, l)) None refl refl)
 
-  pub factors_on : (n : ℕ) (a : ℤ) (e : ℕ) → factors n m st a (drop e s) ≡ joined (operands m st) (powers m st) s n a (factor_at m s e)
-  unfolding factors
-  factors_on zero a e = refl
-  factors_on (suc n) a e = joins_on (operands m st) (powers m st) s n a e m.times Times m.divide Divide (factors (suc n) m st a) refl (λ x l. refl)
+  pub factors_on : (n : ℕ) (a : ℤ) (l : List ℕ) → factors n m st a l ≡ joined operands powers n a l (next_factor m l)
+  unfolding factors next_of
+  factors_on zero a l = refl
+  factors_on (suc n) a [] = refl
+  factors_on (suc n) a (x ∷ l) =
+      by_test (joined operands powers (suc n) a (x ∷ l)) (eqb x m.times) _ _ (Some (Times, l)) _ refl
+      (by_test (joined operands powers (suc n) a (x ∷ l)) (eqb x m.divide) _ _ (Some (Divide, l)) None refl refl)
 
-  abbrev pub expression_level : Level s
-  expression_level = record { d = 3; d' = 2; g = products m st; h = sums m st; more = sum_at m s; down = lit< tt; on = sum_on }
+  abbrev pub expression_level : Level
+  expression_level = record { d = 3; d' = 2; g = products; h = sums; more = next_sum m; down = lit< tt; on = sum_on; shorter = λ l. next-shorter l m.plus Plus m.minus Minus }
 
-  abbrev pub product_level : Level s
-  product_level = record { d = 2; d' = 1; g = operands m st; h = powers m st; more = factor_at m s; down = lit< tt; on = factors_on }
+  abbrev pub product_level : Level
+  product_level = record { d = 2; d' = 1; g = operands; h = powers; more = next_factor m; down = lit< tt; on = factors_on; shorter = λ l. next-shorter l m.times Times m.divide Divide }
 
-  expression_starts : (n at : ℕ) → expression n m st (drop at s) ≡ joined (products m st) (sums m st) s n (pos 0) (start_at m s at)
-  unfolding expression start_at and_then giving
-  expression_starts zero at = refl
-  expression_starts (suc n) at =
-      by_place (expression (suc n) m st) F s at _ (Done at)
-      (λ first.
-      by_test F (eqb (get_or s at 0) m.right) _ _ (Done at) _ (ap (λ l. some (pos 0, l)) (sym first))
-      (by_test F (eqb (get_or s at 0) m.minus) _ _ (Go Negated (at + 1)) _ (ap (steps Negated) (past s at))
-      (by_test F (eqb (get_or s at 0) m.plus) _ _ (Go First (at + 1)) (Go First at) (ap (steps First) (past s at)) (ap (steps First) (sym first)))))
-      (λ end. ap (λ l. some (pos 0, l)) (sym end))
+  expression_starts : (n : ℕ) (l : List ℕ) → expression n m st l ≡ joined products sums n (pos 0) l (start_of m l)
+  unfolding expression start_of and_then giving
+  expression_starts zero l = refl
+  expression_starts (suc n) [] = refl
+  expression_starts (suc n) (x ∷ l) =
+      by_test F (eqb x m.right) _ _ None _ refl
+      (by_test F (eqb x m.minus) _ _ (Some (Negated, l)) _ refl
+      (by_test F (eqb x m.plus) _ _ (Some (First, l)) (Some (First, x ∷ l)) refl refl))
     where
-      F : Join → Read
-      F = joined (products m st) (sums m st) s (suc n) (pos 0)
+      F : Going → Read
+      F = joined products sums (suc n) (pos 0) (x ∷ l)
 
-      steps : Step → List ℕ → Read
-      steps k = step_at (products m st) (sums m st) n (pos 0) k
-
-  product_starts : (n at : ℕ) → product n m st (drop at s) ≡ joined (operands m st) (powers m st) s n (pos 0) (Go First at)
+  product_starts : (n : ℕ) (l : List ℕ) → product n m st l ≡ joined operands powers n (pos 0) l (Some (First, l))
   unfolding product and_then giving
-  product_starts zero at = refl
-  product_starts (suc n) at = refl
+  product_starts zero l = refl
+  product_starts (suc n) l = refl
 
-  -- ---- an expression and a product from their starts
+  module _ (l : List ℕ) where
+    abbrev pub Whole : Parsing → Type 0
+    Whole r = ReadsAbove (3 * length l + 3) (length l + 1) r (λ n. expression n m st l)
 
-  abbrev pub Whole : Parsing → ℕ → Type 0
-  Whole r at = ReadsAbove (3 * (length s - at) + 3) at s r (λ n. expression n m st (drop at s))
+    -- the loop of a sum and that of a product
+    abbrev pub Summing : Parsed → Going → Type 0
+    Summing p j = Reading expression_level (3 * length l + 3) (length l + 1) (λ n. expression n m st l) l p j
 
-  abbrev pub Summing : ℕ → ℤ → Join → Type 0
-  Summing at so_far j = Going expression_level (3 * (length s - at) + 3) at (λ n. expression n m st (drop at s)) at so_far j
+    abbrev pub Multiplying : Parsed → Going → Type 0
+    Multiplying p j = Reading product_level (3 * length l + 2) (length l) (λ n. product n m st l) l p j
 
-  pub begins : {at : ℕ} {j : Join} → Joins s at j (start_at m s at) → Summing at (pos 0) j
-  begins {at} {j} u = record {
-    from = u.from;
-    upto = u.upto;
-    gives = λ r c. reads_above
-        (λ n h. c.is n (omega (arith, u.from)) ∙ ap (joined (products m st) (sums m st) s n (pos 0)) u.is ∙ sym (expression_starts n at))
-        (wider r at (least_of j) (length s) (omega (arith, place-least j, u.from)) c.ends);
-  }
+    pub begins : {p : Parsed} → p.value ≡ pos 0 → p.rest.now ≡ l → {j : Going} → j ≡ start_of m l → Summing p j
+    begins {p} z q {j} u =
+        let near = left-no_longer l (start_of m l) (start-no_longer m l) in
+        rw u (record {
+          within = rw q near;
+          fits = rw z (omega arith);
+          gives = λ r c. reads_above r
+              (λ n h. c.is n (rw q (omega (arith, near, h))) ∙ rw (z, q) (sym (expression_starts n l)))
+              (wider r (most_of p.rest.now (start_of m l)) (length l + 1) (rw q (most-no_longer l (start_of m l) (start-no_longer m l))) c.leaves);
+        })
 
-  abbrev pub Multiplying : ℕ → ℤ → Join → Type 0
-  Multiplying at so_far j = Going product_level (3 * (length s - at) + 2) (at + 1) (λ n. product n m st (drop at s)) at so_far j
-
-  pub begins_product : {at : ℕ} → at ≤ length s → Multiplying at (pos 0) (Go First at)
-  begins_product {at} h = record {
-    from = le_refl _;
-    upto = h;
-    gives = λ r c. reads_above (λ n l. c.is n l ∙ sym (product_starts n at)) c.ends;
-  }
-
-  -- ---- an operand
-
-  led : ℕ → ℕ → Leading → Read
-  led n at (Some Digits) = numeral_at (drop at s)
-  led n at (Some (Bracket i)) = and_then (expression n m st (drop i s)) (λ v r. closing m v r)
-  led n at (Some Name) = name_at m st (drop at s)
-  led n at None = none
-
-  closed-reads : (p : Parsed) → read_of s (closed_at m s p) ≡ closing m p.value (drop p.end s)
-  unfolding closed_at closing
-  closed-reads p =
-      sym (by_place (closing m p.value) (read_of s) s p.end _ None
-      (λ first. by_test (read_of s) (eqb (get_or s p.end 0) m.right) _ _ (Some (record p { end = p.end + 1 })) None (ap (λ l. some (p.value, l)) (past s p.end)) refl)
-      (λ end. refl))
-
-  closed-within : (lo : ℕ) (p : Parsed) → lo ≤ p.end → EndsWithin lo (length s) (closed_at m s p)
-  unfolding closed_at
-  closed-within lo p w = go (ltb p.end (length s)) refl (eqb (get_or s p.end 0) m.right)
-    where
-      go : (t : Bool) → ltb p.end (length s) ≡ t → (u : Bool) → EndsWithin lo (length s) (cond t (cond u (Some (record p { end = p.end + 1 })) None) None)
-      go true q true = omega (arith, ltb-true p.end (length s) q, w)
-      go true q false = tt
-      go false q u = tt
-
-  operand_starts : (n at : ℕ) → operand (suc n) m st (drop at s) ≡ led n at (lead_at m s at)
-  unfolding operand lead_at led
-  operand_starts n at =
-      by_place (operand (suc n) m st) (led n at) s at _ None
-      (λ first.
-      by_test (led n at) (is_digit (get_or s at 0)) _ _ (Some Digits) _ (ap numeral_at (sym first))
-      (by_test (led n at) (eqb (get_or s at 0) m.left) _ _ (Some (Bracket (at + 1))) _ (ap (λ l. and_then (expression n m st l) (λ v r. closing m v r)) (past s at))
-      (by_test (led n at) (is_mark m (get_or s at 0)) _ _ None (Some Name) refl (ap (name_at m st) (sym first)))))
-      (λ end. refl)
-
-  module _ {at : ℕ} {l : Leading} (lead : Leads m s at l (lead_at m s at)) where
-    by_lead : {o : Leading} → l ≡ o → (n : ℕ) → operand (suc n) m st (drop at s) ≡ led n at o
-    by_lead q n = operand_starts n at ∙ ap (led n at) (sym lead.is ∙ q)
-
-    pub nothing : l ≡ None → Below product_level None at
-    unfolding led
-    nothing q = reads_above (from_suc (λ n. operand n m st (drop at s)) none (3 * (length s - at) + 1) (λ n h. sym (by_lead q n))) tt
-
-    pub digits_read : l ≡ Some Digits → {r : Parsing} → ReadsValue s (at + 1) r (numeral_at (drop at s)) → Below product_level r at
-    unfolding led
-    digits_read q {r} x = reads_above (from_suc (λ n. operand n m st (drop at s)) (read_of s r) (3 * (length s - at) + 1) (λ n h. x.is ∙ sym (by_lead q n))) x.ends
-
-    pub name_read : l ≡ Some Name → {r : Parsing} → ReadsValue s (at + 1) r (name_at m st (drop at s)) → Below product_level r at
-    unfolding led
-    name_read q {r} x = reads_above (from_suc (λ n. operand n m st (drop at s)) (read_of s r) (3 * (length s - at) + 1) (λ n h. x.is ∙ sym (by_lead q n))) x.ends
-
-    module _ {i : ℕ} (q : l ≡ Some (Bracket i)) {r : Parsing} (c : Whole r i) where
-      pub unread : r ≡ None → Below product_level None at
-      unfolding led and_then
-      unread w = reads_above
-          (from_suc (λ n. operand n m st (drop at s)) none (3 * (length s - at) + 1)
-          (λ n b. sym (by_lead q n ∙ ap (λ x. and_then x (λ v t. closing m v t)) (sym (rw w at c.is n (omega (arith, inside lead q)))))))
-          tt
-
-      pub bracketed : {p : Parsed} → r ≡ Some p → {r' : Parsing} → r' ≡ closed_at m s p → Below product_level r' at
-      unfolding led and_then
-      bracketed {p} w {r'} u = reads_above
-          (from_suc (λ n. operand n m st (drop at s)) (read_of s r') (3 * (length s - at) + 1)
-          (λ n b. ap (read_of s) u ∙ closed-reads p ∙ sym (by_lead q n ∙ ap (λ x. and_then x (λ v t. closing m v t)) (sym (rw w at c.is n (omega (arith, inside lead q)))))))
-          (rw u (closed-within (at + 1) p (omega (arith, inside lead q, ended_at w c))))
+    pub begins_product : {p : Parsed} → p.value ≡ pos 0 → p.rest.now ≡ l → Multiplying p (Some (First, l))
+    begins_product z q = record {
+      within = le_refl _;
+      fits = rw z (omega arith);
+      gives = λ r c. reads_above r (λ n h. c.is n h ∙ rw (z, q) (sym (product_starts n l))) c.leaves;
+    }
 
 -- ---- the text whole
 
-pub valued : {m : Marks} {es : Store} {s : List ℕ} {v : Parsing} → Whole m es s v 0 → {r : Valued} → Gives r (whole (read_of s v)) → Values m es s r
-unfolding value_of
-valued {s = s} c g =
-    let e = ap whole (c.is (5 * (length s + 1)) (omega arith)) in
-    record { is = sym (g.is ∙ e); number = g.number ∙ ap value_fault e; fits = g.fits }
+module _ {m : Marks} {es : Store} {s : List ℕ} {v : Parsing} (c : Whole m es s v) where
+  valued : {r : Valued} → Gives r (whole (read_of v)) → Values m es s r
+  unfolding value_of
+  valued g =
+      let e = ap whole (c.is (5 * (length s + 1)) (omega arith)) in
+      record { is = sym (g.is ∙ e); number = g.number ∙ ap value_fault e; fits = g.fits }
 
-pub no_value : {m : Marks} {es : Store} {s : List ℕ} {v : Parsing} → Whole m es s v 0 → v ≡ None → Values m es s None
-no_value {s = s} c q = valued c (whole_failed s q)
+  pub no_value : v ≡ None → Values m es s None
+  unfolding whole
+  no_value q = valued (gives_value (rw q) tt)
 
-pub value_read : {m : Marks} {es : Store} {s : List ℕ} {v : Parsing} {p : Parsed} → Whole m es s v 0 → v ≡ Some p → {r : Valued} → Gives r (whole (read_of s (Some p))) → Values m es s r
-value_read c q g = valued c (rw q g)
+  pub value_read : {p : Parsed} → v ≡ Some p → {q : Bool} → q ≡ eqb (length p.rest.now) 0 → mag p.value < end → {r : Valued} → r ≡ then_some q (read_back p.value) → Values m es s r
+  unfolding whole
+  value_read {p} i {q} e f {r} w = valued (rw (i, w, e, told_in p.value f) (go p.rest.now))
+    where
+      go : (t : List ℕ) → Gives (then_some (eqb (length t) 0) p.value) (whole (some (p.value, t)))
+      go [] = gives_value {o = some p.value} refl f
+      go (x ∷ t) = rw (ne_eqb (suc (length t)) 0 (λ e. omega arith)) (gives_value {o = none} refl tt)

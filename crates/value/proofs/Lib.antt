@@ -1,4 +1,5 @@
 -- Laws, in order.
+pub mod Firsts
 pub mod Names
 pub mod Operands
 pub mod Levels

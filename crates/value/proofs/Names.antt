@@ -1,23 +1,26 @@
--- Names in a text: bytes that are no marks, and the loop that looks for their end.
+-- Names at the front of a text: bytes that are no marks.
 use mathlib.Core.Path.{◌≡◌, refl, sym, ap, ◌∙◌}
-use mathlib.Core.Bool.{Bool, true, false, cond, ◌||◌}
+use mathlib.Core.Bool.{Bool, true, false, not, cond, ◌||◌}
 use mathlib.Core.List.{List, [], ◌∷◌}
-use Prim.Native.Nat.{ℕ, suc, ◌+◌, ◌-◌, ◌≤◌, ◌<◌}
-use native.Mathlib.Numerals.{add-one}
+use mathlib.Core.Option.{none, some}
+use Prim.Native.Nat.{ℕ, suc, ◌+◌, ◌≤◌, ◌<◌}
 use native.Mathlib.Omega.{arith}
-use lib.Dec.{eqb}
-use lib.ListN.{length, get_or, take, drop}
-use lib.Seq.{drop-cons, drop-length, drop-drop}
+use borrow.Author.Tests.{ltb-false}
+use lib.Dec.{eqb, ltb}
+use lib.IntN.{ℤ}
+use lib.ListN.{length, get_or, take, drop, length-drop}
 use Rattle.model.specs.declared.Marks.{Marks}
-use Rattle.model.specs.Text.{has, part}
+use Rattle.model.specs.Text.{has}
 use Rattle.model.specs.Store.{Store, find}
-use Rattle.model.specs.Value.{is_mark, name_of, of_stored, stored_number}
+use Rattle.model.specs.Value.{Read, giving, is_mark, name_of, of_stored, stored_number}
 use Rattle.store.specs.Seek.{Found}
 use Rattle.store.specs.Names.{GetsText}
-use Rattle.std.specs.Prelude.{Some, None}
+use Rattle.std.specs.Prelude.{Some, None, position}
+use Rattle.std.specs.List.{position_or_len}
+use Rattle.std.specs.Option.{unwrap_or}
 use Rattle.number.specs.Number.{Gives, Valued}
-use Rattle.number.proofs.Signed.{gives_value}
-use Rattle.value.specs.Place.{name_length, EndsName}
+use Rattle.number.proofs.Signed.{read_back, told_in, gives_value}
+use Rattle.value.specs.Reads.{name_at}
 
 -- ---- the marks, by the tests that the code makes
 
@@ -48,68 +51,64 @@ marks m b =
     let rest : List ℕ = m.left ∷ m.plus ∷ m.minus ∷ m.times ∷ m.divide ∷ m.right ∷ [] in
     ors-has (eqb m.blank b) b rest ∙ sym (has_first b m.blank rest)
 
--- ---- the end of a name
+-- ---- the length of a name
 
--- from i on the name ends where it does from `at` on
-pub record Naming (m : Marks) (s : List ℕ) (at i : ℕ) : Type 0 where
-  pub is : i + name_length m (drop i s) ≡ at + name_length m (drop at s)
-  pub upto : i ≤ length s
+-- how many bytes stand before the first mark
+abbrev pub name_length : Marks → List ℕ → ℕ
+name_length m s = position_or_len (is_mark m) s
 
-module _ (m : Marks) (s : List ℕ) (i : ℕ) where
-  stops : i < length s → is_mark m (get_or s i 0) ≡ true → i + name_length m (drop i s) ≡ i
-  unfolding name_length
-  stops h e = rw (drop-cons s i 0 h, e) (omega arith)
+name_first : (m : Marks) (x : ℕ) (s : List ℕ) (t : Bool) → is_mark m x ≡ t → name_length m (x ∷ s) ≡ cond t 0 (suc (name_length m s))
+name_first m x s true e = ap (λ (q : Bool). cond (not q) (1 + name_length m s) 0) e
+name_first m x s false e = ap (λ (q : Bool). cond (not q) (1 + name_length m s) 0) e ∙ omega arith
 
-  pub goes_on : i < length s → is_mark m (get_or s i 0) ≡ false → i + name_length m (drop i s) ≡ i + 1 + name_length m (drop (i + 1) s)
-  unfolding name_length
-  goes_on h e = rw (drop-cons s i 0 h, e, add-one i) (omega arith)
+name_most : (m : Marks) (s : List ℕ) → name_length m s ≤ length s
+name_most m [] = omega arith
+name_most m (x ∷ s) = by (is_mark m x) refl (name_most m s)
+  where
+    by : (q : Bool) → is_mark m x ≡ q → name_length m s ≤ length s → name_length m (x ∷ s) ≤ suc (length s)
+    by true q h = omega (arith, name_first m x s true q)
+    by false q h = omega (arith, name_first m x s false q)
 
-  ended : i ≡ length s → i + name_length m (drop i s) ≡ i
-  unfolding name_length
-  ended h = rw (h, drop-length s) (omega arith)
+-- where the first mark stands, or the text ends
+pub name_found : (m : Marks) (s : List ℕ) → unwrap_or (position (is_mark m) s) (length s) ≡ name_length m s
+name_found m s = by (ltb (name_length m s) (length s)) refl
+  where
+    at : Bool → ℕ
+    at q = unwrap_or (cond q (Some (name_length m s)) None) (length s)
 
-module _ {m : Marks} {s : List ℕ} {at : ℕ} where
-  pub naming_none : at ≤ length s → Naming m s at at
-  naming_none h = record { is = refl; upto = h }
+    by : (q : Bool) → ltb (name_length m s) (length s) ≡ q → at (ltb (name_length m s) (length s)) ≡ name_length m s
+    by true q = ap at q
+    by false q = ap at q ∙ omega (arith, ltb-false (name_length m s) (length s) q, name_most m s)
 
-  module _ {i : ℕ} (n : Naming m s at i) where
-    pub naming_ended : length s ≤ i → EndsName m s at (length s)
-    naming_ended h = let e : i ≡ length s = omega (arith, n.upto) in rw (← e) (record { is = sym (ended m s i e) ∙ n.is; upto = n.upto })
+-- ---- a name is split from what follows at its length
 
-    module _ (inside : i < length s) {q : Bool} (tested : q ≡ is_mark m (get_or s i 0)) where
-      pub naming_mark : q ≡ true → EndsName m s at i
-      naming_mark e = record { is = sym (stops m s i inside (sym tested ∙ e)) ∙ n.is; upto = n.upto }
+abbrev split : ℕ → List ℕ → List ℕ × List ℕ
+split k l = (take k l, drop k l)
 
-      pub naming_more : q ≡ false → Naming m s at (i + 1)
-      naming_more e = record { is = sym (goes_on m s i inside (sym tested ∙ e)) ∙ n.is; upto = omega arith }
+abbrev longer : ℕ → List ℕ × List ℕ → List ℕ × List ℕ
+longer x p = (x ∷ p.0, p.1)
 
--- the loop of name_end goes by these
-pub ruleset naming = (naming_none, naming_mark, naming_more, naming_ended)
+name-of_first : (m : Marks) (x : ℕ) (s : List ℕ) (t : Bool) → is_mark m x ≡ t → name_of m (x ∷ s) ≡ elim t [ true ↦ ([], x ∷ s) | false ↦ (x ∷ (name_of m s).0, (name_of m s).1) ]
+unfolding name_of
+name-of_first m x s true e = rw (e, name_of)
+name-of_first m x s false e = rw (e, name_of)
 
--- a name is split from what follows at its length
-name_splits : (m : Marks) (l : List ℕ) → name_of m l ≡ (take (name_length m l) l, drop (name_length m l) l)
-unfolding name_of name_length
+pub name_splits : (m : Marks) (l : List ℕ) → name_of m l ≡ split (name_length m l) l
+unfolding name_of
 name_splits m [] = refl
 name_splits m (x ∷ l) = go (is_mark m x) refl (name_splits m l)
   where
-    go : (t : Bool) → is_mark m x ≡ t → name_of m l ≡ (take (name_length m l) l, drop (name_length m l) l)
-        → ◌≡◌ {A = List ℕ × List ℕ} (elim t [ true ↦ ([], x ∷ l) | false ↦ (x ∷ (name_of m l).0, (name_of m l).1) ])
-        (take (cond t 0 (suc (name_length m l))) (x ∷ l), drop (cond t 0 (suc (name_length m l))) (x ∷ l))
-    go true e ih = refl
-    go false e ih = ap (λ p. (x ∷ p.0, p.1)) ih
+    go : (t : Bool) → is_mark m x ≡ t → name_of m l ≡ split (name_length m l) l → name_of m (x ∷ l) ≡ split (name_length m (x ∷ l)) (x ∷ l)
+    go true e ih = name-of_first m x l true e ∙ ap (λ (k : ℕ). split k (x ∷ l)) (sym (name_first m x l true e))
+    go false e ih = name-of_first m x l false e ∙ ap (longer x) ih ∙ ap (λ (k : ℕ). split k (x ∷ l)) (sym (name_first m x l false e))
 
-module _ {m : Marks} {s : List ℕ} {at e : ℕ} (n : EndsName m s at e) where
-  length_of : e - at ≡ name_length m (drop at s)
-  length_of = omega (arith, n.is)
-
-  pub name_is : (name_of m (drop at s)).0 ≡ part s at e
-  name_is = ap (λ p. p.0) (name_splits m (drop at s)) ∙ ap (λ k. take k (drop at s)) (sym length_of)
-
-  pub name_rest : (name_of m (drop at s)).1 ≡ drop e s
-  name_rest = ap (λ p. p.1) (name_splits m (drop at s)) ∙ drop-drop (name_length m (drop at s)) at s ∙ ap (λ k. drop k s) (sym n.is)
-
-  pub name_past : at < length s → is_mark m (get_or s at 0) ≡ false → at + 1 ≤ e
-  name_past h q = omega (arith, n.is, goes_on m s at h q)
+pub name_past : (m : Marks) (l : List ℕ) → 1 ≤ length l → is_mark m (get_or l 0 0) ≡ false → length (name_of m l).1 < length l
+name_past m [] h e = absurd (omega arith)
+name_past m (x ∷ l) h e =
+    let k = name_length m (x ∷ l) in
+    let long : k ≡ suc (name_length m l) = name_first m x l false e in
+    let left : length (name_of m (x ∷ l)).1 ≡ length (drop k (x ∷ l)) = ap (λ p. length p.1) (name_splits m (x ∷ l)) in
+    omega (arith, left, long, length-drop k (x ∷ l))
 
 -- ---- the text stored under it
 
@@ -121,3 +120,18 @@ module _ {es : Store} {name : List ℕ} {r : Found} (m : Marks) (s : GetsText es
   pub stored_value : {t : List ℕ} → r ≡ Some t → {v : Valued} → Gives v (stored_number m t) → Gives v (of_stored m (find name es))
   unfolding of_stored
   stored_value e g = rw (← s.is, e) g
+
+-- ---- a name as an operand
+
+module _ (m : Marks) (st : Store) (l : List ℕ) {k : ℕ} (is : k ≡ name_length m l) {name left : List ℕ} (front : name ≡ take k l) (back : left ≡ drop k l) where
+  at_is : name_at m st l ≡ giving (of_stored m (find name st)) left
+  at_is = rw (front, back, is) (ap (λ p. giving (of_stored m (find p.0 st)) p.1) (name_splits m l))
+
+  pub no_name : Gives None (of_stored m (find name st)) → ◌≡◌ {A = Read} none (name_at m st l)
+  unfolding giving
+  no_name g = rw (at_is, ← g.is)
+
+  -- the value is read back from its bits
+  pub name_read : {z : ℤ} → Gives (Some z) (of_stored m (find name st)) → ◌≡◌ {A = Read} (some (read_back z, left)) (name_at m st l)
+  unfolding giving
+  name_read {z} g = rw (told_in z g.fits, at_is, ← g.is)

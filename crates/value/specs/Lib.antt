@@ -1,3 +1,3 @@
--- What stands at an offset of a text, and what is read from there.
-pub mod Place
+-- How values are read from the front of a text.
+pub mod Turns
 pub mod Reads
