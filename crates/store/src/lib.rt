@@ -83,6 +83,7 @@ impl<'a> Iterator for Entries<'a> {
 
     #[tactic(auto, using(crate::proofs::Walk::ahead, crate::proofs::Walk::nothing_left))]
     fn next(&mut self) -> Option<Entry<'a>> {
+        // self.left.checked_sub(1)? proves too, and takes 7 in 100 more instructions of searches among sixty names
         if self.left == 0 {
             return None;
         }
