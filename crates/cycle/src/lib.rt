@@ -45,14 +45,14 @@ pub fn offer(
         depth s.old (outputs output.old second.old) counts.old result
         s.new (outputs output.new second.new) counts.new }
 {
-    let found = first_reading(script.marked.marks, script.nodes, script.count, dead, line);
+    let found = first_reading(script.marked.marks, script.nodes, dead, line);
     count_decided(&found, counts, s.fuel);
     decide(&found, line, output, depth, s)?;
     let Some(reading) = found.reading else {
         return Ok(Turn::Back(0));
     };
     s.add_call();
-    let call = open_reading(script.bodies, line, reading, s.calls);
+    let call = open_reading(script.table, line, reading, s.calls);
     body(script, dead, output, second, counts, call, depth, s)
 }
 

@@ -1,7 +1,6 @@
 // The first reading of a line by the templates (document 01, "Fitting a line"): a recursive search over node and position, which takes up
 // no place twice (document 02, ticket 3). A dead place, which was found to lead nowhere, is marked by its bit in a lent row.
-// first_reading asks that a tree stands at the front of the row of nodes, that the line is short enough, and that the lent row has a bit
-// for each place. The five searches call one another, and are proved together.
+// first_reading asks that the nodes are a tree, that the line is short enough, and that the lent row has a bit for each place. The five searches call one another, and are proved together.
 #![tactic(auto)]
 
 ghost use Rattle.std.specs.Prelude.{◌≡◌, ◌+◌, ◌*◌, ◌^◌, ◌<◌, ◌≤◌, length};
@@ -16,7 +15,7 @@ use model::{END_KEY, Marks, PLACEHOLDER_KEY};
 use nodes::{Node, child, placeholder_child};
 use places::{clear, is_dead, set_dead};
 
-// A call: the number of its template, and where each piece starts and its length.
+// A call: the number of its template, and where each piece starts and its length: two rows, as the C interface answers them.
 #[derive(Clone, Copy)]
 pub struct Reading {
     pub template: usize,
@@ -32,7 +31,7 @@ pub struct Choice {
     pub bytes: usize,
 }
 
-// What a search notes: where each piece starts and its length, how many places were taken up, how many bytes were read where the next atom was
+// What a search notes: where each piece starts and its length, in two rows as a reading has them, how many places were taken up, how many bytes were read where the next atom was
 // looked for, and where something is found the length of what is left of the piece that is open where the search starts. So nothing is handed
 // back and added up at every place.
 #[derive(Drop)]
@@ -134,10 +133,10 @@ fn number_place(end: usize, node: usize, at: usize) -> usize
 fn element_at(line: &[u8], at: usize) -> u16
     ensures { element_of result ≡ element_at line.now at }
 {
-    if at < line.len() {
-        return u16::from(line[at]);
+    match line.get(at) {
+        Some(byte) => u16::from(*byte),
+        None => END_KEY,
     }
-    END_KEY
 }
 
 // The place of the node and the position `at`: it is taken up unless it is dead, and dead where it leads nowhere. The node's height and what is
@@ -250,14 +249,13 @@ fn search_atom(
     Some(end)
 }
 
-// The first of all readings of a line by the templates of the tree, which has `count` nodes: the row of nodes is lent, and its length is the
-// lender's. At first no place of the tree and the line is dead.
+// The first of all readings of a line by the templates of a tree. At first no place of the tree and the line is dead.
 #[tactic(auto, using(crate::proofs::Taken::places_fit, crate::proofs::Taken::clear_fits, crate::proofs::Taken::asks_root, crate::proofs::Choose::found_there))]
-pub fn first_reading(m: Marks, nodes: &[Node], count: usize, dead: &mut [u8], line: &[u8]) -> Choice
-    requires { Fits nodes.now count dead.old line.now }
-    ensures { Chooses m nodes.now count line.now result }
+pub fn first_reading(m: Marks, nodes: &[Node], dead: &mut [u8], line: &[u8]) -> Choice
+    requires { Fits nodes.now (length nodes.now) dead.old line.now }
+    ensures { Chooses m nodes.now (length nodes.now) line.now result }
 {
-    clear(dead, count * (line.len() + 1));
+    clear(dead, nodes.len() * (line.len() + 1));
     // by hand, since Default says of an array what each element is, and the law of the search begins with the rows themselves
     let mut notes = Notes {
         starts: [0; 9],

@@ -32,6 +32,7 @@ fn drop_lines(text: &[u8], n: usize, s: &mut State)
 }
 
 // Expands the input that is left, from the names that are stored on.
+// It asks what cycle's offer asks, for its reasons: these facts relate the state, both outputs and the counts, which are lent.
 pub fn expand_input(
     script: &Script,
     dead: &mut [u8],

@@ -6,7 +6,7 @@ use Prim.Native.Nat.{ℕ, zero, suc, ◌+◌, ◌≤◌, ◌<◌}
 use native.Mathlib.Omega.{arith}
 use native.Mathlib.Nat.{eq-or-lt_of_le}
 use native.Mathlib.Numerals.{add-one}
-use lib.ListN.{length, get_or, length-append, get_or-append}
+use lib.ListN.{length, get_or, length-append, get_or-append, get_or-map}
 use lib.Seq.{get_or_at, get_or-set_other}
 use Rattle.model.specs.declared.Marks.{Marks}
 use Rattle.model.specs.Text.{Bytes, part}
@@ -14,11 +14,17 @@ use Rattle.model.specs.Load.{no_macro, templates, body_at}
 use Rattle.model.proofs.Loading.{templates_snoc}
 use Rattle.macros.specs.declared.Entry.{Entry}
 use Rattle.macros.specs.declared.Table.{Table}
-use Rattle.macros.specs.Table.{no_entry, entry_in, start_in, len_in, line_in, body_in, PutsMacro, template_in, templates_in, macro_in, macros_in, EntriesInside}
+use Rattle.macros.specs.Table.{no_entry, entry_in, start_in, len_in, line_in, body_in, bodies_in, PutsMacro, template_in, templates_in, macro_in, macros_in, EntriesInside}
 
 -- what holds below n and of n holds below n + 1
 pub one_more : (n : ℕ) (P : ℕ → Type 0) → ((k : ℕ) → k < n → P k) → P n → (k : ℕ) → k < n + 1 → P k
 one_more n P h p k u = ⊎_elim (λ q. subst P (sym q) p) (λ q. h k q) (eq-or-lt_of_le {n = k} {m = n} (omega arith))
+
+-- ---- the bodies
+
+-- each stands in the row of all
+pub bodies_in_at : (t : Table) (k : ℕ) → get_or (bodies_in t) k 0 ≡ body_in t k
+bodies_in_at t k = get_or-map (λ (e : Entry). e.body) t.entries k no_entry
 
 -- ---- the templates
 

@@ -1,5 +1,5 @@
 -- The table of macros, and the macros that it stands for.
-use Rattle.std.specs.Prelude.{◌≡◌, List, [], ◌∷◌, ◌++◌, ℕ, zero, suc, ◌+◌, ◌≤◌, ◌<◌, length, get_or, set}
+use Rattle.std.specs.Prelude.{◌≡◌, List, [], ◌∷◌, ◌++◌, ℕ, zero, suc, ◌+◌, ◌≤◌, ◌<◌, map, length, get_or, set}
 use Rattle.model.specs.Limits.{line_most, macros_most}
 use Rattle.model.specs.declared.Marks.{Marks}
 use Rattle.model.specs.Text.{Bytes, part}
@@ -28,14 +28,13 @@ line_in t k = (entry_in t k).line
 abbrev pub body_in : Table → ℕ → ℕ
 body_in t k = (entry_in t k).body
 
+-- where each macro's body starts
+abbrev pub bodies_in : Table → List ℕ
+bodies_in t = map (λ (e : Entry). e.body) t.entries
+
 -- the number of the macro at a place of the order
 abbrev pub order_in : Table → ℕ → ℕ
 order_in t place = get_or t.order place 0
-
--- a row that has where each macro's body starts
-pub record HasBodies (t : Table) (bodies : List ℕ) : Type 0 where
-  pub whole : macros_most ≤ length bodies
-  pub same : (k : ℕ) → k < macros_most → get_or bodies k 0 ≡ body_in t k
 
 -- the table has one macro more, the last in the text: its number stands at a place of the order, those of the others from there on one place
 -- further, and all else is as it was

@@ -3,7 +3,7 @@
 
 ghost use Rattle.std.specs.Prelude.{◌≡◌, ◌+◌, ◌≤◌, ◌<◌, length};
 ghost use Rattle.model.specs.Limits.{macros_most};
-ghost use Rattle.macros.specs.Table.{start_in, len_in, line_in, order_in, template_in, HasBodies, PutsMacro};
+ghost use Rattle.macros.specs.Table.{start_in, len_in, line_in, order_in, template_in, PutsMacro};
 
 use model::MACROS_MOST;
 
@@ -52,18 +52,6 @@ impl Table {
         ensures { result ≡ order_in self.now place }
     {
         self.order[place]
-    }
-
-    // Where the bodies start, as a row of their own.
-    pub fn list_bodies(&self) -> [usize; MACROS_MOST]
-        ensures { HasBodies self.now result }
-    {
-        let mut bodies = [0; MACROS_MOST];
-        // entries.map(|entry| entry.body) takes 10,000 instructions more, 8 in 100 of a run of a small text
-        for k in 0..MACROS_MOST {
-            bodies[k] = self.entries[k].body;
-        }
-        bodies
     }
 
     // Puts the next macro into the table, and its number at a place of the order; those from there on stand one place further.

@@ -40,12 +40,12 @@ module _ {m : Marks} {row : List Node} {count : ℕ} {line : Bytes} {c : Choice}
 
 module _ {b : Basis} {line : Bytes} {c : Choice} {x : Reading} (g : Chooses b.marks b.nodes b.count line c) (f : c.reading ≡ Some x) where
   -- what is chosen can be opened
-  pub choice_opening : Prepared b → length line ≤ 200 → Opening b.bodies line x
+  pub choice_opening : Prepared b → length line ≤ 200 → Opening line x
   choice_opening p s =
       let k = p.book in
       record {
         pieces = record { each = λ i u. record { inside = found_within g f i; short = omega (arith, found_within g f i) } };
-        body = omega (arith, (found_call g f _ k.fits).place, templates-length p.table.macros, k.as_many);
+        place = omega (arith, (found_call g f _ k.fits).place, templates-length p.table.macros, k.few);
       }
 
   -- the call is that of the first reading

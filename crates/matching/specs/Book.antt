@@ -7,6 +7,8 @@ use Rattle.model.specs.Load.{templates, no_macro, Loaded, body_at}
 use Rattle.model.specs.Report.{Tally}
 use Rattle.model.specs.Sizes.{BodiesOk}
 use Rattle.nodes.specs.declared.Node.{Node}
+use Rattle.macros.specs.declared.Table.{Table}
+use Rattle.macros.specs.Table.{bodies_in}
 use Rattle.fit.specs.Chosen.{TreeAt}
 use Rattle.usage.specs.Counts.{tally_of}
 
@@ -18,13 +20,16 @@ pub record Basis : Type 0 where
   pub count : ℕ
   pub bodies : List ℕ
 
+-- of the nodes that are the tree, and of the table
+abbrev pub basis : Marks → Bytes → List Node → Table → Basis
+basis m text nodes table = record { marks = m; text = text; nodes = nodes; count = length nodes; bodies = bodies_in table }
+
 -- t is loaded from the text: the marks are its, the tree of its templates stands in the row, and `bodies` says where each macro's body starts
 pub record Book (b : Basis) (t : Loaded) : Type 0 where
   pub marks : t.marks ≡ b.marks
   pub short : length b.text ≤ text_most
   pub fits : TreeAt b.marks b.nodes b.count (templates t.macros)
   pub few : length t.macros ≤ macros_most
-  pub as_many : length t.macros ≤ length b.bodies
   pub within : (k : ℕ) → k < length t.macros → get_or b.bodies k 0 ≤ length b.text
   pub body : (k : ℕ) → k < length t.macros → (get_or t.macros k no_macro).body ≡ body_at b.marks b.text (get_or b.bodies k 0)
   pub nested : BodiesOk b.marks t.macros

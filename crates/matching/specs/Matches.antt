@@ -37,10 +37,10 @@ pub record Decides (c : Option Reading) (line : Bytes) (depth : ℕ) (s : State)
   pub deep : 0 < s.fuel → (x : Reading) → c ≡ Some x → depth ≡ calls_most → (r ≡ Err DeepCall) × (s' ≡ counted_event s) × (output' ≡ output)
   pub opens : 0 < s.fuel → (x : Reading) → c ≡ Some x → ¬ (depth ≡ calls_most) → (r ≡ Ok tt) × (s' ≡ counted_event s) × (output' ≡ output)
 
--- the pieces of a reading lie in a line, and its template has a body
-pub record Opening (bodies : List ℕ) (line : Bytes) (c : Reading) : Type 0 where
+-- the pieces of a reading lie in a line, and its template is one that a table has a place for
+pub record Opening (line : Bytes) (c : Reading) : Type 0 where
   pub pieces : PiecesInside line c.starts c.lens
-  pub body : c.template < length bodies
+  pub place : c.template < macros_most
 
 -- r is the call that is chosen
 pub record Opened (bodies : List ℕ) (line : Bytes) (c : Reading) (number : ℕ) (r : Call) : Type 0 where

@@ -5,12 +5,14 @@
 
 ghost use Rattle.std.specs.Prelude.{◌+◌, ◌≤◌, ◌<◌, ◌≡◌, length, IfSome};
 ghost use Rattle.model.specs.Limits.{macros_most, fuel_most};
+ghost use Rattle.macros.specs.Table.{bodies_in};
 ghost use Rattle.usage.specs.Counts.{Counts};
 ghost use Rattle.matching.specs.Matches.{chosen_place, CountsDecided, Decides, Opening, Opened};
 
 use call::Call;
 use faults::RunFault;
 use fit::{Choice, Reading};
+use macros::Table;
 use model::{CALLS_MOST, MACROS_MOST};
 use nodes::Node;
 use scan::Marked;
@@ -19,24 +21,23 @@ use std::marker::Model;
 use usage::count_line;
 use write::pass_through;
 
-// What a run goes by: the text with its marks, the tree of its templates, which has so many nodes in the row, and where their bodies start.
+// What a run goes by: the text with its marks, the tree of its templates, and the table, which says where their bodies start.
 // What makes one proves that the text is loaded into it. No ghost field says so, since the fact has more than one proof.
 #[derive(Drop)]
 pub struct Script<'a> {
     pub marked: Marked<'a>,
     pub nodes: &'a [Node],
-    pub count: usize,
-    pub bodies: &'a [usize],
+    pub table: &'a Table,
 }
 
 impl<'a> Model for Script<'a> {
-    ghost use Rattle.matching.specs.Book.{Basis, Prepared};
+    ghost use Rattle.matching.specs.Book.{Basis, basis, Prepared};
 
     ghost Value = { Basis };
 
-    ghost view = { λ s. record { marks = s.marked.marks; text = s.marked.text.now; nodes = s.nodes.now; count = s.count; bodies = s.bodies.now } };
+    ghost view = { λ s. basis s.marked.marks s.marked.text.now s.nodes.now s.table.now };
 
-    ghost invariant = { λ s. Prepared (record { marks = s.marked.marks; text = s.marked.text.now; nodes = s.nodes.now; count = s.count; bodies = s.bodies.now }) };
+    ghost invariant = { λ s. Prepared (basis s.marked.marks s.marked.text.now s.nodes.now s.table.now) };
 }
 
 // Where a line is counted by its reading: at its template's place, or behind all templates where it has none.
@@ -50,6 +51,7 @@ fn find_count(found: &Choice) -> usize
 }
 
 // Counts a line whose reading is decided, whatever follows; where no fuel is left it is not offered.
+// Counts is asked for as cycle's offer asks it: it bounds each count by the fuel that is spent, and so relates what is lent to a state.
 pub fn count_decided(found: &Choice, counts: &mut [usize], fuel: usize)
     requires { Counts counts.old fuel × IfSome found.now.reading (λ r. r.template < macros_most) }
     ensures { CountsDecided found.now.reading fuel counts.old counts.new }
@@ -61,6 +63,7 @@ pub fn count_decided(found: &Choice, counts: &mut [usize], fuel: usize)
 
 // What a line comes to by its reading, with `depth` calls open, up to the opening of a call: the run is spent, or an event is counted, and without a
 // reading the line is written to the first output, and with one a call more may be one too many.
+// It asks for two parts of Sound, which cycle's offer asks for: that relates the state and lent outputs, and is no fact of a type.
 pub fn decide(
     found: &Choice,
     line: &[u8],
@@ -82,12 +85,12 @@ pub fn decide(
     }
 }
 
-// The call with that number of the body of a reading's template, with the pieces of a line as its parameters.
-// The number is the call's of document 01, which counts calls: it is no kind, and so no enum.
-pub fn open_reading(bodies: &[usize], line: &[u8], reading: Reading, number: usize) -> Call
-    requires { Opening bodies.now line.now reading }
-    ensures { Opened bodies.now line.now reading number result }
+// The call of the body of a reading's template, with the pieces of a line as its parameters. `number` says which of the run's calls it is.
+#[tactic(auto, using(macros::proofs::Entries::bodies_in_at))]
+pub fn open_reading(table: &Table, line: &[u8], reading: Reading, number: usize) -> Call
+    requires { Opening line.now reading }
+    ensures { Opened (bodies_in table.now) line.now reading number result }
 {
-    let next = bodies[reading.template];
+    let next = table.entries[reading.template].body;
     Call::open(number, next, line, reading.starts, reading.lens)
 }

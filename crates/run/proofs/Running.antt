@@ -28,8 +28,8 @@ use Rattle.load.specs.declared.Refused.{Refused}
 use Rattle.std.specs.Prelude as Prelude
 use Rattle.std.specs.Prelude.{Err}
 use Rattle.macros.specs.declared.Entry.{Entry}
-use Rattle.macros.specs.Table.{HasBodies}
-use Rattle.macros.proofs.Entries.{macros_in_length, macros_in_at}
+use Rattle.macros.proofs.Entries.{bodies_in_at, macros_in_length, macros_in_at}
+use Rattle.fit.proofs.Asking.{tree_alone}
 use Rattle.load.specs.Answer.{loaded_of}
 use Rattle.usage.specs.Counts.{tally_of, Counts, ReadyToReport, PrintsReport}
 use Rattle.usage.proofs.Counts.{counts_none, counts_start, counts_few}
@@ -81,8 +81,8 @@ refused_runs text row {f = f} fuel {output = output} {second = second} p z n e =
 
 -- ---- a text that is prepared is ready for its expansion
 
-pub ready : {text : Bytes} {row : List Node} {t : Prepared} {bodies : List ℕ} → IsPrepared text row t → HasBodies t.table bodies → ReadyToRun text row bodies t
-ready {text} {row} {t} p b =
+pub ready : {text : Bytes} {row : List Node} {t : Prepared} → IsPrepared text row t → ReadyToRun text row t
+ready {text} {row} {t} p =
     let l = t.loaded in
     let h = p.loads in
     let inside = h.sound.inside in
@@ -94,13 +94,13 @@ ready {text} {row} {t} p b =
       book = record {
         marks = refl;
         short = q.short;
-        fits = q.fits;
+        fits = tree_alone q.fits;
         few = omega (arith, inside.entries.few);
-        as_many = omega (arith, inside.entries.few, b.whole);
-        within = λ k. λ lt. rw (b.same k (omega (arith, inside.entries.few))) (inside.body k (omega arith));
-        body = λ k. λ lt. rw (b.same k (omega (arith, inside.entries.few))) (ap (λ x. x.body) (at k (omega arith)));
+        within = λ k. λ lt. rw (bodies_in_at t.table k) (inside.body k (omega arith));
+        body = λ k. λ lt. rw (bodies_in_at t.table k) (ap (λ x. x.body) (at k (omega arith)));
         nested = q.nested;
       };
+      within = q.fits.within;
       few = inside.entries.few;
       lines = λ k u. subst (λ (x : Macro). x.line ≤ 65536) (at k u) (macro_line text _ h.is k);
       at = h.sound.input;
@@ -114,7 +114,7 @@ extended : {o : Bytes} {w : ℕ} {o' : Bytes} {w' : ℕ} → Extends o w o' w' �
 extended {o} {w} {o'} {w'} e =
     sym (take-append-drop w' o') ∙ ap (λ (z : Bytes). take w' o' ++ z) e.rest ∙ ap (λ (n : ℕ). take w' o' ++ drop n o) (sym (length-take-le w' o' (omega (arith, e.long, e.fits))))
 
-module _ {text : Bytes} {row : List Node} {bodies : List ℕ} {t : Prepared} (y : ReadyToRun text row bodies t) where
+module _ {text : Bytes} {row : List Node} {t : Prepared} (y : ReadyToRun text row t) where
   abbrev l : Loaded
   l = t.loaded
 
@@ -122,7 +122,7 @@ module _ {text : Bytes} {row : List Node} {bodies : List ℕ} {t : Prepared} (y 
   abbrev u : Load.Loaded
   u = loaded_of text t.table t.loaded
 
-  pub prepared : Book.Prepared (basis_of text row bodies t)
+  pub prepared : Book.Prepared (basis_of text row t)
   prepared = record { table = u; book = y.book }
 
   -- the entries of its macros
@@ -157,7 +157,7 @@ module _ {text : Bytes} {row : List Node} {bodies : List ℕ} {t : Prepared} (y 
     starts_counted f = subst (λ (z : State). Counts (replicate 129 0) z.fuel) (sym is) (counts_start f)
 
     module _ {output second : Bytes} {q : Answer} {s' : State} {output' second' : Bytes} {counts' : List ℕ}
-        (e : Expands (basis_of text row bodies t) s (outputs output second) (replicate 129 0) q s' (outputs output' second') counts') where
+        (e : Expands (basis_of text row t) s (outputs output second) (replicate 129 0) q s' (outputs output' second') counts') where
       begins : ◌≡◌ {A = Next} (running (initial u)) (running (state_of text none [] (tally_in u (replicate 129 0)) (start_of l fuel) (outputs output second)))
       unfolding initial no_output
       begins = λ i. running (record {
@@ -171,8 +171,8 @@ module _ {text : Bytes} {row : List Node} {bodies : List ℕ} {t : Prepared} (y 
         tally = sym (counts_none u.macros y.book.few) i;
       })
 
-      expands : Expands (basis_of text row bodies t) (start_of l fuel) (outputs output second) (replicate 129 0) q s' (outputs output' second') counts'
-      expands = subst (λ (z : State). Expands (basis_of text row bodies t) z (outputs output second) (replicate 129 0) q s' (outputs output' second') counts') is e
+      expands : Expands (basis_of text row t) (start_of l fuel) (outputs output second) (replicate 129 0) q s' (outputs output' second') counts'
+      expands = subst (λ (z : State). Expands (basis_of text row t) z (outputs output second) (replicate 129 0) q s' (outputs output' second') counts') is e
 
       -- what the run of the loaded text comes to
       whole : result_after u (tally_in u counts') q s' (outputs output' second') ≡ run fuel (rooms (length output) (length second)) (load text)

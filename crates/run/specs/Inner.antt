@@ -1,5 +1,5 @@
 -- What the inner functions ask for and answer.
-use Rattle.std.specs.Prelude.{◌≡◌, List, [], ℕ, ◌≤◌, ◌<◌, length}
+use Rattle.std.specs.Prelude.{◌≡◌, List, [], ℕ, ◌≤◌, ◌<◌, length, take}
 use Rattle.model.specs.Limits.{text_most, macros_most}
 use Rattle.model.specs.declared.Ran.{Ran}
 use Rattle.model.specs.Text.{Bytes}
@@ -12,17 +12,18 @@ use Rattle.macros.specs.Table.{line_in}
 use Rattle.load.specs.declared.Loaded.{Loaded}
 use Rattle.load.specs.Answer.{loaded_of}
 use Rattle.prepare.specs.declared.Prepared.{Prepared}
-use Rattle.matching.specs.Book.{Basis, Book}
+use Rattle.matching.specs.Book.{Basis, basis, Book}
 use Rattle.answer.specs.Answers.{Answer, end_number}
 
 -- what the run of a text that is loaded into t goes by
-abbrev pub basis_of : Bytes → List Node → (bodies : List ℕ) → Prepared → Basis
-basis_of text row bodies t = record { marks = t.loaded.marks; text = text; nodes = row; count = t.loaded.nodes; bodies = bodies }
+abbrev pub basis_of : Bytes → List Node → Prepared → Basis
+basis_of text row t = basis t.loaded.marks text (take t.loaded.nodes row) t.table
 
--- a text is loaded into t: the tree of its templates stands in the row, and `bodies` says where their bodies start
-pub record ReadyToRun (text : Bytes) (row : List Node) (bodies : List ℕ) (t : Prepared) : Type 0 where
+-- a text is loaded into t, and the tree of its templates stands in the row
+pub record ReadyToRun (text : Bytes) (row : List Node) (t : Prepared) : Type 0 where
   pub loads : load text ≡ loaded (loaded_of text t.table t.loaded)
-  pub book : Book (basis_of text row bodies t) (loaded_of text t.table t.loaded)
+  pub book : Book (basis_of text row t) (loaded_of text t.table t.loaded)
+  pub within : t.loaded.nodes ≤ length row
   pub few : t.table.count ≤ macros_most
   pub lines : (k : ℕ) → k < t.table.count → line_in t.table k ≤ text_most
   pub at : t.loaded.input ≤ length text

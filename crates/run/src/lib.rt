@@ -8,8 +8,7 @@
 ghost use Rattle.std.specs.Prelude.{◌≡◌, ◌≤◌, length};
 ghost use Rattle.model.specs.Load as Load;
 ghost use Rattle.model.specs.Machine as Machine;
-ghost use Rattle.model.specs.Machine.{rooms};
-ghost use Rattle.model.specs.Machine.{no_run};
+ghost use Rattle.model.specs.Machine.{rooms, no_run};
 ghost use Rattle.model.specs.Results.{ran_as};
 ghost use Rattle.prepare.specs.Prepares.{Prepares};
 ghost use Rattle.model.specs.Runs.{Runs};
@@ -98,7 +97,6 @@ fn run_loaded(
     text: &[u8],
     nodes: &[Node],
     dead: &mut [u8],
-    bodies: &[usize],
     t: &Prepared,
     fuel: usize,
     output: &mut [u8],
@@ -106,7 +104,7 @@ fn run_loaded(
     store: &mut [u8],
     report: &mut [u8],
 ) -> Ran
-    requires { ReadyToRun text.now nodes.now bodies.now t.now
+    requires { ReadyToRun text.now nodes.now t.now
         × (fuel ≤ fuel_most) × (store_least ≤ length store.old) × (dead_least ≤ length dead.old)
         × (report_least ≤ length report.old) }
     ensures { Runs (Machine.run fuel (rooms (length output.old) (length second.old)) (Load.load text.now))
@@ -121,9 +119,8 @@ fn run_loaded(
             marks: loaded.marks,
             text,
         },
-        nodes,
-        count: loaded.nodes,
-        bodies,
+        nodes: &nodes[..loaded.nodes],
+        table: &t.table,
     };
     let ended = expand_input(&script, dead, output, second, &mut counts, &mut s);
     let reported = print_report(&t.table.entries[..t.table.count], &counts, report);
@@ -150,11 +147,8 @@ pub fn run_prepared(
 {
     match t {
         Err(refused) => refuse(refused.fault.into(), refused.line),
-        Ok(prepared) => {
-            let bodies = prepared.table.list_bodies();
-            run_loaded(
-                text, nodes, dead, &bodies, prepared, fuel, output, second, store, report,
-            )
-        }
+        Ok(prepared) => run_loaded(
+            text, nodes, dead, prepared, fuel, output, second, store, report,
+        ),
     }
 }

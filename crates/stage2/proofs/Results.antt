@@ -7,7 +7,7 @@ use mathlib.Core.List.{List, [], ◌∷◌}
 use Prim.Native.Nat.{ℕ, zero, suc, ◌≤◌, ◌<◌}
 use native.Mathlib.Omega.{arith}
 use lib.Dec.{ltb}
-use lib.ListN.{length, get_or}
+use lib.ListN.{length, get_or, take}
 use borrow.Author.Tests.{lt-ltb, le-ltb}
 use Rattle.model.specs.declared.Checked.{Checked}
 use Rattle.model.specs.declared.Fitted.{Fitted}
@@ -27,7 +27,7 @@ use Rattle.nodes.specs.SideBySide.{HoldsTree}
 use Rattle.fit.specs.declared.Choice.{Choice}
 use Rattle.fit.specs.declared.Reading.{Reading}
 use Rattle.fit.specs.Chosen.{Fits, TreeAt, Chosen, Chooses}
-use Rattle.fit.proofs.Asking.{can_fit}
+use Rattle.fit.proofs.Asking.{can_fit, tree_alone}
 use Rattle.macros.specs.declared.Table.{Table}
 use Rattle.macros.specs.Table.{macro_in, macros_in}
 use Rattle.macros.proofs.Entries.{macros_in_length, macros_in_at}
@@ -104,6 +104,13 @@ module _ {text : Bytes} {t : Prepared} {row : List Node} (line : Bytes) (p : IsP
   abbrev macros : List Macro
   macros = macros_in l.marks text t.table t.table.count
 
+  -- its tree
+  abbrev tree : List Node
+  tree = take l.nodes row
+
+  fits : TreeAt l.marks tree (length tree) (templates macros)
+  fits = tree_alone p.has_tree.fits
+
   -- a line over 200 bytes
   pub fit_long : {k : ℕ} {f : Fitted} → 200 < length line → k ≡ 11 → f ≡ without_pieces k 0 → f ≡ fitted_in line (load text)
   unfolding fitted_in
@@ -117,17 +124,17 @@ module _ {text : Bytes} {t : Prepared} {row : List Node} (line : Bytes) (p : IsP
   fit_loaded v = sym (when_false _ _ (le-ltb 200 (length line) v)) ∙ ap (fitted_in line) (sym p.loads.is)
 
   -- the tree is there to be searched, with room for its dead places
-  pub asks_whole : {dead : Bytes} → 51456 ≤ length dead → length line ≤ 200 → Fits row l.nodes dead line
-  asks_whole d v = can_fit p.has_tree.fits v d
+  pub asks_whole : {dead : Bytes} → 51456 ≤ length dead → length line ≤ 200 → Fits tree (length tree) dead line
+  asks_whole d v = can_fit fits v d
 
-  module _ {c : Choice} (h : Chooses l.marks row l.nodes line c) where
+  module _ {c : Choice} (h : Chooses l.marks tree (length tree) line c) where
     -- the places that were taken up
     taken : c.places ≡ places_taken l.marks (templates macros) line
-    taken = h.places (templates macros) p.has_tree.fits
+    taken = h.places (templates macros) fits
 
     -- and the bytes that were read
     read : c.bytes ≡ bytes_read l.marks (templates macros) line
-    read = h.bytes (templates macros) p.has_tree.fits
+    read = h.bytes (templates macros) fits
 
     place : {r : Reading} → Chosen l.marks (templates macros) line r → r.template < t.table.count
     place w = omega (arith, w.place, templates-length macros, macros_in_length l.marks text t.table t.table.count)
@@ -136,8 +143,8 @@ module _ {text : Bytes} {t : Prepared} {row : List Node} (line : Bytes) (p : IsP
     pub template_within : IfSome c.reading (λ r. r.template < 128)
     template_within = by c.reading h.call
       where
-        by : (o : Option Reading) → IfSome o (λ r. (ts : List Bytes) → TreeAt l.marks row l.nodes ts → Chosen l.marks ts line r) → IfSome o (λ r. r.template < 128)
-        by (Some r) w = omega (arith, place (w (templates macros) p.has_tree.fits), p.loads.sound.inside.entries.few)
+        by : (o : Option Reading) → IfSome o (λ r. (ts : List Bytes) → TreeAt l.marks tree (length tree) ts → Chosen l.marks ts line r) → IfSome o (λ r. r.template < 128)
+        by (Some r) w = omega (arith, place (w (templates macros) fits), p.loads.sound.inside.entries.few)
         by None w = tt
 
     -- what a fit of the line comes to
@@ -165,8 +172,8 @@ module _ {text : Bytes} {t : Prepared} {row : List Node} (line : Bytes) (p : IsP
     pub fit_chosen : {f : Fitted} → length line ≤ 200 → f ≡ answer_of t.table c.reading c.places c.bytes → f ≡ fitted_in line (load text)
     fit_chosen {f} v a = a ∙ by c.reading h.no_call h.call ∙ fit_loaded v
       where
-        by : (o : Option Reading) → (IsNone o → (ts : List Bytes) → TreeAt l.marks row l.nodes ts → chosen l.marks ts line ≡ none)
-            → IfSome o (λ r. (ts : List Bytes) → TreeAt l.marks row l.nodes ts → Chosen l.marks ts line r)
+        by : (o : Option Reading) → (IsNone o → (ts : List Bytes) → TreeAt l.marks tree (length tree) ts → chosen l.marks ts line ≡ none)
+            → IfSome o (λ r. (ts : List Bytes) → TreeAt l.marks tree (length tree) ts → Chosen l.marks ts line r)
             → answer_of t.table o c.places c.bytes ≡ whole
-        by (Some r) n w = call (w (templates macros) p.has_tree.fits)
-        by None n w = no_call (n refl (templates macros) p.has_tree.fits)
+        by (Some r) n w = call (w (templates macros) fits)
+        by None n w = no_call (n refl (templates macros) fits)

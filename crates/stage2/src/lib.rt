@@ -135,7 +135,7 @@ fn fit_prepared(text: &[u8], nodes: &[Node], dead: &mut [u8], t: &Prepared, line
         return no_pieces(RunFault::LongInput.into(), 0);
     }
     let loaded = t.loaded;
-    let choice = first_reading(loaded.marks, nodes, loaded.nodes, dead, line);
+    let choice = first_reading(loaded.marks, &nodes[..loaded.nodes], dead, line);
     answer_choice(&t.table, choice)
 }
 

@@ -5,7 +5,7 @@ use Rattle.run.proofs.run_prepared.Goals as goal
 pub run_loaded-requires : goal.run_loaded-requires
 run_loaded-requires c =
     let is = c.in-Ok.is in
-    (ready (rw is at c.requires.0) c.list_bodies-bodies.ensures, c.requires.1, c.requires.2, c.requires.3, c.requires.4)
+    (ready (rw is at c.requires.0), c.requires.1, c.requires.2, c.requires.3, c.requires.4)
 
 pub returns-in-Err : goal.returns-in-Err
 returns-in-Err c = refused_runs _ _ _ c.requires.0 c.in-Err.is c.into.ensures c.refuse.ensures
