@@ -49,7 +49,7 @@ pub fn compare(o: Comparison, a: Integer, b: Integer) -> bool
     }
 }
 
-// Whether a byte is a digit.
+// Whether a byte is a digit: std's test, with the definition's name in its clause.
 #[tactic(auto, unfolding(model::specs::Text::is_digit))]
 pub fn is_digit(b: u8) -> bool
     ensures { result ≡ is_digit b }
