@@ -26,6 +26,7 @@ use state::State;
 use write::{Line, write};
 
 // What is done at the end of a code line, with the line that it built. The call's next code line is the one after it.
+// The code line is a part of the text by its places: an iteration that it opens keeps those of its delimiters.
 #[tactic(auto, using(crate::proofs::Endings::iterate_within))]
 fn finish_code(
     marked: &Marked,

@@ -1,4 +1,5 @@
 -- finish_code does what the ending says: each arm is its leaf's. After those that a fault may end the call goes on.
+-- With the laws named at the function the search gives up at a limit.
 use mathlib.Core.Path.{refl}
 use borrow.Author.Rules.{rules}
 use Rattle.carry.proofs.Endings.{iterate_parameter, iterate_depth, repeat_depth, went_on, broke_off}

@@ -1,4 +1,5 @@
 -- copy_input looks for parameter 1, where it is not empty.
+-- With the laws named at the function the search gives up at a limit.
 use mathlib.Core.Path.{sym, ◌∙◌}
 use borrow.Author.Rules.{rules}
 use borrow.Author.Tests.{eqb-false}

@@ -1,4 +1,5 @@
 -- repeat begins as many passes as the value says, or ends the run with 15.
+-- With the laws named at the function the search gives up at a limit.
 use Rattle.finish.proofs.Iterating.{repeats, repeats_fault}
 use Rattle.finish.proofs.repeat.Goals as goal
 

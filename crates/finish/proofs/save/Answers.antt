@@ -1,4 +1,5 @@
 -- save ends the run with 19 where the store is full.
+-- With the law named at the function the goal is not found.
 use Rattle.finish.proofs.Storing.{saves_full}
 use Rattle.finish.proofs.save.Goals as goal
 
