@@ -13,6 +13,7 @@ use model::Marks;
 use state::State;
 
 // A part comes at the end of the line.
+#[tactic(auto, using(crate::proofs::Parts::part_byte, crate::proofs::Parts::part_serial, crate::proofs::Parts::part_convert))]
 fn add_part(m: Marks, call: &Call, p: Part, line: &mut Text, s: &mut State) -> Result<(), RunFault>
     requires symbols { s.old.symbols ≤ length s.old.store }
     requires ranges { Ranges p × (call.now.number ≤ fuel_most) }
