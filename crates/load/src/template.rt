@@ -63,7 +63,7 @@ impl Loader {
             line: line.nth,
             body: line.next,
         };
-        self.table.put_macro(entry, found.place);
+        self.table.insert(entry, found.place);
         self.nodes += found.new;
         self.next = Next::Code(0);
         Ok(None)

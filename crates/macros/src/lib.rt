@@ -55,7 +55,7 @@ impl Table {
     }
 
     // Puts the next macro into the table, and its number at a place of the order; those from there on stand one place further.
-    pub fn put_macro(&mut self, entry: Entry, place: usize)
+    pub fn insert(&mut self, entry: Entry, place: usize)
         requires { (self.old.count < macros_most) × (place ≤ self.old.count) }
         ensures { PutsMacro self.old entry place self.new }
     {

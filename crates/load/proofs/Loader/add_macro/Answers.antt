@@ -6,4 +6,4 @@ use Rattle.load.proofs.Loader.add_macro.Goals as goal
 pub returns : goal.returns
 returns c =
     let (sound, outside) = c.requires.table_sound in
-    macro_more sound outside c.requires.line_in c.find_byte-stop.ensures refl c.weigh_template.ensures c.in_ok-found.was _ _ c.put_macro.ensures
+    macro_more sound outside c.requires.line_in c.find_byte-stop.ensures refl c.weigh_template.ensures c.in_ok-found.was _ _ c.insert.ensures
