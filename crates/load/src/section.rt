@@ -47,16 +47,17 @@ impl Loader {
     }
 }
 
-// The macros from the text's second line on, which starts at `first`, up to the section's end. The loader has a table of its own,
-// which is copied out where the text loads: each method of a loader that holds a `&mut` would have to say that this is still the caller's.
+// The macros from the text's second line on, which starts at `first`, up to the section's end.
+// The table is copied in and out: each method of a loader that holds a `&mut` would have to say that this is still the caller's.
 #[tactic(auto, using(crate::proofs::Laws::none_inside, crate::proofs::Laws::none_in_order, crate::proofs::Laws::line_in, scan::proofs::Lines::lines_none), unfolding(model::specs::Load::load_from, model::specs::Load::load_on, model::specs::Load::none_read, model::specs::Load::nodes, model::specs::Load::nodes_from, macros::specs::Table::macros_in, macros::specs::Table::templates_in))]
 pub fn load_section(marked: &Marked, first: usize, table: &mut Table) -> Result<Loaded, Refused>
     requires { SectionAt marked.now.text.now first }
     ensures { Loads (load_from marked.now.marks none_read 1 (lines (drop first marked.now.text.now))) marked.now.text.now table.new result }
 {
     let text = marked.text;
+    table.count = 0;
     let mut loader = Loader {
-        table: Table::default(),
+        table: *table,
         nodes: 1,
         codes: 0,
         next: Next::Template,
