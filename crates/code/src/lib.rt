@@ -86,7 +86,8 @@ fn read_value_test(m: Marks, rest: &[u8]) -> Option<Comparison>
     }
 }
 
-// The function b at the line's start, where F1 owns a layout.
+// The function b at the line's start, where F1 owns a layout. A call would write the marks and the answer to memory at each escape of a line.
+#[inline(always)]
 #[tactic(auto, unfolding(model::specs::Code::function, model::specs::Code::line_function, model::specs::Code::writing, model::specs::Code::copying))]
 fn read_first_function(m: Marks, b: u8, rest: &[u8]) -> Option<Ending>
     ensures { (line : List ℕ) → Says line (function m true b rest.now) result }
