@@ -47,6 +47,7 @@ pub fn scan_atom(line: &[u8], at: usize, left: u8, right: u8) -> Scanned
         };
     }
     let mut depth = 1;
+    // a range: where the atom ends is a place of the line, and not of what is left of it
     for i in at + 1..line.len() {
         depth = depth_past(left, right, line[i], depth);
         if depth == 0 {

@@ -133,7 +133,7 @@ pub struct Iteration {
 }
 
 impl Iteration {
-    // One that makes no pass more.
+    // One that makes no pass more: it fills the row past the open ones, where a None would be one more case at each use.
     pub const DONE: Iteration = Iteration {
         after: 0,
         kind: Kind::Count(0),
@@ -156,6 +156,7 @@ pub struct Call {
 impl Call {
     // A call with pieces of a line as its parameters: no pass was made yet, and no iteration is open.
     // starts and lens are two rows, as a reading has them, which the C interface answers so; of a zip with iter_mut a proof knows no element.
+    // No array::from_fn: its closure would have to ask, for each place, that the piece lies in the line.
     pub fn open(
         number: usize,
         next: usize,

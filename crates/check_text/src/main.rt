@@ -93,7 +93,7 @@ fn check<R: Env + Files>(rt: &R, output: &mut impl Write) -> Result<(), Trouble>
     check_files(rt, output, n, &mut rows)
 }
 
-// A twin of the other programs' main that stays: as one function of source it would take the program's work as a closure over the runtime.
+// A twin of the other programs' main that stays: one function of source would take the work as a closure, and ask that it may be called.
 fn main(rt: HostRuntime) {
     if let Err(trouble) = check(&rt, &mut rt.stdout()) {
         tell(&rt, &mut rt.stderr(), &CHECK_TEXT, trouble);

@@ -46,7 +46,7 @@ pub enum Token {
 
 // ---- what follows an escape; where it says nothing, the line is malformed
 
-// The channel of F1 and F2: the one that 0, 3 or 4 names, and 3 where no digit follows.
+// The channel of F1 and F2: the one that 0, 3 or 4 names, and 3 where no digit follows. Channel 0 is one of three, and no None.
 #[tactic(auto, unfolding(model::specs::Code::channel_of, model::specs::Text::is_digit))]
 fn read_channel(rest: &[u8]) -> Option<Channel>
     ensures { found result ≡ channel_of rest.now }
@@ -212,7 +212,7 @@ pub fn read_ending(m: Marks, line: &[u8]) -> Ending
     }
 }
 
-// What an ending does to the iterations around the lines after it.
+// What an ending does to the iterations around the lines after it. Malformed is one of document 01's five effects, and no None.
 #[tactic(auto, unfolding(model::specs::Code::effect_of))]
 fn effect_of(k: Ending) -> Effect
     ensures { (line : List ℕ) → result ≡ effect_of (ending_of line k) }

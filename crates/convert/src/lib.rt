@@ -61,7 +61,7 @@ fn add_word(word: Word, param: &[u8], store: &Store, line: &mut Text) -> Result<
     line.append(bring(word, param, store))
 }
 
-// A number is stored in decimal. add_number is a twin that stays: itoa lends its digits, and each is one call with them.
+// A number is stored in decimal. add_number, rendering's add_decimal and buffer's write_decimal stay twins: each is one call with itoa's digits.
 fn put_number(v: usize, name: &[u8], store: &mut Store) -> Result<(), Full>
     requires { length name.now < 256 }
     ensures { PutsText store.old name.now (decimal v) result store.new }

@@ -25,7 +25,7 @@ const EXPAND: Program = Program {
 
 // ---- what is written; the caller of each shows that it is that. Text and room go along, since each clause says of both what is written
 
-// What is printed for a text, with so many bytes of room for channel 4.
+// What is printed for a text, with so many bytes of room for channel 4. One function for the three programs is no plainer, as fit_line says.
 fn write_printed(
     output: &mut impl Write,
     text: &[u8],
@@ -98,7 +98,7 @@ fn expand<R: Env + Files>(
     expand_text(output, text, styles, uses)
 }
 
-// A twin of the other programs' main that stays: as one function of source it would take the program's work as a closure over the runtime.
+// A twin of the other programs' main that stays: one function of source would take the work as a closure, and ask that it may be called.
 fn main(rt: HostRuntime) {
     if let Err(trouble) = expand(&rt, &mut rt.stdin(), &mut rt.stdout()) {
         tell(&rt, &mut rt.stderr(), &EXPAND, trouble);

@@ -1,6 +1,7 @@
 // The first reading of a line by the templates (document 01, "Fitting a line"): a recursive search over node and position, which takes up
 // no place twice (document 02, ticket 3). A dead place, which was found to lead nowhere, is marked by its bit in a lent row.
-// first_reading asks that the nodes are a tree, that the line is short enough, and that the lent row has a bit for each place. The five searches call one another, and are proved together.
+// first_reading asks that the nodes are a tree, that the line is short enough, and that the lent row has a bit for each place. The five searches
+// call one another, and are proved together.
 #![tactic(auto)]
 
 ghost use Rattle.std.specs.Prelude.{◌≡◌, ◌+◌, ◌*◌, ◌^◌, ◌<◌, ◌≤◌, length};
@@ -31,9 +32,9 @@ pub struct Choice {
     pub bytes: usize,
 }
 
-// What a search notes: where each piece starts and its length, in two rows as a reading has them, how many places were taken up, how many bytes were read where the next atom was
-// looked for, and where something is found the length of what is left of the piece that is open where the search starts. So nothing is handed
-// back and added up at every place.
+// What a search notes: where each piece starts and its length, in two rows as a reading has them, how many places were taken up, how many bytes
+// were read where the next atom was looked for, and where something is found the length of what is left of the piece that is open where the
+// search starts. So nothing is handed back and added up at every place.
 #[derive(Drop)]
 struct Notes {
     starts: [usize; 9],
@@ -127,7 +128,7 @@ fn number_place(end: usize, node: usize, at: usize) -> usize
     node * (end + 1) + at
 }
 
-// The key of the element that leads on at a place of a line: the byte's, or the template's end.
+// The key of the element that leads on at a place of a line: the byte's, or the template's end. It is a number, as in templates.
 // `at` stays beside the line: it is half of a place, and places are numbered by it.
 #[tactic(auto, using(crate::proofs::Steps::element_byte, crate::proofs::Steps::element_end))]
 fn element_at(line: &[u8], at: usize) -> u16

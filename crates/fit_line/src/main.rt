@@ -71,7 +71,7 @@ fn fit_files<R: Env + Files>(rt: &R, output: &mut impl Write) -> Result<(), Trou
     lend_room(output, text, file)
 }
 
-// A twin of the other programs' main that stays: as one function of source it would take the program's work as a closure over the runtime.
+// A twin of the other programs' main that stays: one function of source would take the work as a closure, and ask that it may be called.
 fn main(rt: HostRuntime) {
     if let Err(trouble) = fit_files(&rt, &mut rt.stdout()) {
         tell(&rt, &mut rt.stderr(), &FIT_LINE, trouble);

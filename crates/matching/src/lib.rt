@@ -1,6 +1,6 @@
 // What a run goes by, what an offered line comes to up to a call, and the call that its reading opens (document 01, "Fitting a line" and "Events,
-// store and result"). A line is counted when its reading is decided. open_reading asks what a reading of `fit` has in a text that is loaded: its pieces
-// lie in the line, and its template has a body (`Opening`).
+// store and result"). A line is counted when its reading is decided. open_reading asks what a reading of `fit` has in a text that is loaded: its
+// pieces lie in the line, and its template has a body (`Opening`).
 #![tactic(auto)]
 
 ghost use Rattle.std.specs.Prelude.{◌+◌, ◌≤◌, ◌<◌, ◌≡◌, length, IfSome};

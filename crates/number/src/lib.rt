@@ -10,6 +10,7 @@ ghost use Rattle.number.specs.Run.{DigitRun, Numerals, saturated};
 
 use model::{Comparison, DIGITS_MOST, Integer, Marks};
 
+// A step is a value and no closure: it is read from the text before the value that it joins, and the clauses say by it what comes of it.
 // What joins the next value to the value so far.
 #[derive(Clone, Copy)]
 pub enum Step {
@@ -36,7 +37,7 @@ pub fn apply(k: Step, a: Integer, b: Integer) -> Option<Integer>
     }
 }
 
-// Whether two values compare as function 6 asks.
+// Whether two values compare as function 6 asks. A code line's ending holds the comparison, so that it is no closure.
 #[tactic(auto, using(crate::proofs::Compared::comparing))]
 pub fn compare(o: Comparison, a: Integer, b: Integer) -> bool
     ensures { result ≡ compares o a b }
@@ -68,6 +69,7 @@ fn add_digit(amount: u64, b: u8) -> u64
         .saturating_add(u64::from(b - b'0'))
 }
 
+// Run, Parsed and value's Turn are no one generic struct: the name of the first field says what stands before the rest.
 // Digits: the number that they write, up to the largest that is held, and what is left after them.
 #[derive(Clone, Copy)]
 pub struct Run<'a> {
@@ -75,6 +77,7 @@ pub struct Run<'a> {
     pub rest: &'a [u8],
 }
 
+// No parse of std: it takes a str of digits alone, so that where they end would have to be found first, and the bytes be made a str.
 // The digits that a text begins with. By index: as `while let [b, after @ ..] = rest`, sums of one digit took 3 % more instructions.
 fn read_digits(s: &[u8]) -> Run<'_>
     ensures { DigitRun s.now result }

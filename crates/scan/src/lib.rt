@@ -165,7 +165,7 @@ fn all_differ(s: &[u8]) -> bool
     true
 }
 
-// Whether two marks and marks 6 to 12 all differ.
+// Whether two marks and marks 6 to 12 all differ. They are listed, as in are_legal.
 fn pair_differs(a: u8, b: u8, m: Marks) -> bool
     ensures { AllDiffer (a ∷ b ∷ operators m) result }
 {

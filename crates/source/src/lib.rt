@@ -28,7 +28,7 @@ pub fn arg<'a>(env: &impl Env, i: usize, buf: &'a mut [u8]) -> &'a [u8]
     &buf[..n]
 }
 
-// How many arguments there are, the program's own name among them.
+// How many arguments there are, the program's own name among them. They are counted one by one, since std's args takes a heap.
 pub fn arg_count(env: &impl Env) -> usize {
     for i in 0..usize::MAX {
         if let Err(FillError::NotPresent) = env.arg(i, &mut []) {
@@ -159,6 +159,7 @@ pub struct Program {
 
 // Says what keeps a program from its work, after the program's name; a file goes before what is wrong with it. Where that cannot be written,
 // nothing can say so.
+// Bytes and no Display: a file's name need be no UTF-8, and is read from the arguments once more.
 pub fn tell(env: &impl Env, errors: &mut impl Write, program: &Program, trouble: Trouble) {
     let (file, wrong): (Option<usize>, &[u8]) = match trouble {
         Trouble::Arguments => {

@@ -32,6 +32,7 @@ fn match_both(s: &[u8], t: &[u8]) -> usize
 }
 
 // The key at place x of a template, which may be its end, or lie past it: no slice says that.
+// A key is a number and no enum: a node holds it, and C lends the row of nodes.
 #[tactic(auto, using(crate::proofs::Keys::key_hole, crate::proofs::Keys::key_byte, crate::proofs::Keys::key_end))]
 fn key_at(mark: u8, template: &[u8], x: usize) -> u16
     ensures { Key mark template.now x result }

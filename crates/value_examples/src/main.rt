@@ -22,7 +22,7 @@ const SESSION: Marks = Marks {
     right: b')',
 };
 
-// A value in decimal.
+// A value in decimal, by the function that conversion 4 writes it with.
 fn say_number(output: &mut impl Write, z: Integer) {
     let mut out = [0u8; 21];
     let n = number::write_value(SESSION, z, &mut out);
@@ -36,7 +36,7 @@ fn keep(store: &mut Store, name: &[u8], text: &[u8]) {
     }
 }
 
-// The text and its value.
+// The text and its value. No write!: a text is bytes, and need be no UTF-8.
 fn say(output: &mut impl Write, store: &Store, text: &[u8]) {
     let _ = output.write_all(text);
     let _ = output.write_all(b": ");
