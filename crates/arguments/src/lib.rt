@@ -7,6 +7,7 @@ use source::{ARGUMENT_ROOM, Argument, arg, read_argument};
 use std::env::Env;
 
 // The arguments that name a text's file, the one for channel 4 and the one for the report.
+// By their numbers, as std's Env has arguments: a name would want a room of the largest size for as long as it is kept.
 #[derive(Clone, Copy)]
 pub struct Names {
     pub file: Option<usize>,

@@ -1,5 +1,5 @@
 // Passing over code lines of a body: for a skip, and past an iteration that makes no pass.
-// Places, and no slices of what is left: calls and the state keep them, and borrow nothing.
+// Places, and no slices of what is left, here and below: calls and the state keep them, and borrow nothing; so that each lies in the text is asked.
 #![tactic(auto)]
 
 ghost use Rattle.std.specs.Prelude.{◌≤◌, length};

@@ -1,5 +1,7 @@
 // The line that a code line builds, part by part, and how the code line ends (document 01, "A call's code").
 // `symbols` relates two fields of the state: as the fact of its type each method that changes neither would prove it again.
+// A call's number is bounded as a part of Placed: as the fact of its type each method of a call that leaves it would prove it again.
+// line and s are two parameters: a struct of them would hold two `&mut`s, and each clause would name both behind its fields.
 #![tactic(auto)]
 
 ghost use Rattle.std.specs.Prelude.{◌≤◌, length};

@@ -29,6 +29,7 @@ impl Text {
     };
 
     // A text by itself.
+    // What becomes a text comes as a slice, here and below: as a type of at most 200 bytes it would be copied first.
     pub fn new(bytes: &[u8]) -> Text
         requires { length bytes.now ≤ line_most }
         ensures { Holds bytes.now result }
@@ -45,7 +46,7 @@ impl Text {
         &self.bytes[..self.len.min(LINE_MOST)]
     }
 
-    // It becomes another, which comes as a slice: as a type of at most 200 bytes it would be copied first.
+    // It becomes another.
     pub fn set(&mut self, bytes: &[u8])
         requires { length bytes.now ≤ line_most }
         ensures { Holds bytes.now self.new }
@@ -95,7 +96,7 @@ impl Param {
     }
 }
 
-// A part of the text, by its places: a call borrows nothing, and std's Range is not Copy.
+// A part of the text, by its places, as `after` and `next` below are places: a call borrows nothing, and std's Range is not Copy.
 #[derive(Clone, Copy)]
 pub struct Span {
     pub start: usize,
@@ -225,6 +226,7 @@ impl Call {
     }
 
     // An iteration begins in front of the next code line.
+    // That fewer than four are open is asked: it follows from the text for a code line that opens one, and a call by itself may have four.
     #[tactic(auto, using(crate::proofs::Calls::enters))]
     pub fn enter(&mut self, kind: Kind)
         requires { self.old.depth < nesting_most }

@@ -2,6 +2,7 @@
 // Sound is of the text, the state and both outputs, which are lent beside each other, so that it is no struct's.
 // The outputs are no struct of two `&mut`: every function that is lent it would have to say that each is still the caller's reference (tried).
 // Placed and Open say that the call lies in the text: that is no fact of its type, since a call borrows no text.
+// marked and call are two parameters: a struct of them would hold a `&mut`, and each clause would name the call behind its field.
 #![tactic(auto)]
 
 ghost use Rattle.std.specs.Prelude.{◌≤◌, length};

@@ -101,7 +101,8 @@ fn decode(a: u8, rest: &[u8]) -> Result<Character, Malformed>
     }
 }
 
-// The character of s from `at` on, or none where nothing is left. `at` stays beside s: the characters that follow are read from places of s.
+// The character of s from `at` on, or none where nothing is left.
+// `at` stays beside s: a pass keeps it as its place in the line, and of the length is promised that it ends in s, from there on.
 #[tactic(auto, using(crate::proofs::Decoding::reads_nothing))]
 pub fn read_character(s: &[u8], at: usize) -> Result<Option<Character>, Malformed>
     ensures { ReadsCharacter s.now at result }

@@ -21,8 +21,8 @@ const CHECK_TEXT: Program = Program {
     usage: b"check_text: give the names of the files to check\n",
 };
 
-// Adds the row of a file with this name and text, if there is room for it. The rows and the offset stay two parameters, as in rendering's
-// add_bytes.
+// Adds the row of a file with this name and text, if there is room for it.
+// The rows and the offset stay two parameters, here and below, as in rendering's add_bytes, and for its reason.
 fn add_row(rows: &mut [u8], at: usize, name: &[u8], text: &[u8]) -> Option<usize>
     requires { at ≤ length rows.old }
     ensures { IfSome result (λ w. AddsFile rows.old at w rows.new) }

@@ -1,4 +1,7 @@
 // What a code line says, read token by token: bytes and conversions that build a line, then what is done at its end.
+// A place stays beside a code line, here and below: it tells the line's start, and an iteration keeps one as that of its delimiters.
+// Marks and line come one by one: build, body and load have them so, and would make a struct of both for one call.
+// A parameter's number is a usize of 1 to 9, as in call: a type of its own would be made of the digit first.
 #![tactic(auto)]
 
 ghost use Rattle.std.specs.Prelude.{◌≡◌, ◌≢◌, Bool, true, false, List, ℕ, ◌≤◌, ◌<◌, length, get_or, drop};
@@ -183,7 +186,6 @@ fn read_escaped(m: Marks, line: &[u8], at: usize) -> Token
 
 // What stands at `at` of a code line. It is compiled where it is called: most tokens are one byte, and a call for each costs more than the
 // byte that it reads.
-// The place stays beside the line, since it tells the line's start, and an iteration keeps it as that of its delimiters.
 #[inline(always)]
 #[tactic(auto, using(crate::proofs::Lines::token_end, crate::proofs::Lines::token_byte))]
 pub fn read_token(m: Marks, line: &[u8], at: usize) -> Token

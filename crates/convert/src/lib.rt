@@ -2,6 +2,7 @@
 // lent slice.
 // That a name has below 256 bytes stands where it is asked: a name is a slice of the caller's, of no type of its own.
 // `symbols` relates two fields of the state: as the fact of its type each method that changes neither would prove it again.
+// line and s are two parameters, as in build: a struct of them would hold two `&mut`s, and each clause would name both behind its fields.
 #![tactic(auto)]
 
 ghost use Rattle.std.specs.Prelude.{◌≡◌, [], ◌∷◌, ◌≤◌, ◌<◌, length};

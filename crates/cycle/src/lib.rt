@@ -4,6 +4,7 @@
 // Sound stays a clause of each function: it relates the text, the state and both outputs, which are lent beside each other.
 // Counts stays one too: it changes only where a line is offered, and as a part of the state every code line would have to say that it stays.
 // The lent rows are no struct of `&mut`s: every function that is lent it would have to say that each is still the caller's reference (tried).
+// Open stays one as in carry, since a call borrows no text, and the least length of `dead`, here and in input, since C lends a slice of any length.
 // The three functions ask for the same, since they call each other.
 #![tactic(auto)]
 

@@ -68,6 +68,7 @@ fn write_report<F: Write + Drop>(
 
 // Nothing is printed before the files are written. Where there is no file for channel 4 it has no room, so that nothing which is written
 // there is lost in silence.
+// The rooms are arrays, as all buffers of the programs (source); what is shown of each is a count, as print_run answers it, for its reason.
 fn expand_text<F: Write + Drop>(
     output: &mut impl Write,
     text: &[u8],

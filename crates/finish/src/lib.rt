@@ -1,6 +1,8 @@
 // Ways to end a code line that are more than one step (document 01, "A call's code"): a layout, a text that is stored, and a count of passes.
 // Asked is that the call lies in the text: it is no fact of the type, since a call borrows no text.
 // Asked of the state is, as of write's, that what is written lies in the outputs, which are lent beside it.
+// That fewer than four iterations are open is asked where one begins: it follows from the text, and a call by itself may have four.
+// marked and call are two parameters: a struct of them would hold a `&mut`, and each clause would name the call behind its field.
 #![tactic(auto)]
 
 ghost use Rattle.std.specs.Prelude.{◌≡◌, ◌≤◌, ◌<◌, length};

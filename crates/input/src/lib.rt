@@ -18,6 +18,7 @@ use state::State;
 
 // Drops n input lines, or all that are left: they are read and not measured.
 // n counts lines, and is no place of the text: a slice would not say it.
+// It asks for two parts of Sound, which cycle's offer asks for: they relate the state and the text, and are no fact of a type.
 #[tactic(auto, using(crate::proofs::Lines::dropping_more, crate::proofs::Lines::input_ends))]
 fn drop_lines(text: &[u8], n: usize, s: &mut State)
     requires { (s.old.at ≤ length text.now) × (s.old.line + length text.now ≤ fuel_most + s.old.at) }
@@ -32,7 +33,7 @@ fn drop_lines(text: &[u8], n: usize, s: &mut State)
 }
 
 // Expands the input that is left, from the names that are stored on.
-// It asks what cycle's offer asks, for its reasons: these facts relate the state, both outputs and the counts, which are lent.
+// It asks what cycle's offer asks, for its reasons: these facts relate the state, both outputs and the counts, which are lent, one by one as there.
 pub fn expand_input(
     script: &Script,
     dead: &mut [u8],

@@ -1,6 +1,8 @@
 // The iterations of a call: begun, gone on with and ended (document 01, "A call's code"). Asked is that what the call says lies in the text
 // (`Placed`; start_repeat asks it of the next code line alone), and where an iteration is begun, that fewer than four are open; start_pass
 // asks too that its parameter's number is 1 to 9, that its line has at most 200 bytes and that its list of delimiters lies in the text.
+// That fewer than four iterations are open is asked where one begins: it follows from the text, and a call by itself may have four.
+// What becomes a text is a slice of at most 200 bytes, and a parameter's number a usize of 1 to 9, as in call, for its reasons.
 // That a call lies in the text is asked, and is no fact of the type, since a call borrows no text.
 // marked and call are two parameters, as are an iteration and params: a struct of two would hold `&mut`s, which each clause would name behind fields.
 #![tactic(auto)]

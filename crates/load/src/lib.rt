@@ -19,6 +19,7 @@ use model::Marks;
 use scan::Marked;
 use section::load_section;
 
+// Lines, templates, bodies and the input go by places of the text, here and below: the table and the state keep them, and borrow nothing.
 // What a text that loads comes to.
 #[derive(Clone, Copy)]
 pub struct Loaded {
@@ -58,7 +59,7 @@ struct SectionLine<'a> {
     next: usize,
 }
 
-// How far the macros are read.
+// How far the macros are read. Marks and text are no fields of it: each method changes it, and its clause would have to say that they stay.
 #[derive(Clone, Copy)]
 struct Loader {
     // the macros so far, and the nodes of their tree

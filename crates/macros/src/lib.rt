@@ -20,6 +20,7 @@ pub struct Entry {
 }
 
 // So many macros: what is kept of each in the order of the text, and their numbers in the order of their templates' keys.
+// Arrays with a count beside them, since the library has no heap; an order of numbers, since readings and the report go by that of the text.
 #[derive(Clone, Copy, Default)]
 pub struct Table {
     pub entries: [Entry; MACROS_MOST],

@@ -12,6 +12,7 @@ use templates::Ordered;
 use tree::build;
 
 // A text that is loaded, with the table of its macros.
+// Text and nodes stay beside it, here and in stage2 and run: both are the caller's, whose clauses speak of the row after the call too.
 #[derive(Clone, Copy)]
 pub struct Prepared {
     pub loaded: Loaded,

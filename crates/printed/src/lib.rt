@@ -66,6 +66,7 @@ fn add_end(out: &mut [u8], at: usize, r: Ran) -> usize
 
 // Runs a text as expand does: the output goes to the front of out, where the row that ends it has room behind it, and all of `second` is
 // channel 4's room.
+// Three rooms and no struct of them, as in print_run; that of the store is an array, as all buffers of the programs (source).
 fn run_text(text: &[u8], out: &mut [u8], second: &mut [u8], report: &mut [u8]) -> Ran
     requires { (65603 ≤ length out.old) × (length report.old ≡ 2048) }
     ensures { Leaves (expand_runs (length second.old) text.now) out.old second.old report.old result

@@ -30,7 +30,7 @@ fn skip_lines(marked: &Marked, call: &mut Call, v: Integer) -> Result<Turn, RunF
     land_skip(marked, call, n)
 }
 
-// The value of parameter d, or 15. d is a number from 1 to 9, as in call.
+// The value of parameter d, or 15. d is a number from 1 to 9, here and below, as in call.
 fn param_value(m: Marks, call: &Call, d: usize, store: &Store) -> Result<Integer, RunFault>
     requires { Parameter d }
     ensures { ParamValue m call.now d store.now result }

@@ -36,7 +36,7 @@ fn widen_nine(a: [usize; 9]) -> [u64; 9]
     a.map(|n| n as u64)
 }
 
-// Whether a row of so many nodes is below the least legal length.
+// Whether a row of so many nodes is below the least legal length. Lengths and no rows, here and below: document 01's tests speak of these alone.
 #[tactic(auto, unfolding(model::specs::Results::short_row))]
 fn is_short(rows: usize) -> bool
     ensures { result ≡ short_row rows }

@@ -151,6 +151,7 @@ fn seek<'a>(memory: &'a [u8], index: Index, name: &[u8]) -> Option<&'a [u8]>
 }
 
 // The text of the name whose entry begins at offset at is replaced. An Entry in its place would lend the memory that is changed.
+// name and text are slices of the caller's, here and below: as a type of at most 255 bytes each would be copied before it is stored.
 #[tactic(auto, using(crate::proofs::Placed::entry_used, crate::proofs::Placed::used_within))]
 fn replace(
     memory: &mut [u8],
@@ -181,7 +182,6 @@ fn replace(
 }
 
 // A new name and its text come last.
-// Both are slices of the caller's, here and below: as a type of at most 255 bytes each would be copied before it is stored.
 fn append_entry(memory: &mut [u8], index: Index, name: &[u8], text: &[u8]) -> Result<Index, Full>
     requires kept { Kept memory.old index × Locates memory.old index name.now None }
     requires name_len_bound { (length name.now < 256) × (length text.now < 256) }

@@ -52,6 +52,7 @@ impl Store {
     }
 
     // The text is stored under the name, in place of the one before. Where there is no room, nothing changes.
+    // That both have below 256 bytes is asked: they are slices of the caller's, of no type of their own.
     pub fn put(&mut self, name: &[u8], text: &[u8]) -> Result<(), Full>
         requires { (length name.now < 256) × (length text.now < 256) }
         ensures { PutsText self.old name.now text.now result self.new }
@@ -62,6 +63,7 @@ impl Store {
 
     // The listing, to the front of room: the names with a byte 0 between two, a byte 10, and each text with a byte 10 after it. The answer is
     // its length.
+    // A length and no slice, since the clause speaks of all of the room, also of what is behind the listing.
     pub fn list(&self, room: &mut [u8]) -> usize
         requires { store_least ≤ length room.old }
         ensures { ListsNames self.now room.old result room.new }

@@ -61,6 +61,7 @@ pub struct Found {
 
 // Templates that stand next to each other in the order and have one key at a place: their key, the first of them in the text, and their
 // places in the order.
+// Places of the order are numbers, here and below, and no slices of it: a node has such a run as two numbers until it is given its children.
 #[derive(Clone, Copy)]
 pub struct Pick {
     pub key: u16,

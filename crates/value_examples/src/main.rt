@@ -23,6 +23,7 @@ const SESSION: Marks = Marks {
 };
 
 // A value in decimal, by the function that conversion 4 writes it with.
+// Its bytes stand at the front of an array, with their count, as number writes them for the library, which has no heap.
 fn say_number(output: &mut impl Write, z: Integer) {
     let mut out = [0u8; 21];
     let n = number::write_value(SESSION, z, &mut out);
