@@ -16,40 +16,27 @@ use Rattle.model.specs.Value.{Read, giving, is_mark, name_of, of_stored, stored_
 use Rattle.store.specs.Seek.{Found}
 use Rattle.store.specs.Names.{GetsText}
 use Rattle.std.specs.Prelude.{Some, None, position}
-use Rattle.std.specs.List.{position_or_len}
+use Rattle.std.specs.List.{list_any, position_or_len}
 use Rattle.std.specs.Option.{unwrap_or}
 use Rattle.number.specs.Number.{Gives, Valued}
 use Rattle.number.proofs.Signed.{read_back, told_in, gives_value}
 use Rattle.value.specs.Reads.{name_at}
 
--- ---- the marks, by the tests that the code makes
+-- ---- the marks, by std's test of a row
 
-has_first : (b x : ℕ) (s : List ℕ) → has b (x ∷ s) ≡ eqb x b || has b s
+any_has : (b : ℕ) (s : List ℕ) → list_any (λ x. eqb x b) s ≡ has b s
 unfolding has
-has_first b x s = go (eqb x b)
+any_has b [] = refl
+any_has b (x ∷ s) = by (eqb x b) (any_has b s)
   where
-    go : (t : Bool) → elim t [ true ↦ true | false ↦ has b s ] ≡ t || has b s
-    go true = refl
-    go false = refl
-
--- a row of tests, each after those before it
-abbrev ors : Bool → ℕ → List ℕ → Bool
-ors t b [] = t
-ors t b (x ∷ s) = ors (t || eqb x b) b s
-
-ors-has : (t : Bool) (b : ℕ) (s : List ℕ) → ors t b s ≡ t || has b s
-unfolding has
-ors-has true b [] = refl
-ors-has false b [] = refl
-ors-has true b (x ∷ s) = ors-has true b s
-ors-has false b (x ∷ s) = ors-has (eqb x b) b s ∙ sym (has_first b x s)
+    by : (t : Bool) {y z : Bool} → y ≡ z → t || y ≡ elim t [ true ↦ true | false ↦ z ]
+    by true e = refl
+    by false e = e
 
 pub marks : (m : Marks) (b : ℕ)
-    → eqb m.blank b || eqb m.left b || eqb m.plus b || eqb m.minus b || eqb m.times b || eqb m.divide b || eqb m.right b ≡ is_mark m b
+    → list_any (λ x. eqb x b) (m.blank ∷ m.left ∷ m.plus ∷ m.minus ∷ m.times ∷ m.divide ∷ m.right ∷ []) ≡ is_mark m b
 unfolding is_mark
-marks m b =
-    let rest : List ℕ = m.left ∷ m.plus ∷ m.minus ∷ m.times ∷ m.divide ∷ m.right ∷ [] in
-    ors-has (eqb m.blank b) b rest ∙ sym (has_first b m.blank rest)
+marks m b = any_has b (m.blank ∷ m.left ∷ m.plus ∷ m.minus ∷ m.times ∷ m.divide ∷ m.right ∷ [])
 
 -- ---- the length of a name
 
