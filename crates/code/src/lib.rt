@@ -164,8 +164,7 @@ fn read_form(a: u8, b: u8, at: usize) -> Option<Token>
     }
 }
 
-// What an escape at `at` of a code line begins. What the arms hold is cleared where a function starts: in read_token that would be at each
-// byte of a line, and here it is at an escape.
+// What an escape at `at` of a code line begins. With these arms in read_token each byte of a line would make its slice, a plain one too.
 #[inline(always)]
 #[tactic(auto, using(crate::proofs::Lines::token_short))]
 fn read_escaped(m: Marks, line: &[u8], at: usize) -> Token
