@@ -17,7 +17,7 @@ use Rattle.model.specs.declared.Marks.{Marks}
 use Rattle.model.specs.Value.{number, only_digits, is_stored_number, stored_number, checked}
 use Rattle.model.proofs.Choices.{and_left, and_right, false-not-true}
 use Rattle.number.specs.Number.{width, end, Gives, Valued}
-use Rattle.number.specs.Run.{DigitRun, DigitsRead, Numerals, saturated, Parsing}
+use Rattle.number.specs.Run.{DigitRun, DigitsRead, Numerals, saturated}
 use Rattle.number.specs.declared.Run.{Run}
 use Rattle.std.specs.Result.{result_ok}
 use Rattle.std.specs.Bool.{then_some}
@@ -140,11 +140,8 @@ module _ {s : List ℕ} {run : Run} (d : DigitRun s run) {E : Type 0} (t : Resul
   value_is : Gives o (checked (pos (number 0 s).0))
   value_is = rw (made) (rw (d.amount, saturated_plain (number 0 s).0) at (gives_amount {E = E} run.amount t h))
 
-  pub no_numeral : o ≡ None → {r : Parsing} → r ≡ None → Numerals s r
-  no_numeral e q = rw q (record { gives = rw e at value_is; rest = tt })
-
-  pub numeral_read : {z : ℤ} → o ≡ Some z → Numerals s (Some (record { value = read_back z; rest = run.rest }))
-  numeral_read {z} e = let g = rw e at value_is in record { gives = rw (told_in z g.fits) g; rest = d.rest }
+  pub numeral_read : Numerals s (record { value = o; rest = run.rest })
+  numeral_read = record { gives = value_is; rest = d.rest }
 
 -- ---- the amount of a stored text
 

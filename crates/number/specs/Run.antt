@@ -1,9 +1,9 @@
 -- Digits at the front of a text.
-use Rattle.std.specs.Prelude.{◌≡◌, List, ℕ, ◌-◌, ◌^◌, ◌≤◌, min, pos, Option as Answered, Some, None, IfSome}
+use Rattle.std.specs.Prelude.{◌≡◌, List, ℕ, ◌-◌, ◌^◌, ◌≤◌, min, pos}
 use Rattle.model.specs.Value.{number, checked}
-use Rattle.number.specs.Number.{Valued, Gives}
+use Rattle.number.specs.Number.{Gives}
 use Rattle.number.specs.declared.Run.{Run}
-use Rattle.number.specs.declared.Parsed.{Parsed}
+use Rattle.number.specs.declared.Numeral.{Numeral}
 
 -- a number as far as 64 bits hold it: above `end` no sign brings it into range
 abbrev pub saturated : ℕ → ℕ
@@ -20,16 +20,7 @@ pub record DigitsRead (s : List ℕ) (amount : ℕ) (left : List ℕ) : Type 0 w
   pub rest : (number amount left).1 ≡ (number 0 s).1
   pub small : amount ≤ 2 ^ 64 - 1
 
--- a value and what is left after it, or none
-abbrev pub Parsing : Type 0
-Parsing = Answered Parsed
-
--- the value alone
-abbrev pub value_in : Parsing → Valued
-value_in (Some p) = Some p.value
-value_in None = None
-
 -- r is the number that the digits write with which s begins, and what is left after them
-pub record Numerals (s : List ℕ) (r : Parsing) : Type 0 where
-  pub gives : Gives (value_in r) (checked (pos (number 0 s).0))
-  pub rest : IfSome r (λ p. (number 0 s).1 ≡ p.rest.now)
+pub record Numerals (s : List ℕ) (r : Numeral) : Type 0 where
+  pub gives : Gives r.value (checked (pos (number 0 s).0))
+  pub rest : (number 0 s).1 ≡ r.rest.now

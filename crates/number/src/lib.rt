@@ -69,7 +69,7 @@ fn add_digit(amount: u64, b: u8) -> u64
         .saturating_add(u64::from(b - b'0'))
 }
 
-// Run, Parsed and value's Turn are no one generic struct: the name of the first field says what stands before the rest.
+// Run, Numeral and value's Parsed and Turn are no one generic struct: the name of the first field says what stands before the rest.
 // Digits: the number that they write, up to the largest that is held, and what is left after them.
 #[derive(Clone, Copy)]
 pub struct Run<'a> {
@@ -96,22 +96,22 @@ fn read_digits(s: &[u8]) -> Run<'_>
     Run { amount, rest: &[] }
 }
 
-// A value and what is left after it.
+// The number that digits write, if it is a value, and what is left after them.
 #[derive(Clone, Copy)]
-pub struct Parsed<'a> {
-    pub value: Integer,
+pub struct Numeral<'a> {
+    pub value: Option<Integer>,
     pub rest: &'a [u8],
 }
 
-// The number that the digits write with which a text begins, if it is a value.
-pub fn read_number(s: &[u8]) -> Option<Parsed<'_>>
+// The number that the digits write with which a text begins.
+pub fn read_number(s: &[u8]) -> Numeral<'_>
     ensures { Numerals s.now result }
 {
     let run = read_digits(s);
-    Some(Parsed {
-        value: Integer::try_from(run.amount).ok()?,
+    Numeral {
+        value: Integer::try_from(run.amount).ok(),
         rest: run.rest,
-    })
+    }
 }
 
 // The amount of 1 to DIGITS_MOST digits.

@@ -18,7 +18,7 @@ use Rattle.number.specs.Number.{end}
 use Rattle.number.specs.declared.Step.{Step}
 use Rattle.number.specs.declared.Step.TheVariants.{First, Negated}
 use Rattle.number.proofs.Signed.{read_back, told_in}
-use Rattle.value.specs.Turns.{Going, start_of, next_of}
+use Rattle.value.specs.Turns.{NextTurn, start_of, next_of}
 
 -- the bytes after the first
 abbrev pub behind : List ℕ → List ℕ
@@ -40,27 +40,27 @@ module _ (m : Marks) where
   by_start (x ∷ l) h = refl
 
   module _ (l : List ℕ) where
-    pub starts-empty : length l < 1 → ◌≡◌ {A = Going} None (start_of m l)
+    pub starts-empty : length l < 1 → ◌≡◌ {A = NextTurn} None (start_of m l)
     unfolding start_of
     starts-empty h = go l h
       where
-        go : (k : List ℕ) → length k < 1 → ◌≡◌ {A = Going} None (start_of m k)
+        go : (k : List ℕ) → length k < 1 → ◌≡◌ {A = NextTurn} None (start_of m k)
         go [] h = refl
         go (x ∷ k) h = absurd (omega arith)
 
     module _ (h : 1 ≤ length l) where
-      pub starts_right : get_or l 0 0 ≡ m.right → ◌≡◌ {A = Going} None (start_of m l)
+      pub starts_right : get_or l 0 0 ≡ m.right → ◌≡◌ {A = NextTurn} None (start_of m l)
       starts_right e = rw (by_start l h, eq-eqb (get_or l 0 0) m.right e)
 
       module _ (a : get_or l 0 0 ≡ m.right → ⊥) where
-        pub starts_minus : get_or l 0 0 ≡ m.minus → ◌≡◌ {A = Going} (Some (Negated, behind l)) (start_of m l)
+        pub starts_minus : get_or l 0 0 ≡ m.minus → ◌≡◌ {A = NextTurn} (Some (Negated, behind l)) (start_of m l)
         starts_minus e = rw (by_start l h, behind_is l, ne_eqb (get_or l 0 0) m.right a, eq-eqb (get_or l 0 0) m.minus e)
 
         module _ (b : get_or l 0 0 ≡ m.minus → ⊥) where
-          pub starts_plus : get_or l 0 0 ≡ m.plus → ◌≡◌ {A = Going} (Some (First, behind l)) (start_of m l)
+          pub starts_plus : get_or l 0 0 ≡ m.plus → ◌≡◌ {A = NextTurn} (Some (First, behind l)) (start_of m l)
           starts_plus e = rw (by_start l h, behind_is l, ne_eqb (get_or l 0 0) m.right a, ne_eqb (get_or l 0 0) m.minus b, eq-eqb (get_or l 0 0) m.plus e)
 
-          pub starts_plain : (get_or l 0 0 ≡ m.plus → ⊥) → ◌≡◌ {A = Going} (Some (First, l)) (start_of m l)
+          pub starts_plain : (get_or l 0 0 ≡ m.plus → ⊥) → ◌≡◌ {A = NextTurn} (Some (First, l)) (start_of m l)
           starts_plain c = rw (by_start l h, ne_eqb (get_or l 0 0) m.right a, ne_eqb (get_or l 0 0) m.minus b, ne_eqb (get_or l 0 0) m.plus c)
 
 -- ---- how a sum or a product goes on
@@ -72,22 +72,22 @@ module _ (b : ℕ) (k : Step) (b' : ℕ) (k' : Step) where
   by_next (x ∷ l) h = refl
 
   module _ (l : List ℕ) where
-    pub nexts-empty : length l < 1 → ◌≡◌ {A = Going} None (next_of l b k b' k')
+    pub nexts-empty : length l < 1 → ◌≡◌ {A = NextTurn} None (next_of l b k b' k')
     unfolding next_of
     nexts-empty h = go l h
       where
-        go : (t : List ℕ) → length t < 1 → ◌≡◌ {A = Going} None (next_of t b k b' k')
+        go : (t : List ℕ) → length t < 1 → ◌≡◌ {A = NextTurn} None (next_of t b k b' k')
         go [] h = refl
         go (x ∷ t) h = absurd (omega arith)
 
     module _ (h : 1 ≤ length l) where
-      pub nexts_first : get_or l 0 0 ≡ b → ◌≡◌ {A = Going} (Some (k, behind l)) (next_of l b k b' k')
+      pub nexts_first : get_or l 0 0 ≡ b → ◌≡◌ {A = NextTurn} (Some (k, behind l)) (next_of l b k b' k')
       nexts_first e = rw (by_next l h, behind_is l, eq-eqb (get_or l 0 0) b e)
 
-      pub nexts_second : (get_or l 0 0 ≡ b → ⊥) → get_or l 0 0 ≡ b' → ◌≡◌ {A = Going} (Some (k', behind l)) (next_of l b k b' k')
+      pub nexts_second : (get_or l 0 0 ≡ b → ⊥) → get_or l 0 0 ≡ b' → ◌≡◌ {A = NextTurn} (Some (k', behind l)) (next_of l b k b' k')
       nexts_second n e = rw (by_next l h, behind_is l, ne_eqb (get_or l 0 0) b n, eq-eqb (get_or l 0 0) b' e)
 
-      pub nexts-none : (get_or l 0 0 ≡ b → ⊥) → (get_or l 0 0 ≡ b' → ⊥) → ◌≡◌ {A = Going} None (next_of l b k b' k')
+      pub nexts-none : (get_or l 0 0 ≡ b → ⊥) → (get_or l 0 0 ≡ b' → ⊥) → ◌≡◌ {A = NextTurn} None (next_of l b k b' k')
       nexts-none n n' = rw (by_next l h, ne_eqb (get_or l 0 0) b n, ne_eqb (get_or l 0 0) b' n')
 
 -- ---- the right bracket

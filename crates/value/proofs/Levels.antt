@@ -18,13 +18,12 @@ use Rattle.model.specs.Value.{value_fault, Read, and_then, giving, expression, s
 use Rattle.std.specs.Prelude.{Some, None}
 use Rattle.std.specs.Bool.{then_some}
 use Rattle.number.specs.Number.{end, step_value, Gives, Valued}
-use Rattle.number.specs.Run.{Parsing}
-use Rattle.number.specs.declared.Parsed.{Parsed}
+use Rattle.value.specs.declared.Parsed.{Parsed}
 use Rattle.number.specs.declared.Step.{Step}
 use Rattle.number.specs.declared.Step.TheVariants.{First, Negated, Plus, Minus, Times, Divide}
 use Rattle.number.proofs.Signed.{read_back, told_in, gives_value}
-use Rattle.value.specs.Turns.{Going, start_of, next_of, next_sum, next_factor}
-use Rattle.value.specs.Reads.{read_of, LeavesBelow, ReadsAbove, Values}
+use Rattle.value.specs.Turns.{NextTurn, start_of, next_of, next_sum, next_factor}
+use Rattle.value.specs.Reads.{Parsing, read_of, LeavesBelow, ReadsAbove, Values}
 use Rattle.value.proofs.Operands.{reads_above, from_suc}
 
 wider : (r : Parsing) (n n' : ℕ) → n ≤ n' → LeavesBelow n r → LeavesBelow n' r
@@ -35,37 +34,37 @@ pub left_by : {r : Parsing} {μ n : ℕ} {F : ℕ → Read} {p : Parsed} → r �
 left_by q c = rw q at c.leaves
 
 -- what is left where the next value begins, behind a value that leaves l
-abbrev pub left_of : List ℕ → Going → List ℕ
+abbrev pub left_of : List ℕ → NextTurn → List ℕ
 left_of l (Some t) = t.1
 left_of l None = l
 
 -- what comes of it leaves fewer bytes than these
-abbrev most_of : List ℕ → Going → ℕ
+abbrev most_of : List ℕ → NextTurn → ℕ
 most_of l (Some t) = length t.1
 most_of l None = length l + 1
 
 -- a turn goes forward
-abbrev pub Shorter : List ℕ → Going → Type 0
+abbrev pub Shorter : List ℕ → NextTurn → Type 0
 Shorter l (Some t) = length t.1 < length l
 Shorter l None = Unit {0}
 
-abbrev NoLonger : List ℕ → Going → Type 0
+abbrev NoLonger : List ℕ → NextTurn → Type 0
 NoLonger l (Some t) = length t.1 ≤ length l
 NoLonger l None = Unit {0}
 
-shorter-left : (l : List ℕ) (j : Going) → Shorter l j → length (left_of l j) ≤ length l
+shorter-left : (l : List ℕ) (j : NextTurn) → Shorter l j → length (left_of l j) ≤ length l
 shorter-left l (Some t) h = omega (arith, h)
 shorter-left l None h = le_refl _
 
-shorter-most : (l : List ℕ) (j : Going) → Shorter l j → most_of l j ≤ length l + 1
+shorter-most : (l : List ℕ) (j : NextTurn) → Shorter l j → most_of l j ≤ length l + 1
 shorter-most l (Some t) h = omega (arith, h)
 shorter-most l None h = le_refl _
 
-left-no_longer : (l : List ℕ) (j : Going) → NoLonger l j → length (left_of l j) ≤ length l
+left-no_longer : (l : List ℕ) (j : NextTurn) → NoLonger l j → length (left_of l j) ≤ length l
 left-no_longer l (Some t) h = h
 left-no_longer l None h = le_refl _
 
-most-no_longer : (l : List ℕ) (j : Going) → NoLonger l j → most_of l j ≤ length l + 1
+most-no_longer : (l : List ℕ) (j : NextTurn) → NoLonger l j → most_of l j ≤ length l + 1
 most-no_longer l (Some t) h = omega (arith, h)
 most-no_longer l None h = le_refl _
 
@@ -76,7 +75,7 @@ abbrev step_of : (ℕ → List ℕ → Read) → (ℕ → ℤ → List ℕ → R
 step_of g h n a k l = and_then (g n l) (λ w r. and_then (giving (step_value k a w) r) (λ u t. h n u t))
 
 -- what a turn makes of the value a, which leaves l
-abbrev joined : (ℕ → List ℕ → Read) → (ℕ → ℤ → List ℕ → Read) → ℕ → ℤ → List ℕ → Going → Read
+abbrev joined : (ℕ → List ℕ → Read) → (ℕ → ℤ → List ℕ → Read) → ℕ → ℤ → List ℕ → NextTurn → Read
 joined g h zero a l j = none
 joined g h (suc n) a l None = some (a, l)
 joined g h (suc n) a l (Some t) = step_of g h n a t.0 t.1
@@ -87,20 +86,20 @@ pub record Level : Type 0 where
   pub d' : ℕ
   pub g : ℕ → List ℕ → Read
   pub h : ℕ → ℤ → List ℕ → Read
-  pub more : List ℕ → Going
+  pub more : List ℕ → NextTurn
   pub down : d' < d
   pub on : (n : ℕ) (a : ℤ) (l : List ℕ) → h n a l ≡ joined g h n a l (more l)
   pub shorter : (l : List ℕ) → Shorter l (more l)
 
 -- r comes of the value in p and the turn j
-abbrev pub From : Level → Parsing → Parsed → Going → Type 0
+abbrev pub From : Level → Parsing → Parsed → NextTurn → Type 0
 From L r p j = ReadsAbove (3 * length (left_of p.rest.now j) + L.d) (most_of p.rest.now j) r (λ n. joined L.g L.h n p.value p.rest.now j)
 
 -- r comes of the level below, where l is left
 abbrev pub Below : Level → Parsing → List ℕ → Type 0
 Below L r l = ReadsAbove (3 * length l + L.d') (length l) r (λ n. L.g n l)
 
-module _ (L : Level) (p : Parsed) {j : Going} where
+module _ (L : Level) (p : Parsed) {j : NextTurn} where
   open L use {d, d', g, h, more, down, on, shorter}
 
   done : j ≡ None → From L (Some p) p j
@@ -132,12 +131,12 @@ module _ (L : Level) (p : Parsed) {j : Going} where
 
 -- The invariant of both loops: what comes of the turn j with the value in p comes of F, the whole, at whose start s was left. L is
 -- the level, a sum's or a product's; every bound above μ is enough for F, and the whole leaves fewer than n bytes.
-pub record Reading (L : Level) (μ n : ℕ) (F : ℕ → Read) (s : List ℕ) (p : Parsed) (j : Going) : Type 0 where
+pub record Going (L : Level) (μ n : ℕ) (F : ℕ → Read) (s : List ℕ) (p : Parsed) (j : NextTurn) : Type 0 where
   pub within : length (left_of p.rest.now j) ≤ length s
   pub fits : mag p.value < end
   pub gives : (r : Parsing) → From L r p j → ReadsAbove μ n r F
 
-module _ {L : Level} {μ n : ℕ} {F : ℕ → Read} {s : List ℕ} {p : Parsed} {j : Going} (reading : Reading L μ n F s p j) where
+module _ {L : Level} {μ n : ℕ} {F : ℕ → Read} {s : List ℕ} {p : Parsed} {j : NextTurn} (reading : Going L μ n F s p j) where
   pub reading_done : j ≡ None → ReadsAbove μ n (Some p) F
   reading_done q = reading.gives _ (done L p q)
 
@@ -156,7 +155,7 @@ module _ {L : Level} {μ n : ℕ} {F : ℕ → Read} {s : List ℕ} {p : Parsed}
         pub reading_faults : x ≡ None → ReadsAbove μ n None F
         reading_faults e = reading.gives _ (faults L p q b w plainly e)
 
-        pub reading_on : {z : ℤ} → x ≡ Some z → mag z < end → {j' : Going} → j' ≡ L.more v.rest.now → Reading L μ n F s (record { value = read_back z; rest = v.rest }) j'
+        pub reading_on : {z : ℤ} → x ≡ Some z → mag z < end → {j' : NextTurn} → j' ≡ L.more v.rest.now → Going L μ n F s (record { value = read_back z; rest = v.rest }) j'
         reading_on {z} e in-z {j'} i = rw (i, told_in z in-z) (record {
           within = omega (arith, reading_within, left_by w b, shorter-left v.rest.now (L.more v.rest.now) (L.shorter v.rest.now));
           fits = in-z;
@@ -164,7 +163,7 @@ module _ {L : Level} {μ n : ℕ} {F : ℕ → Read} {s : List ℕ} {p : Parsed}
         })
 
 -- each turn leaves fewer bytes
-pub smaller : (L : Level) (p : Parsed) {j : Going} {k : Step} {l : List ℕ} → j ≡ Some (k, l) → {r : Parsing} → Below L r l → {v : Parsed} → r ≡ Some v → {j' : Going} → j' ≡ L.more v.rest.now → length (left_of v.rest.now j') < length (left_of p.rest.now j)
+pub smaller : (L : Level) (p : Parsed) {j : NextTurn} {k : Step} {l : List ℕ} → j ≡ Some (k, l) → {r : Parsing} → Below L r l → {v : Parsed} → r ≡ Some v → {j' : NextTurn} → j' ≡ L.more v.rest.now → length (left_of v.rest.now j') < length (left_of p.rest.now j)
 smaller L p q b {v} w i = rw (q, i) (omega (arith, left_by w b, shorter-left v.rest.now (L.more v.rest.now) (L.shorter v.rest.now)))
 
 -- ---- the definitions, by the tests that the code makes
@@ -239,7 +238,7 @@ module _ (m : Marks) (st : Store) where
       (by_test F (eqb x m.minus) _ _ (Some (Negated, l)) _ refl
       (by_test F (eqb x m.plus) _ _ (Some (First, l)) (Some (First, x ∷ l)) refl refl))
     where
-      F : Going → Read
+      F : NextTurn → Read
       F = joined products sums (suc n) (pos 0) (x ∷ l)
 
   product_starts : (n : ℕ) (l : List ℕ) → product n m st l ≡ joined operands powers n (pos 0) l (Some (First, l))
@@ -252,13 +251,13 @@ module _ (m : Marks) (st : Store) where
     Whole r = ReadsAbove (3 * length l + 3) (length l + 1) r (λ n. expression n m st l)
 
     -- the loop of a sum and that of a product
-    abbrev pub Summing : Parsed → Going → Type 0
-    Summing p j = Reading expression_level (3 * length l + 3) (length l + 1) (λ n. expression n m st l) l p j
+    abbrev pub Summing : Parsed → NextTurn → Type 0
+    Summing p j = Going expression_level (3 * length l + 3) (length l + 1) (λ n. expression n m st l) l p j
 
-    abbrev pub Multiplying : Parsed → Going → Type 0
-    Multiplying p j = Reading product_level (3 * length l + 2) (length l) (λ n. product n m st l) l p j
+    abbrev pub Multiplying : Parsed → NextTurn → Type 0
+    Multiplying p j = Going product_level (3 * length l + 2) (length l) (λ n. product n m st l) l p j
 
-    pub begins : {p : Parsed} → p.value ≡ pos 0 → p.rest.now ≡ l → {j : Going} → j ≡ start_of m l → Summing p j
+    pub begins : {p : Parsed} → p.value ≡ pos 0 → p.rest.now ≡ l → {j : NextTurn} → j ≡ start_of m l → Summing p j
     begins {p} z q {j} u =
         let near = left-no_longer l (start_of m l) (start-no_longer m l) in
         rw u (record {

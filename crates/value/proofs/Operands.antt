@@ -16,9 +16,10 @@ use Rattle.model.specs.Value.{Read, read_fault, and_then, giving, checked, numbe
 use Rattle.model.proofs.Depth.{number_leaves}
 use Rattle.std.specs.Prelude.{Some, None}
 use Rattle.number.specs.Number.{Gives}
-use Rattle.number.specs.Run.{Parsing, Numerals}
-use Rattle.number.specs.declared.Parsed.{Parsed}
-use Rattle.value.specs.Reads.{read_of, parsed_fault, LeavesBelow, ReadsAbove, name_at}
+use Rattle.number.specs.Run.{Numerals}
+use Rattle.number.specs.declared.Numeral.{Numeral}
+use Rattle.value.specs.declared.Parsed.{Parsed}
+use Rattle.value.specs.Reads.{Parsing, numeral_at, read_of, parsed_fault, LeavesBelow, ReadsAbove, name_at}
 use Rattle.value.proofs.Firsts.{behind, behind_is}
 use Rattle.value.proofs.Names.{name_past}
 
@@ -62,10 +63,6 @@ left-closing m v (x ∷ l) = go (eqb x m.right)
 
 -- ---- digits
 
--- an operand that is digits
-abbrev pub number_at : List ℕ → Read
-number_at s = giving (checked (pos (number 0 s).0)) (number 0 s).1
-
 given_kept : {o : Option ℤ} {z : ℤ} {t u : List ℕ} → Gives (Some z) o → u ≡ t → ◌≡◌ {A = Read} (some (z, t)) (giving o u)
 unfolding giving
 given_kept g q = rw (q, ← g.is)
@@ -74,9 +71,12 @@ given-none : {o : Option ℤ} (u : List ℕ) → Gives None o → ◌≡◌ {A =
 unfolding giving
 given-none u g = rw (← g.is)
 
-pub numeral_is : (s : List ℕ) (r : Parsing) → Numerals s r → read_of r ≡ number_at s
-numeral_is s (Some p) u = given_kept u.gives u.rest
-numeral_is s None u = given-none (number 0 s).1 u.gives
+module _ {s : List ℕ} {n : Numeral} (u : Numerals s n) where
+  pub numeral_read : {z : ℤ} → n.value ≡ Some z → read_of (Some (record { value = z; rest = n.rest })) ≡ numeral_at s
+  numeral_read q = given_kept (rw q at u.gives) u.rest
+
+  pub numeral_fails : n.value ≡ None → read_of None ≡ numeral_at s
+  numeral_fails q = given-none (number 0 s).1 (rw q at u.gives)
 
 number-past : (l : List ℕ) → 1 ≤ length l → is_digit (get_or l 0 0) ≡ true → length (number 0 l).1 < length l
 unfolding number
@@ -101,7 +101,7 @@ module _ (m : Marks) (st : Store) where
   abbrev other_at : ℕ → List ℕ → Read
   other_at n l = chosen (eqb (get_or l 0 0) m.left) (in_brackets n l) (named_at l)
 
-  by_first : (n : ℕ) (l : List ℕ) → 1 ≤ length l → operand (suc n) m st l ≡ chosen (is_digit (get_or l 0 0)) (number_at l) (other_at n l)
+  by_first : (n : ℕ) (l : List ℕ) → 1 ≤ length l → operand (suc n) m st l ≡ chosen (is_digit (get_or l 0 0)) (numeral_at l) (other_at n l)
   unfolding operand
   by_first n [] h = absurd (omega arith)
   by_first n (x ∷ l) h = refl
@@ -123,16 +123,15 @@ module _ (m : Marks) (st : Store) where
     nothing h = from_tests None none refl (λ n k. by_none n l h) tt
 
     module _ (some_left : 1 ≤ length l) where
-      pub digits_read : {d : Bool} → d ≡ is_digit (get_or l 0 0) → d ≡ true → {r : Parsing} → Numerals l r → Operand r
-      digits_read i e {r} u =
-          let x = numeral_is l r u in
-          from_tests r (number_at l) x
-          (λ n k. by_first n l some_left ∙ ap (λ (t : Bool). chosen t (number_at l) (other_at n l)) (sym i ∙ e))
-          (leaves r (number_at l) x (omega (arith, left-giving (checked (pos (number 0 l).0)) (number 0 l).1, number-past l some_left (sym i ∙ e))))
+      pub digits_read : {d : Bool} → d ≡ is_digit (get_or l 0 0) → d ≡ true → {r : Parsing} → read_of r ≡ numeral_at l → Operand r
+      digits_read i e {r} x =
+          from_tests r (numeral_at l) x
+          (λ n k. by_first n l some_left ∙ ap (λ (t : Bool). chosen t (numeral_at l) (other_at n l)) (sym i ∙ e))
+          (leaves r (numeral_at l) x (omega (arith, left-giving (checked (pos (number 0 l).0)) (number 0 l).1, number-past l some_left (sym i ∙ e))))
 
       module _ {d : Bool} (i : d ≡ is_digit (get_or l 0 0)) (e : d ≡ false) where
         by_other : (n : ℕ) → operand (suc n) m st l ≡ other_at n l
-        by_other n = by_first n l some_left ∙ ap (λ (t : Bool). chosen t (number_at l) (other_at n l)) (sym i ∙ e)
+        by_other n = by_first n l some_left ∙ ap (λ (t : Bool). chosen t (numeral_at l) (other_at n l)) (sym i ∙ e)
 
         module _ (q : get_or l 0 0 ≡ m.left) where
           by_bracket : (n : ℕ) → operand (suc n) m st l ≡ in_brackets n l

@@ -1,11 +1,15 @@
 -- What is read from the front of a text, as the definitions of model's Value have it: a value and the bytes after it.
-use Rattle.std.specs.Prelude.{◌≡◌, List, ℕ, ◌<◌, length, Some, None}
+use Rattle.std.specs.Prelude.{◌≡◌, List, ℕ, ◌<◌, length, pos, Option, Some, None}
 use Rattle.std.proofs.Math.Option.{none, some}
 use Rattle.model.specs.declared.Marks.{Marks}
 use Rattle.model.specs.Store.{Store, find}
-use Rattle.model.specs.Value.{value_fault, Read, read_fault, giving, name_of, of_stored, value_of}
+use Rattle.model.specs.Value.{value_fault, Read, read_fault, giving, number, checked, name_of, of_stored, value_of}
 use Rattle.number.specs.Number.{Valued, number_of, valued_fault, InRange}
-use Rattle.number.specs.Run.{Parsing}
+use Rattle.value.specs.declared.Parsed.{Parsed}
+
+-- a value and what is left after it, or none
+abbrev pub Parsing : Type 0
+Parsing = Option Parsed
 
 -- the value, and the bytes after it
 abbrev pub read_of : Parsing → Read
@@ -33,6 +37,10 @@ pub record Values (m : Marks) (es : Store) (s : List ℕ) (r : Valued) : Type 0 
   pub is : value_of m es s ≡ number_of r
   pub number : valued_fault r ≡ value_fault (value_of m es s)
   pub fits : InRange r
+
+-- an operand that is digits
+abbrev pub numeral_at : List ℕ → Read
+numeral_at s = giving (checked (pos (number 0 s).0)) (number 0 s).1
 
 -- an operand that is a name
 abbrev pub name_at : Marks → Store → List ℕ → Read

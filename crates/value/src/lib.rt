@@ -8,11 +8,18 @@ ghost use Rattle.model.specs.Store.{find};
 ghost use Rattle.model.specs.Value.{is_mark, of_stored, closing, expression, product, operand};
 ghost use Rattle.number.specs.Number.{Gives};
 ghost use Rattle.value.specs.Turns.{turn_of, start_of, next_of};
-ghost use Rattle.value.specs.Reads.{read_of, ReadsAbove, Values, name_at};
+ghost use Rattle.value.specs.Reads.{read_of, ReadsAbove, Values, numeral_at, name_at};
 
 use model::{Integer, Marks};
-use number::{Parsed, Step};
+use number::Step;
 use store::Store;
+
+// A value and what is left after it.
+#[derive(Clone, Copy)]
+pub struct Parsed<'a> {
+    pub value: Integer,
+    pub rest: &'a [u8],
+}
 
 // How an expression begins, or a sum or a product goes on: by a step with the value at the front of what is left.
 #[derive(Clone, Copy)]
@@ -41,6 +48,18 @@ fn next(rest: &[u8], one: u8, first: Step, two: u8, second: Step) -> Option<Turn
         [b, rest @ ..] if *b == two => Some(Turn { step: second, rest }),
         _ => None,
     }
+}
+
+// The digits that what is left begins with.
+#[tactic(auto, using(crate::proofs::Operands::numeral_fails, crate::proofs::Operands::numeral_read))]
+fn read_numeral(rest: &[u8]) -> Option<Parsed<'_>>
+    ensures { read_of result ≡ numeral_at rest.now }
+{
+    let numeral = number::read_number(rest);
+    Some(Parsed {
+        value: numeral.value?,
+        rest: numeral.rest,
+    })
 }
 
 // What values are read by: the marks, and the names that are stored.
@@ -157,7 +176,7 @@ impl<'a> Reader<'a> {
     {
         match rest {
             [] => None,
-            [b, ..] if number::is_digit(*b) => number::read_number(rest),
+            [b, ..] if number::is_digit(*b) => read_numeral(rest),
             [b, inside @ ..] if *b == self.m.left => self.close(self.expression(inside)?),
             [b, ..] if is_mark(self.m, *b) => None,
             _ => self.read_name(rest),

@@ -54,7 +54,7 @@ pub operand-returns-in-empty : goal.operand-returns-in-empty
 operand-returns-in-empty t c = operands.nothing _ _ _ c.in-empty.len_below
 
 pub operand-returns-in-len1-up : goal.operand-returns-in-len1-up
-operand-returns-in-len1-up t c = operands.digits_read _ _ _ c.in-len1-up.len_at_least c.is_digit.ensures c.if-is_digit.true c.read_number.ensures
+operand-returns-in-len1-up t c = operands.digits_read _ _ _ c.in-len1-up.len_at_least c.is_digit.ensures c.if-is_digit.true c.read_numeral.ensures
 
 pub operand-returns-in_err-expression-in-len1-up-2 : goal.operand-returns-in_err-expression-in-len1-up-2
 operand-returns-in_err-expression-in-len1-up-2 t c =
