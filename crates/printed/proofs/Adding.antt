@@ -49,8 +49,8 @@ module _ (k n e : ℕ) where
     end-word h = room_1 word (spaced k ++ spaced n) (spaced e) (10 ∷ []) (room_as end_is h)
 
     module _ {a : ℕ} {o₁ : Bytes} where
-      pub end-number : RoomFor o w (end_row k n e) → Prints o w word a o₁ → RoomFor o₁ a (spaced k ++ spaced n)
-      end-number h p = room_2 word (spaced k ++ spaced n) (spaced e) (10 ∷ []) (room_as end_is h) p
+      pub end_second : RoomFor o w (end_row k n e) → Prints o w word a o₁ → RoomFor o₁ a (spaced k ++ spaced n)
+      end_second h p = room_2 word (spaced k ++ spaced n) (spaced e) (10 ∷ []) (room_as end_is h) p
 
       module _ {b : ℕ} {o₂ : Bytes} where
         pub end_events : RoomFor o w (end_row k n e) → Prints o w word a o₁ → Prints o₁ a (spaced k ++ spaced n) b o₂ → RoomFor o₂ b (spaced e)

@@ -118,9 +118,9 @@ run_reports n text l = l.reports
 pub check_room : {o : Bytes} {w : ℕ} (name : Bytes) (x : Checked) → w + length name + 43 ≤ length o → RoomFor o w (check_row name x)
 check_room name x h = record { fits = omega (arith, check-row-long name x) }
 
-pub check-row_prints : {o : Bytes} {w : ℕ} (name text : Bytes) (x : Checked) {r : ℕ} {o' : Bytes} → x ≡ check_text 2048 text → Prints o w (check_row name x) r o'
+pub checked_prints : {o : Bytes} {w : ℕ} (name text : Bytes) (x : Checked) {r : ℕ} {o' : Bytes} → x ≡ check_text 2048 text → Prints o w (check_row name x) r o'
     → Prints o w (check_row name (check_text 2048 text)) r o'
-check-row_prints name text x e p = prints_as (ap (λ (y : Checked). check_row name y) e) p
+checked_prints name text x e p = prints_as (ap (λ (y : Checked). check_row name y) e) p
 
 -- ---- what is there, and what is left of a whole
 

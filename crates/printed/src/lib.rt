@@ -54,6 +54,7 @@ fn add_counts(out: &mut [u8], at: usize, a: u64, b: u64) -> usize
 }
 
 // The row that ends what expand prints.
+#[tactic(auto, using(crate::proofs::Adding::end_second))]
 fn add_end(out: &mut [u8], at: usize, r: Ran) -> usize
     requires { RoomFor out.old at (end_row r.number r.line r.events) }
     ensures { Prints out.old at (end_row r.number r.line r.events) result out.new }
@@ -111,6 +112,7 @@ pub fn print_run(text: &[u8], out: &mut [u8], second: &mut [u8], report: &mut [u
 }
 
 // A file's name, with what checking its text answers.
+#[tactic(auto, using(crate::proofs::Adding::check_counts))]
 fn add_checked(out: &mut [u8], at: usize, name: &[u8], c: Checked) -> usize
     requires { RoomFor out.old at (check_row name.now c) }
     ensures { Prints out.old at (check_row name.now c) result out.new }
@@ -120,6 +122,7 @@ fn add_checked(out: &mut [u8], at: usize, name: &[u8], c: Checked) -> usize
 }
 
 // The row that check_text prints for a file with this name and text.
+#[tactic(auto, using(crate::proofs::Rows::checked_prints))]
 pub fn print_check(out: &mut [u8], at: usize, name: &[u8], text: &[u8]) -> usize
     requires { at + length name.now + 43 ≤ length out.old }
     ensures { Prints out.old at (check_row name.now (check_text 2048 text.now)) result out.new }
@@ -140,6 +143,7 @@ fn add_pieces(out: &mut [u8], at: usize, starts: [u64; 9], lens: [u64; 9]) -> us
 }
 
 // What fitting a line answers.
+#[tactic(auto, using(crate::proofs::Adding::fit_line))]
 fn add_fitted(out: &mut [u8], at: usize, f: Fitted) -> usize
     requires { RoomFor out.old at (fit_row f) }
     ensures { Prints out.old at (fit_row f) result out.new }

