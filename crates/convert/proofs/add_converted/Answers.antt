@@ -1,4 +1,5 @@
 -- add_converted: each case is what the expansion adds for it.
+-- With these laws named at the function the search gives up at a limit.
 use Rattle.convert.proofs.Converting.{converts_itself, converts_stored, converts_value}
 use Rattle.convert.proofs.add_converted.Goals as goal
 
