@@ -32,7 +32,7 @@ pub fn same_bytes(a: &[u8], b: &[u8]) -> bool
 }
 
 // Any number in decimal: its digits are `&out[0..r]` for the answer r.
-// At the front of what is lent, since there is no heap; the answer is a length, since callers go on in the same slice.
+// At the front of what is lent, since there is no heap; the answer is a length, by which the caller cuts what it lent.
 pub fn write_decimal(n: u64, out: &mut [u8]) -> usize
     requires { 20 ≤ length out.old }
     ensures { Decimal n result out.new }

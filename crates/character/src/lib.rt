@@ -69,8 +69,8 @@ fn take_bits(b: u8) -> usize
     usize::from(b) - 128
 }
 
-// By hand, here and below: std's from_utf8 tests all of a text, and a pass takes one character and looks at nothing behind it.
 // The character whose first byte is a, where `rest` follows that.
+// By hand, here and below: std's from_utf8 tests all of a text, and a pass takes one character and looks at nothing behind it.
 #[tactic(auto, using(crate::proofs::Decoding::second_tail), unfolding(model::specs::Utf8::character, model::specs::Utf8::of_two, model::specs::Utf8::of_three, model::specs::Utf8::of_four))]
 fn decode(a: u8, rest: &[u8]) -> Result<Character, Malformed>
     ensures { result ≡ read_of (character (a ∷ rest.now)) }

@@ -164,7 +164,7 @@ fn read_form(a: u8, b: u8, at: usize) -> Option<Token>
     }
 }
 
-// What an escape at `at` of a code line begins. With these arms in read_token each byte of a line would make its slice, a plain one too.
+// What an escape at `at` of a code line begins. With these arms in read_token the compiled loop makes the slice for each byte, a plain one too.
 #[inline(always)]
 #[tactic(auto, using(crate::proofs::Lines::token_short))]
 fn read_escaped(m: Marks, line: &[u8], at: usize) -> Token

@@ -28,7 +28,7 @@ pub struct Table {
     pub count: usize,
 }
 
-// A macro's number is an index of both arrays, and is counted and ordered: a type of its own would be made of a number, and read as one, at each use.
+// A macro's number is an index of `entries` and what `order` holds: a type of its own would be made of a number, and read as one, at each use.
 impl Table {
     // Template k, which lies in the text.
     pub fn template<'a>(&self, text: &'a [u8], k: usize) -> &'a [u8]

@@ -103,7 +103,7 @@ enum Part {
 }
 
 // Nothing is stored yet.
-// Memory and index are two parameters and Kept a clause, here and below: a Store's value is the list of its names, and these speak of its bytes.
+// Memory and index are two values, and below two parameters with Kept as a clause: a Store's value is a list, and these speak of its bytes.
 #[tactic(auto, using(crate::proofs::Holding::nothing_yet))]
 fn empty(memory: &[u8]) -> Index
     requires { length memory.now ≡ store_least }
