@@ -97,9 +97,6 @@ module _ (m : Marks) (text : Bytes) (r : Answer) (fs : List Frame) (y : Tally) (
   abbrev with_answer : Answer → Next
   with_answer z = next_of m text fs y z c s line o
 
-  pub next_as : {z : Answer} → r ≡ z → next_of m text fs y r c s line o ≡ next_of m text fs y z c s line o
-  next_as e = ap with_answer e
-
   -- the call goes on, with nothing offered
   pub next_on : is_left r ≡ false → is_offer r ≡ false → next_of m text fs y r c s line o ≡ running (state_of text none (frame_of m text c ∷ fs) y s o)
   unfolding next_of

@@ -191,8 +191,8 @@ module _ (m : Marks) where
       ap (λ (o : Option (Bytes × Bytes)). elim o as (λ _. ℕ) [ some r ↦ length r.0 | none ↦ elim (eqb b m.right) as (λ _. ℕ) [ true ↦ 1 | false ↦ length (b ∷ s) ] ]) (atom-brackets (b ∷ s))
 
   -- what is found by them is found by the marks
-  pub atom-by-brackets : {line : Bytes} {at : ℕ} {r : Scanned} → AtomAt (brackets m.left m.right) line at r → AtomAt m line at r
-  atom-by-brackets {line} {at} {r} a = record {
+  pub atom_by_brackets : {line : Bytes} {at : ℕ} {r : Scanned} → AtomAt (brackets m.left m.right) line at r → AtomAt m line at r
+  atom_by_brackets {line} {at} {r} a = record {
     nowhere = λ z. sym (atom-brackets (drop at line)) ∙ a.nowhere z;
     found = IfSome_then r.end a.found (λ e f. record { is = sym (atom-brackets (drop at line)) ∙ f.is; ahead = f.ahead; within = f.within });
     read = a.read ∙ look-brackets (drop at line);

@@ -25,6 +25,7 @@ pub fn shift(d: &mut [u8], to: usize, from: usize, len: usize)
 }
 
 // Whether two slices have the same bytes: `==`, said once as document 01's `same`.
+#[tactic(auto, using(crate::proofs::Same::pointwise_same))]
 pub fn same_bytes(a: &[u8], b: &[u8]) -> bool
     ensures { result ≡ same a.now b.now }
 {
@@ -33,6 +34,7 @@ pub fn same_bytes(a: &[u8], b: &[u8]) -> bool
 
 // Any number in decimal: its digits are `&out[0..r]` for the answer r.
 // At the front of what is lent, since there is no heap; the answer is a length, by which the caller cuts what it lent.
+#[tactic(auto, using(crate::proofs::Decimal::decimal_copied))]
 pub fn write_decimal(n: u64, out: &mut [u8]) -> usize
     requires { 20 ≤ length out.old }
     ensures { Decimal n result out.new }

@@ -13,7 +13,7 @@ use lib.Seq.{drop-cons, drop-drop, take_at, take-length, drop_at}
 use Rattle.std.specs.Prelude.{Ok, Err, Some, None, IsErr}
 use Rattle.model.specs.Text.{Bytes, part}
 use Rattle.model.specs.Utf8 as Utf8
-use Rattle.model.specs.Utf8.{is_tail, is_second, of_two, of_three, of_four, character, character_fault, encode}
+use Rattle.model.specs.Utf8.{is_tail, is_second, character, character_fault, encode}
 use Rattle.model.proofs.Choices.{false-not-true, both}
 use Rattle.model.proofs.Utf8.{between, decoded_is}
 use Rattle.character.specs.declared.Character.{Character}
@@ -123,10 +123,6 @@ module _ {s : Bytes} {at : ℕ} {r : Found} (k : ReadsCharacter s at r) where
     -- it is in bounds
     pub one_bounds : (c.code ≤ 1114111) × ((1 ≤ c.len) × ((c.len ≤ 4) × (at + c.len ≤ length s)))
     one_bounds = subst (InBounds s at) e k.bounds
-
-    -- it has a byte, and all are in the text
-    pub one-within : (1 ≤ c.len) × (at + c.len ≤ length s)
-    one-within = (one_bounds.1.0, one_bounds.1.1.1)
 
     -- it is the definition's character
     pub one_is : character (drop at s) ≡ some (record { code = c.code; bytes = part s at (at + c.len); rest = drop (at + c.len) s })

@@ -46,6 +46,7 @@ fn take_file<R: Env + Files>(rt: &R, rows: &mut [u8], at: usize, i: usize) -> Re
 }
 
 // The files that arguments 1 to n - 1 name, if each has a row.
+#[tactic(auto, using(crate::proofs::Files::files_more, crate::proofs::Files::files_none))]
 fn take_files<R: Env + Files>(rt: &R, rows: &mut [u8], n: usize) -> Result<usize, Trouble>
     ensures { IfOk result (λ w. HasFiles (n - 1) rows.new w) }
 {

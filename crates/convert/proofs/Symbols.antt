@@ -52,9 +52,6 @@ unfolding or_nothing
 stored_or (Some t) d g e = ap or_nothing g.is
 stored_or None d g e = e ∙ ap or_nothing g.is
 
-pub missing : {es : Store} {name : Bytes} {e : Option Bytes} → GetsText es name e → e ≡ None → Missing es name
-missing g t = record { is = sym g.is ∙ ap found_text t; few = g.few }
-
 -- a fault, whatever the calls share
 lengthens_full : {x : Text} {r : Result Unit RunFault} → IsErrAnd r (λ f. f ≡ FullStore) → Lengthens (λ w. failed 19 w) r x
 unfolding line_step

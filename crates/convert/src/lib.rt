@@ -28,6 +28,7 @@ pub fn add_byte(b: u8, line: &mut Text) -> Result<(), RunFault>
 }
 
 // A number in decimal.
+#[tactic(auto, using(buffer::proofs::Decimal::decimal_is, crate::proofs::Appending::appends_as))]
 pub fn add_number(v: usize, line: &mut Text) -> Result<(), RunFault>
     ensures { Appends line.old (decimal v) result line.new }
 {
@@ -46,6 +47,7 @@ enum Word {
 }
 
 // The text that is brought in, which lies in the parameter or in the store.
+#[tactic(auto, using(crate::proofs::Symbols::stored_or))]
 fn bring<'a>(word: Word, param: &'a [u8], store: &'a Store) -> &'a [u8]
     ensures { result.now ≡ word_of word param.now store.now }
 {
@@ -63,6 +65,7 @@ fn add_word(word: Word, param: &[u8], store: &Store, line: &mut Text) -> Result<
 }
 
 // A number is stored in decimal. add_number, rendering's add_decimal and buffer's write_decimal stay twins: each is one call with itoa's digits.
+#[tactic(auto, using(buffer::proofs::Decimal::decimal_is, crate::proofs::Symbols::puts_number))]
 fn put_number(v: usize, name: &[u8], store: &mut Store) -> Result<(), Full>
     requires { length name.now < 256 }
     ensures { PutsText store.old name.now (decimal v) result store.new }

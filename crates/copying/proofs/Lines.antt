@@ -19,7 +19,7 @@ use Rattle.model.specs.Text.{Bytes, part, lines}
 use Rattle.model.specs.Load.{begins}
 use Rattle.model.specs.Report.{Tally}
 use Rattle.model.specs.Machine as Machine
-use Rattle.model.specs.Machine.{Rooms, Outputs, Frame, Shared, Next, running, ended, state_with, stepped, param, wrote, past_line, is_too_long, copies, copy_lines, copy_input}
+use Rattle.model.specs.Machine.{Rooms, Outputs, Frame, Shared, Next, running, ended, state_with, stepped, param, wrote, past_line, is_too_long, copy_lines, copy_input}
 use Rattle.model.proofs.Choices.{when_true, when_false}
 use Rattle.model.proofs.Copies.{copies-named, copies-nothing}
 use Rattle.scan.specs.Lines.{ContentAt}

@@ -181,10 +181,6 @@ offer_opens q {line} {depth} {s} {o} {r} {s'} {o₁} {x} {u} d e b = by (eqb s.f
         record { some_fuel = k; found = b; shallow = eqb-false _ _ c; counted = v.1; kept = v.2 }
 
 module _ {text : Bytes} {depth : ℕ} {s : State} {o : Outputs} {q : Choice} {x : Reading} {v : State} {o₁ : Bytes} (sound : Sound text s o) (k : EntersCall q depth s o.first x v o₁) where
-  -- the last call's number
-  pub calls_small : v.calls ≤ 1000000
-  calls_small = omega (arith, sound.calls, sound.total, k.some_fuel, ap (λ (y : State). y.calls) k.counted)
-
   entered : Follows text s o (with_call (counted_event s)) o
   entered = event_follows (s.calls + 1) (omega arith) sound k.some_fuel
 

@@ -1,5 +1,5 @@
 -- Input lines dropped.
-use mathlib.Core.Path.{◌≡◌, refl, sym, ap, ◌∙◌, subst}
+use mathlib.Core.Path.{◌≡◌, sym, ap, ◌∙◌, subst}
 use mathlib.Core.List.{List, [], ◌∷◌}
 use Prim.Native.Nat.{ℕ, suc, ◌+◌, ◌-◌, ◌≤◌, ◌<◌, min}
 use native.Mathlib.Omega.{arith}
@@ -20,20 +20,10 @@ pub record Dropping (text : Bytes) (n : ℕ) (s s' : State) (k : ℕ) : Type 0 w
   pub within : s'.at ≤ length text
   pub few : s'.line + s.at ≤ s.line + s'.at
 
-pub dropping_starts : {text : Bytes} {n : ℕ} {s : State} → s.at ≤ length text → Dropping text n s s 0
-dropping_starts {text} {n} {s} h =
-    let z : n - 0 ≡ n = omega arith in
-    record { is = refl; input = ap (λ (k : ℕ). drop k (lines (drop s.at text))) z; lined = omega arith; from = omega arith; within = h; few = omega arith }
-
 module _ {text : Bytes} {n : ℕ} {s s' : State} {k : ℕ} (d : Dropping text n s s' k) where
   -- nothing more is to be dropped, or no line is left
   dropped_at : drop (n - k) (lines (drop s'.at text)) ≡ lines (drop s'.at text) → min (n - k) (length (lines (drop s'.at text))) ≡ 0 → DropsLines text n s s'
   dropped_at e z = record { is = d.is; input = sym e ∙ d.input; line = omega (arith, d.lined, z); from = d.from; within = d.within; few = d.few }
-
-  pub dropped_all : n ≤ k → DropsLines text n s s'
-  dropped_all h =
-      let z : n - k ≡ 0 = omega arith in
-      dropped_at (ap (λ (j : ℕ). drop j (lines (drop s'.at text))) z) (omega arith)
 
   pub input_ends : s'.at ≡ length text → DropsLines text n s s'
   unfolding lines

@@ -9,7 +9,7 @@ use lib.ListN.{length, take, drop}
 use Rattle.model.specs.declared.Marks.{Marks}
 use Rattle.model.specs.Text.{Bytes, part, up_to, lines}
 use Rattle.model.specs.Load as Load
-use Rattle.model.specs.Load.{Macro, body_at, body_of, lowest, count, met, templates, fresh, nodes, template_fault, unless, template_line, line_seen}
+use Rattle.model.specs.Load.{Macro, body_at, body_of, count, templates, nodes, template_fault, unless, template_line, line_seen}
 use Rattle.model.proofs.Choices.{when_true, when_false}
 use Rattle.model.proofs.Text.{part-take}
 use Rattle.std.proofs.lemmas.List.{length-take-le}

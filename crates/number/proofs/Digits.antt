@@ -25,11 +25,7 @@ use Rattle.number.proofs.Steps.{gives_amount, gives_minus}
 use mir.Val.{SFits}
 use mathlib.Core.Option.{Option, none}
 use Rattle.std.specs.Prelude.{Option as Answered, Some, None, SomeIff, Result, OkIff}
-use Rattle.number.proofs.Signed.{read_back, told_in, checked_out, gives_value}
-
-and-false : (t : Bool) → t && false ≡ false
-and-false true = refl
-and-false false = refl
+use Rattle.number.proofs.Signed.{checked_out, gives_value}
 
 pub digit_bounds : {b : ℕ} → is_digit b ≡ true → (48 ≤ b) × (b ≤ 57)
 unfolding is_digit

@@ -116,6 +116,7 @@ pub fn read_number(s: &[u8]) -> Numeral<'_>
 }
 
 // The amount of 1 to DIGITS_MOST digits.
+#[tactic(auto, using(crate::proofs::Digits::amount_read, crate::proofs::Digits::no_amount))]
 fn read_amount(digits: &[u8]) -> Option<u64>
     ensures { SomeIff result (is_stored_number digits.now ≡ true) (saturated (number 0 digits.now).0) }
 {

@@ -11,7 +11,7 @@ use lib.ListN.{length, get_or, drop, drop_of_length-le, length-drop}
 use lib.Seq.{drop-cons}
 use borrow.Author.Tests.{eqb-true}
 use Rattle.std.specs.Prelude as Std
-use Rattle.std.specs.Prelude.{Result, IsNone, IfSome, Ok, Err, Some, None, IfOk, IfErr, IsErrAnd}
+use Rattle.std.specs.Prelude.{Result, IsNone, IfSome, Ok, Err, Some, None, IsErrAnd}
 use Rattle.faults.specs.declared.RunFault.{RunFault}
 use Rattle.faults.specs.declared.RunFault.TheVariants.{NoAtom, BadCharacter}
 use Rattle.faults.specs.Numbers.{run_number}
@@ -220,15 +220,3 @@ no_list (d ∷ ds) h = absurd (omega arith)
 pub takes_character : {m : Marks} {line : Bytes} {at : ℕ} {list : Bytes} {r : Result Taken RunFault} {q : Bool} → q ≡ eqb (length list) 0 → q ≡ true → TakesCharacter line at r
     → Takes m line at list r
 takes_character {m} {line} {at} {list} {r} e f t = subst (λ (l : Bytes). Takes m line at l r) (sym (no_list list (eqb-true (length list) 0 (sym e ∙ f)))) (t.takes m)
-
--- ---- what a caller learns
-
-module _ {m : Marks} {line : Bytes} {at : ℕ} {list : Bytes} {r : Result Taken RunFault} (k : Takes m line at list r) where
-  pub piece_taken : {t : Taken} → r ≡ Ok t
-      → pass_of m list (drop at line) ≡ some (record { piece = part line at t.end; delimiter = delimiter_bytes t.delimiter; rest = drop t.rest line })
-  unfolding piece_at
-  piece_taken e = k.is ∙ ap (piece_at line at) e
-
-  pub piece_lacking : {e : RunFault} → r ≡ Err e → pass_of m list (drop at line) ≡ none
-  unfolding piece_at
-  piece_lacking e = k.is ∙ ap (piece_at line at) e

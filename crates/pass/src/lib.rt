@@ -35,7 +35,7 @@ impl Taken {
 
 // With a list of delimiters, a pass takes the shortest row of atoms that stands before one of them or the end.
 // `at` stays beside the line: a call keeps the place where its next pass goes on, and answers are places of the same line.
-#[tactic(auto, using(crate::proofs::Pieces::taking_begins, crate::proofs::Pieces::taking_delimiter))]
+#[tactic(auto, using(crate::proofs::Pieces::taking_begins, crate::proofs::Pieces::taking_delimiter, crate::proofs::Pieces::taking_goes_on, crate::proofs::Pieces::taking_fails, atom::proofs::Atoms::atom_by_brackets))]
 fn take_atoms(m: Marks, line: &[u8], at: usize, list: &[u8]) -> Result<Taken, RunFault>
     requires at_in_bounds { at ≤ length line.now }
     requires list_nonzero { 0 < length list.now }

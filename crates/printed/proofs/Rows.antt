@@ -138,9 +138,6 @@ pub record Piecing (o : Bytes) (w : ℕ) (ss ls ss' ls' : List ℕ) (k : ℕ) (o
   pub prints : Prints o w done k o'
   pub rest : done ++ piece_row ss' ls' ≡ piece_row ss ls
 
-pub piecing_none : {o : Bytes} {w : ℕ} {ss ls ss' ls' : List ℕ} → RoomFor o w (piece_row ss ls) → ss' ≡ ss → ls' ≡ ls → Piecing o w ss ls ss' ls' w o
-piecing_none h e f = record { done = []; prints = prints_none (omega (arith, h.fits)); rest = ap₂ piece_row e f }
-
 -- where no start is left, or no length, no piece is
 no_pieces : (xs ys : List ℕ) → (length xs ≡ 0) ⊎ (length ys ≡ 0) → piece_row xs ys ≡ []
 unfolding piece_row

@@ -131,6 +131,7 @@ pub fn print_check(out: &mut [u8], at: usize, name: &[u8], text: &[u8]) -> usize
 }
 
 // Start and length of each piece. Two rows, as C reads them in Fitted.
+#[tactic(auto, using(crate::proofs::Rows::piecing_more))]
 fn add_pieces(out: &mut [u8], at: usize, starts: [u64; 9], lens: [u64; 9]) -> usize
     requires { RoomFor out.old at (piece_row starts lens) }
     ensures { Prints out.old at (piece_row starts lens) result out.new }
@@ -155,6 +156,7 @@ fn add_fitted(out: &mut [u8], at: usize, f: Fitted) -> usize
 }
 
 // What fit_line prints for a text and a file of lines.
+#[tactic(auto, using(crate::proofs::Rows::rowing_none))]
 pub fn print_fits(text: &[u8], file: &[u8], out: &mut [u8]) -> usize
     requires { 51 * (length file.now + 1) ≤ length out.old }
     ensures { Prints out.old 0 (fit_prints text.now file.now) result out.new }

@@ -1,12 +1,12 @@
 -- Bytes that are printed one part after another: what is printed then, and the room for what is left.
-use mathlib.Core.Path.{◌≡◌, refl, sym, ap, subst, ◌∙◌}
+use mathlib.Core.Path.{◌≡◌, refl, sym, subst, ◌∙◌}
 use mathlib.Core.List.{[], ◌++◌}
 use Prim.Native.Nat.{ℕ, ◌+◌, ◌-◌, ◌≤◌}
 use native.Mathlib.Omega.{arith}
-use lib.ListN.{length, take, length-append}
-use Rattle.model.specs.Text.{Bytes, part}
+use lib.ListN.{length, length-append}
+use Rattle.model.specs.Text.{Bytes}
 use Rattle.buffer.specs.Written.{Written}
-use Rattle.buffer.proofs.Written.{written-length, written-take}
+use Rattle.buffer.proofs.Written.{written-length}
 use Rattle.rendering.specs.Added.{AddsAt}
 use Rattle.rendering.specs.Prints.{RoomFor, Prints}
 use Rattle.rendering.proofs.Added.{adds_as, adds_none, adds_more}
@@ -23,13 +23,6 @@ pub room_as : {o : Bytes} {w : ℕ} {s t : Bytes} → s ≡ t → RoomFor o w s 
 room_as {o} {w} e h = subst (λ (x : Bytes). RoomFor o w x) e h
 
 -- ---- from the front
-
--- what is printed there is the front
-pub shown : {o : Bytes} (s : Bytes) {r : ℕ} {o' : Bytes} → Prints o 0 s r o' → part o' 0 r ≡ s
-shown s {r} {o'} p =
-    let e = p.ends in
-    let z : r - 0 ≡ 0 + length s = omega arith in
-    ap (λ (n : ℕ). take n o') z ∙ written-take p.adds.is
 
 -- what is written there is printed
 pub written_prints : {o s : Bytes} {w : ℕ} {o' : Bytes} → Written o s w o' → Prints o 0 s w o'

@@ -20,6 +20,7 @@ pub fn add_bytes(out: &mut [u8], at: usize, bytes: &[u8]) -> usize
 }
 
 // A number in decimal. Two parameters, as in add_bytes.
+#[tactic(auto, using(crate::proofs::Prints::prints_as, buffer::proofs::Decimal::decimal_is, crate::proofs::Prints::room_as))]
 pub fn add_decimal(out: &mut [u8], at: usize, n: u64) -> usize
     requires { RoomFor out.old at (decimal n) }
     ensures { Prints out.old at (decimal n) result out.new }

@@ -31,9 +31,9 @@ use Rattle.macros.specs.declared.Entry.{Entry}
 use Rattle.macros.proofs.Entries.{bodies_in_at, macros_in_length, macros_in_at}
 use Rattle.fit.proofs.Asking.{tree_alone}
 use Rattle.load.specs.Answer.{loaded_of}
-use Rattle.usage.specs.Counts.{tally_of, Counts, ReadyToReport, PrintsReport}
-use Rattle.usage.proofs.Counts.{counts_none, counts_start, counts_few}
-use Rattle.usage.proofs.Report.{on_lines, entry_lines}
+use Rattle.usage.specs.Counts.{tally_of, Counts, PrintsReport}
+use Rattle.usage.proofs.Counts.{counts_none, counts_start}
+use Rattle.usage.proofs.Report.{on_lines}
 use Rattle.matching.specs.Book as Book
 use Rattle.matching.specs.Book.{tally_in}
 use Rattle.prepare.specs.declared.Prepared.{Prepared}
@@ -122,22 +122,9 @@ module _ {text : Bytes} {row : List Node} {t : Prepared} (y : ReadyToRun text ro
   abbrev u : Load.Loaded
   u = loaded_of text t.table t.loaded
 
-  pub prepared : Book.Prepared (basis_of text row t)
-  prepared = record { table = u; book = y.book }
-
   -- the entries of its macros
   abbrev entries : List Entry
   entries = take t.table.count t.table.entries
-
-  -- what the report is printed from
-  pub report_ready : {counts : List ℕ} {fuel : ℕ} {report : Bytes} → t.table.count ≤ length t.table.entries → Counts counts fuel → 2048 ≤ length report → ReadyToReport entries counts report
-  report_ready long h room = record {
-    few = omega (arith, length-take-le t.table.count t.table.entries long, y.few);
-    lines = entry_lines t.table t.table.count long y.lines;
-    long = h.long;
-    counted = counts_few h;
-    room = room;
-  }
 
   module _ {fuel : ℕ} {s : State} (is : s ≡ start_of l fuel) where
     pub starts_sound : {output second : Bytes} → fuel ≤ 1000000 → Sound text s (outputs output second)

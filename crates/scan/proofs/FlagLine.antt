@@ -7,7 +7,7 @@ use Prim.Native.Nat.{◌-◌, ◌≤◌, ◌<◌}
 use native.Mathlib.Omega.{arith}
 use borrow.Author.Tests.{le-leb, lt-leb, ne_eqb}
 use lib.Dec.{eqb}
-use lib.ListN.{length, length-drop, get_or, drop, take}
+use lib.ListN.{length, get_or, drop, take}
 use lib.Seq.{drop-cons}
 use Rattle.model.specs.declared.Marks.{Marks}
 use Rattle.model.specs.Text.{Bytes, has, plain, all_plain, distinct, apart, legal_marks, others, legal_flags, marks_fault, marks_of}
@@ -39,9 +39,6 @@ differ_first s h = ap distinct (drop-cons s 0 0 (omega arith)) ∙ ap (λ (l : B
 pub record Differing (s rest : Bytes) : Type 0 where
   pub is : distinct rest ≡ distinct s
 
-pub differing_begins : {s : Bytes} → Differing s s
-differing_begins = record { is = refl }
-
 differ_by : {s rest : Bytes} (r : Bool) → Differing s rest → 1 ≤ length rest → Has (after rest) (get_or rest 0 0) r → distinct s ≡ (not r && distinct (after rest))
 differ_by {s} {rest} r d h g = sym d.is ∙ differ_first rest h ∙ ap (λ (b : Bool). not b && distinct (after rest)) (sym g.is)
 
@@ -58,9 +55,6 @@ differ_all {s} {rest} d h = record { is = by rest h ∙ d.is }
     by : (l : Bytes) → length l < 1 → true ≡ distinct l
     by [] h = refl
     by (x ∷ l) h = absurd (omega arith)
-
-pub after-less : (s : Bytes) → 1 ≤ length s → length (after s) < length s
-after-less s h = omega (arith, ap length (take_rest s 1), length-drop 1 s)
 
 -- ---- the flag line
 

@@ -28,9 +28,6 @@ pub record Seeking (s : Bytes) (from to b i : ℕ) : Type 0 where
   pub within : to ≤ length s
   pub same : i + length (up_to b (part s i to)) ≡ from + length (up_to b (part s from to))
 
-pub seeking_begins : {s : Bytes} {from to b : ℕ} → from ≤ to → to ≤ length s → Seeking s from to b from
-seeking_begins h k = record { low = omega arith; high = h; within = k; same = refl }
-
 pub seeking_goes_on : {s : Bytes} {from to b i : ℕ} → Seeking s from to b i → i < to → ¬ (get_or s i 0 ≡ b) → Seeking s from to b (i + 1)
 seeking_goes_on {s} {from} {to} {b} {i} h k f =
     let e : length (up_to b (part s i to)) ≡ suc (length (up_to b (part s (suc i) to))) = ap (λ (l : Bytes). length (up_to b l)) (part_cons s i to k h.within) ∙ ap length (up_to_goes_on b (get_or s i 0) (part s (suc i) to) f) in
@@ -117,9 +114,6 @@ pub record Scanning (text : Bytes) (at mark i : ℕ) : Type 0 where
   pub high : i ≤ length text
   pub line : (to : ℕ) → i ≤ to → to ≤ length text → Seeking text at to 10 i
   pub content : (to : ℕ) → i ≤ to → to ≤ length text → Seeking text at to mark i
-
-pub scanning_begins : {text : Bytes} {at mark : ℕ} → at ≤ length text → Scanning text at mark at
-scanning_begins h = record { low = omega arith; high = h; line = λ to k w. seeking_begins k w; content = λ to k w. seeking_begins k w }
 
 pub scanning_goes_on : {text : Bytes} {at mark i : ℕ} → Scanning text at mark i → i < length text → ¬ (get_or text i 0 ≡ mark) → ¬ (get_or text i 0 ≡ 10) → Scanning text at mark (i + 1)
 scanning_goes_on s lt f g = record {

@@ -1,8 +1,7 @@
 -- What a run answers for every argument, and that it is what document 01 demands: from what running a prepared text ensures.
 use mathlib.Core.Path.{◌≡◌, sym, ◌∙◌, ap}
 use mathlib.Core.Bool.{Bool, true, false}
-use Prim.Native.Nat.{ℕ, ◌≤◌}
-use native.Mathlib.Omega.{arith}
+use Prim.Native.Nat.{ℕ}
 use mathlib.Core.List.{List}
 use lib.ListN.{length}
 use Rattle.model.specs.declared.Ran.{Ran}
@@ -13,7 +12,7 @@ use Rattle.model.specs.Results.{illegal, run_text, ran_as}
 use Rattle.model.specs.Runs.{Runs}
 use Rattle.model.specs.Demands.{FollowsExpansion}
 use Rattle.model.proofs.Theorems.{run_follows}
-use Rattle.model.proofs.Choices.{when_true, when_false, false-not-true}
+use Rattle.model.proofs.Choices.{when_true, when_false}
 use Rattle.nodes.specs.declared.Node.{Node}
 use Rattle.nodes.specs.SideBySide.{HoldsTree}
 use Rattle.std.specs.Prelude as Prelude
@@ -24,11 +23,6 @@ use Rattle.prepare.specs.Prepares.{Prepares}
 use Rattle.prepare.proofs.Trees.{holds-tree, refused-loads}
 use Rattle.run.proofs.Running.{same_runs, refuses}
 use Rattle.stage2.specs.Rooms.{TestsRooms}
-
--- ---- the test of fuel and rooms
-
-pub legal_fuel : {fuel rows dead store report f : ℕ} {b : Bool} → TestsRooms fuel rows dead store report b → b ≡ false → f ≡ fuel → f ≤ 1000000
-legal_fuel h e u = omega (arith, h.few e)
 
 -- ---- illegal arguments, and legal ones
 module _ (fuel rows dead : ℕ) (room : Rooms) (text : Bytes) (store report : ℕ) where
@@ -64,11 +58,6 @@ module _ (fuel rows dead : ℕ) (text output second store report : Bytes) where
   -- what document 01 demands of them, and the tree that is left in the row
   module _ {row : List Node} {r : Ran} {output' second' store' report' : Bytes} (h : Runs whole output second store report r output' second' store' report') {b : Bool}
       (g : TestsRooms fuel rows dead (length store) (length report) b) where
-    -- of illegal ones nothing
-    pub no_demand : b ≡ true → (t : Loaded) → load text ≡ loaded t → illegal fuel rows dead (length store) (length report) ≡ false
-        → HoldsTree t row × FollowsExpansion t fuel output second store report r output' second' store' report'
-    no_demand e t loads legal = absurd (false-not-true (sym legal ∙ sym g.is ∙ e))
-
     pub follows-expansion : (p : Prelude.Result Prepared Refused) → Prepares text row p → (t : Loaded) → load text ≡ loaded t → illegal fuel rows dead (length store) (length report) ≡ false
         → HoldsTree t row × FollowsExpansion t fuel output second store report r output' second' store' report'
     follows-expansion p q t loads legal = (

@@ -38,7 +38,7 @@ use Rattle.load.specs.Answer as Answer
 use Rattle.load.specs.Answer.{loaded_of, Loads}
 use Rattle.prepare.specs.declared.Prepared.{Prepared}
 use Rattle.prepare.specs.Prepares.{IsPrepared}
-use Rattle.prepare.proofs.Trees.{holds-tree, refused-loads}
+use Rattle.prepare.proofs.Trees.{holds-tree}
 use Rattle.stage2.specs.Answers.{answer_of}
 use Rattle.stage2.specs.Rooms.{TestsRows}
 
@@ -46,14 +46,14 @@ use Rattle.stage2.specs.Rooms.{TestsRows}
 
 -- what loading answers is what check answers
 module _ {text : Bytes} {t : Table} where
-  pub checked-loaded : {r : Loaded} {x : Result Loaded Refused} → Loads (load text) text t x → x ≡ Ok r → record { number = 0; line = r.line } ≡ checked_as (load text)
+  pub checked_loaded : {r : Loaded} {x : Result Loaded Refused} → Loads (load text) text t x → x ≡ Ok r → record { number = 0; line = r.line } ≡ checked_as (load text)
   unfolding checked_as
-  checked-loaded h e = ap checked_as (sym (h.is ∙ ap (Answer.answer_of text t) e))
+  checked_loaded h e = ap checked_as (sym (h.is ∙ ap (Answer.answer_of text t) e))
 
-  pub checked-refused : {f : Refused} {x : Result Loaded Refused} {k : ℕ} → Loads (load text) text t x → x ≡ Err f → k ≡ load_number f.fault
+  pub checked_refused : {f : Refused} {x : Result Loaded Refused} {k : ℕ} → Loads (load text) text t x → x ≡ Err f → k ≡ load_number f.fault
       → record { number = k; line = f.line } ≡ checked_as (load text)
   unfolding checked_as
-  checked-refused {f} h e u = (λ i. record { number = u i; line = f.line }) ∙ ap checked_as (sym (h.is ∙ ap (Answer.answer_of text t) e))
+  checked_refused {f} h e u = (λ i. record { number = u i; line = f.line }) ∙ ap checked_as (sym (h.is ∙ ap (Answer.answer_of text t) e))
 
 -- ---- fit
 
@@ -80,10 +80,6 @@ module _ {rows dead : ℕ} (text line : Bytes) {row : List Node} {f : Fitted} (e
 
   pub first_rule : {p : Prepared} → IsPrepared text row p → (t : Load.Loaded) → load text ≡ loaded t → 2048 ≤ rows → 51456 ≤ dead → HoldsTree t row × (length line ≤ 200 → FitsFirst t line f)
   first_rule p t l u d = (holds-tree p t l, λ v. subst (FitsFirst t line) (sym e) (fit_is_first text t l line rows dead u d v))
-
-  -- nor with a text that is refused
-  pub refused_rule : {k n : ℕ} → load text ≡ refused k n → (t : Load.Loaded) → load text ≡ loaded t → 2048 ≤ rows → 51456 ≤ dead → HoldsTree t row × (length line ≤ 200 → FitsFirst t line f)
-  refused_rule r t l u d = absurd (refused-loads text t r l)
 
 template_at : (ms : List Macro) (k : ℕ) → get_or (templates ms) k [] ≡ (get_or ms k no_macro).template
 unfolding templates no_macro

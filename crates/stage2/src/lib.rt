@@ -53,6 +53,7 @@ fn lack_room(rows: usize, dead: usize) -> bool
 }
 
 // A text checked, with a legal row of nodes. Numbers and lines are document 01's, here and below: C callers read 0 where there is none.
+#[tactic(auto, using(crate::proofs::Results::checked_refused))]
 fn check_in(text: &[u8]) -> Checked
     ensures { result ≡ checked_as (Load.load text.now) }
 {
@@ -127,6 +128,7 @@ fn answer_choice(table: &Table, c: Choice) -> Fitted
 }
 
 // A line fitted against the templates of a text that is prepared.
+#[tactic(auto, using(crate::proofs::Results::fit_long))]
 fn fit_prepared(text: &[u8], nodes: &[Node], dead: &mut [u8], t: &Prepared, line: &[u8]) -> Fitted
     requires { IsPrepared text.now nodes.now t.now × (dead_least ≤ length dead.old) }
     ensures { result ≡ fitted_in line.now (Load.load text.now) }
@@ -142,6 +144,7 @@ fn fit_prepared(text: &[u8], nodes: &[Node], dead: &mut [u8], t: &Prepared, line
 // Fits one line, taken whole, against the templates of a text: the first of all its readings, or line 0 where it is no call; how many
 // places were taken up to find it; and how many bytes were read where the next atom was looked for.
 // The 0 is document 01's, and C callers read it: no template stands on line 0.
+#[tactic(auto, using(crate::proofs::Results::fit_legal, crate::proofs::Results::fit_refused))]
 pub fn fit(text: &[u8], nodes: &mut [Node], dead: &mut [u8], line: &[u8]) -> Fitted
     ensures value { result ≡ fit_of_line (length nodes.old) (length dead.old) text.now line.now }
     ensures holds_tree { (t : Loaded) → Load.load text.now ≡ loaded t → 2048 ≤ length nodes.old → 51456 ≤ length dead.old

@@ -164,3 +164,7 @@ entry_used k e = let y = entry k e in let t = entry_text y in omega (arith, t, y
 
 pub used_within : {m : List ℕ} {x : Index} → Kept m x → x.used ≤ length m
 used_within k = omega (arith, k.small, k.few, k.long)
+
+-- so the entry lies in the memory
+pub entry_within : {m : List ℕ} {x : Index} {name : List ℕ} {p : ℕ} → Kept m x → Locates m x name (Some p) → p + 2 + length name + get_or m (p + 1) 0 ≤ length m
+entry_within k e = omega (arith, entry_used k e, used_within k)

@@ -15,22 +15,6 @@ use Rattle.templates.specs.Count.{common, longest, known, added, sum, beginnings
 
 -- ---- what two templates have in common
 
-common_most : (s t : Bytes) → common s t ≤ suc (length s)
-unfolding common
-common_most [] [] = omega arith
-common_most [] (y ∷ t) = omega arith
-common_most (x ∷ s) [] = omega arith
-common_most (x ∷ s) (y ∷ t) = by (eqb x y) (common_most s t)
-  where
-    by : (b : Bool) → common s t ≤ suc (length s) → ◌≤◌ (elim b [ true ↦ suc (common s t) | false ↦ 0 ]) (suc (suc (length s)))
-    by true h = omega arith
-    by false h = omega arith
-
-pub longest_most : (s : Bytes) (ts : List Bytes) → longest s ts ≤ suc (length s)
-unfolding longest
-longest_most s [] = omega arith
-longest_most s (t ∷ ts) = omega (arith, common_most s t, longest_most s ts)
-
 -- p is a beginning of t where p, as a beginning of a template, is no longer than what that template has in common with t
 begins-common : (p s t : Bytes) → begins p t ≡ leb (length p) (common (p ++ s) t)
 unfolding begins common

@@ -55,6 +55,7 @@ fn make_root(n: usize) -> Node
 }
 
 // Appends the children of node i; the answer is how many nodes there are then.
+#[tactic(auto, using(macros::proofs::Entries::templates_in_length, crate::proofs::Filling::last_within))]
 fn fill_children(ordered: &Ordered, nodes: &mut [Node], i: usize, made: usize) -> usize
     requires { NextNode ordered.now nodes.old i made × (elem nodes.old i ≡ end_key → ⊥) }
     ensures { Filled ordered.now.mark (templates_of ordered.now) (order_of ordered.now) nodes.new i result made }

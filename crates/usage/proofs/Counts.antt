@@ -91,11 +91,3 @@ counts_less c h = record { long = c.long; few = λ j. omega (arith, c.few j) }
 -- at the start
 pub counts_start : {fuel : ℕ} → fuel ≤ fuel_most → Counts (replicate 129 0) fuel
 counts_start h = record { long = length-replicate {A = ℕ} 129 0; few = λ j. omega (arith, nought_at 129 j) }
-
--- each count is printed in seven digits
-pub counts_few : {counts : List ℕ} {fuel : ℕ} → Counts counts fuel → (k : ℕ) → get_or counts k 0 ≤ fuel_most
-counts_few c k = omega (arith, c.few k)
-
--- and has room for one more
-pub counts_room : {counts : List ℕ} {fuel : ℕ} → Counts counts fuel → 0 < fuel → (k : ℕ) → get_or counts k 0 < fuel_most
-counts_room c h k = omega (arith, c.few k)

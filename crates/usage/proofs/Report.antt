@@ -16,7 +16,7 @@ use Rattle.model.specs.Report.{Row, use_rows, report_rows, row_bytes, rows_bytes
 use Rattle.model.proofs.Printed.{decimal_few}
 use Rattle.macros.specs.declared.Entry.{Entry}
 use Rattle.macros.specs.declared.Table.{Table}
-use Rattle.macros.specs.Table.{no_entry, line_in, macros_in}
+use Rattle.macros.specs.Table.{no_entry, macros_in}
 use Rattle.macros.proofs.Entries.{macros_in_length, macros_in_at}
 use Rattle.rendering.specs.Prints.{RoomFor, Prints}
 use Rattle.rendering.proofs.Prints.{prints_none, prints_as, prints_more, prints_4, prints_written, room_as, room_1, room_2, room_3, room_4}
@@ -204,10 +204,3 @@ module _ (t : Table) (n : ℕ) (h : n ≤ length t.entries) where
     same = λ k u. let v : k < n = omega (arith, length-take-le n t.entries h) in
         ap (λ (x : Macro). x.line) (macros_in_at m text t n k v) ∙ ap (λ (e : Entry). e.line) (sym (get_or-take n t.entries k no_entry v));
   }
-
-  -- a fact of their lines is one of the entries
-  pub entry_lines : ((k : ℕ) → k < n → line_in t k ≤ text_most) → (k : ℕ) → k < length (take n t.entries) → (get_or (take n t.entries) k no_entry).line ≤ text_most
-  entry_lines f k u =
-      let v : k < n = omega (arith, length-take-le n t.entries h) in
-      let e = get_or-take n t.entries k no_entry v in
-      omega (arith, f k v, ap (λ (e : Entry). e.line) e)

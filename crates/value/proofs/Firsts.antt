@@ -27,9 +27,6 @@ behind l = take (length l - 1) (drop 1 l)
 pub behind_is : (l : List ℕ) → behind l ≡ drop 1 l
 behind_is l = rw (← length-drop 1 l) (take-length (drop 1 l))
 
-pub behind-length : (l : List ℕ) → 1 ≤ length l → length (behind l) < length l
-behind-length l h = rw (behind_is l) (omega (arith, length-drop 1 l))
-
 -- ---- how an expression begins
 
 module _ (m : Marks) where

@@ -186,6 +186,7 @@ impl<'a> Reader<'a> {
 
 // The value of `text`, with the names that are stored.
 // Marks and store come one by one: convert, skip and finish have them so, and would make a reader for one call.
+#[tactic(auto, using(crate::proofs::Levels::no_value))]
 pub fn value(m: Marks, store: &Store, text: &[u8]) -> Option<Integer>
     ensures { Values m store.now text.now result }
 {

@@ -1,5 +1,6 @@
 -- scan_atom finds the end of the line's first atom, and counts the bytes that it reads. The loop keeps `Scan`: the bytes from `at` to i leave `depth` brackets open,
 -- one at least, and the atom is these bytes with what closes the open brackets from i on, if anything does.
+-- The check finds none of these goals alone, nor with the laws named at the function.
 use borrow.Author.Rules.{rules}
 use native.Mathlib.Omega.{arith}
 use Rattle.atom.proofs.Atoms.{none_past_end, none_at_right, one_byte, scan_step, scan_closed}

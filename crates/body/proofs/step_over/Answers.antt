@@ -1,4 +1,5 @@
 -- step_over: a code line passed over, by its effect.
+-- The check finds none of these goals alone, nor with the laws named at the function.
 use Rattle.body.proofs.Laws.{step_stays, step_opens, step_closes, step_shuts, step_owns}
 use Rattle.body.proofs.step_over.Goals as goal
 

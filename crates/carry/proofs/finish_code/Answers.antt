@@ -1,5 +1,5 @@
 -- finish_code does what the ending says: each arm is its leaf's. After those that a fault may end the call goes on.
--- With the laws named at the function the search gives up at a limit.
+-- The check finds none of these goals alone, nor with the laws named at the function.
 use mathlib.Core.Path.{refl}
 use borrow.Author.Rules.{rules}
 use Rattle.carry.proofs.Endings.{iterate_parameter, iterate_depth, repeat_depth, went_on, broke_off}

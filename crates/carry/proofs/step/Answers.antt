@@ -1,5 +1,6 @@
 -- step leaves the call where no code line is left, ends the run where no fuel is left, and else counts the event and moves the call before its code line is
 -- carried out.
+-- The check finds none of these goals alone, nor with the laws named at the function.
 use mathlib.Core.Path.{refl}
 use native.Mathlib.Nat.{pos_of_ne-zero}
 use Rattle.scan.proofs.Places.{code_line}

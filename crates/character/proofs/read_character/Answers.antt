@@ -1,4 +1,5 @@
 -- read_character: nothing, or what decode reads there.
+-- The check finds none of these goals alone, nor with the laws named at the function.
 use native.Mathlib.Omega.{arith}
 use Rattle.character.proofs.Decoding.{reads_one, reads_malformed}
 use Rattle.character.proofs.read_character.Goals as goal

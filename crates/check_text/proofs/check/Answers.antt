@@ -1,4 +1,4 @@
--- check lends room for the rows. Its length goes by a law: the list is too long to be counted.
+-- check lends room for the rows. The check does not find its length alone: the list is too long to be counted.
 use mathlib.Core.Path.{sym}
 use Prim.Native.Nat.{ℕ}
 use lib.ListN.{length-replicate}

@@ -1,4 +1,5 @@
 -- read_escaped: the form that an escape begins.
+-- The check finds none of these goals alone, nor with the laws named at the function.
 use borrow.Author.Rules.{rules}
 use Rattle.code.proofs.Lines.{token_first, token_later, token_form}
 use Rattle.code.proofs.read_escaped.Goals as goal

@@ -1,4 +1,5 @@
 -- add_code_point: only a parameter of one character has a code point.
+-- The check finds none of these goals alone, nor with the laws named at the function.
 use Rattle.convert.proofs.Adding.{point_malformed, point_others, point_none, point_added}
 use Rattle.convert.proofs.add_code_point.Goals as goal
 

@@ -1,4 +1,5 @@
 -- add_new_symbol: the name is stored with the next number, or the store is full.
+-- The check finds none of these goals alone, nor with the laws named at the function.
 use Rattle.convert.proofs.Symbols.{symbol_full, symbol_new}
 use Rattle.convert.proofs.add_new_symbol.Goals as goal
 

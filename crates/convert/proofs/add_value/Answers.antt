@@ -1,4 +1,5 @@
 -- add_value: the value that is read is the one that is written.
+-- The check finds none of these goals alone, nor with the laws named at the function.
 use Rattle.convert.proofs.Adding.{value-fault, value_number}
 use Rattle.convert.proofs.add_value.Goals as goal
 

@@ -1,5 +1,5 @@
 -- copy_lines copies line by line: each goal names what the steps before it ensure.
--- With the laws named at the function the search gives up at a limit.
+-- The check finds none of these goals alone, nor with the laws named at the function.
 use borrow.Author.Rules.{rules}
 use Rattle.copying.proofs.Lines.{copied_stops, copied_ends, copied_more, copied_all}
 use Rattle.copying.proofs.copy_lines.Goals as goal

@@ -1,4 +1,5 @@
 -- Each way through an offer, a body and a code line, by its law.
+-- The check finds none of these goals alone, nor with the laws named at the functions.
 use Rattle.std.proofs.Common.{refl, sym, ap, ◌∙◌, subst, arith}
 use borrow.Author.Rules.{rules}
 use Rattle.matching.proofs.Matching.{choice_opening}

@@ -1,5 +1,5 @@
 -- repeat begins as many passes as the value says, or ends the run with 15.
--- With the laws named at the function the search gives up at a limit.
+-- The check finds none of these goals alone, nor with the laws named at the function.
 use Rattle.finish.proofs.Iterating.{repeats, repeats_fault}
 use Rattle.finish.proofs.repeat.Goals as goal
 

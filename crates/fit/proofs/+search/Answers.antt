@@ -1,4 +1,5 @@
 -- The search takes up what the definition takes up, each step its own.
+-- The check finds none of these goals alone, nor with the laws named at the functions.
 use Rattle.std.proofs.Common.{refl, arith}
 use Rattle.fit.proofs.Steps.{asks_children, asks_byte, asks_piece, byte_less, piece_less, below-nine, child_known}
 use Rattle.fit.proofs.+search.Goals as goal

@@ -1,4 +1,5 @@
 -- first_reading answers the chosen reading and the numbers of places and bytes: the law of the search, at the root, with no place dead.
+-- The check finds none of these goals alone, nor with the laws named at the function.
 use Rattle.std.proofs.Common.{arith}
 use Rattle.fit.proofs.Taken.{none_dead}
 use Rattle.fit.proofs.Choose.{searched_by-brackets, no_call, is_call}

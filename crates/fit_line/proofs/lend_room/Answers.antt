@@ -1,4 +1,4 @@
--- lend_room lends an array that is as long as the rows may be. Its length goes by a law: the list is too long to be counted.
+-- lend_room lends an array that is as long as the rows may be. The check does not find its length alone: the list is too long to be counted.
 use mathlib.Core.Path.{sym, subst}
 use Prim.Native.Nat.{ℕ, ◌≤◌}
 use native.Mathlib.Nat.{le_refl}

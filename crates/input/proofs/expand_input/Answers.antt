@@ -1,5 +1,5 @@
 -- Each way through a line of the input, by its law: its content is too long, the run ends with it, or the run goes on behind it.
--- With expands_long and expands_over named at the function the search gives up at a limit.
+-- The check finds none of these goals alone, nor with the laws named at the function.
 use borrow.Author.Rules.{rules}
 use Rattle.std.proofs.Common.{refl}
 use Rattle.input.proofs.Whole.{expands_over, expands_long, expands_ended, ends_else, expanding_on}

@@ -1,4 +1,5 @@
 -- end_pass goes on with the innermost iteration, or ends it.
+-- The check finds none of these goals alone, nor with the laws named at the function.
 use mathlib.Core.Path.{ap, ◌∙◌}
 use borrow.Author.Rules.{rules}
 use Rattle.std.specs.Prelude.{Ok}

@@ -1,4 +1,5 @@
 -- pass_again counts a pass down, takes the next piece, or gives the parameter its old value.
+-- The check finds none of these goals alone, nor with the laws named at the function.
 use borrow.Author.Rules.{rules}
 use Rattle.iterate.proofs.Passes.{count_ends, count_goes_on, pieces_fail, pieces_go_on, pieces_end}
 use Rattle.iterate.proofs.pass_again.Goals.{in-Count, in-Pieces+in_ok-take_pass-in-Pieces}

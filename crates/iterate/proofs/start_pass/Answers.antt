@@ -1,4 +1,5 @@
 -- start_pass makes the first pass, and puts the iteration behind those that are open.
+-- The check finds none of these goals alone, nor with the laws named at the function.
 use borrow.Author.Rules.{rules}
 use Rattle.iterate.proofs.Passes.{start_fails, starts}
 use Rattle.iterate.proofs.start_pass.Goals as goal

@@ -1,4 +1,5 @@
 -- start_repeat skips past an iteration that makes no pass.
+-- The check does not find this goal alone, nor with the law named at the function.
 use Rattle.iterate.proofs.Repeats.{repeat_skips}
 use Rattle.iterate.proofs.start_repeat.Goals as goal
 

@@ -1,4 +1,5 @@
 -- take_pass takes a piece of the rest, or finds nothing to take.
+-- The check finds none of these goals alone, nor with the laws named at the function.
 use borrow.Author.Rules.{rules}
 use Rattle.iterate.proofs.Passes.{pass_fails, pass_goes_on}
 use Rattle.iterate.proofs.take_pass.Goals as goal

@@ -1,4 +1,5 @@
 -- child finds the child with the key by a binary search among the children.
+-- The check does not find this goal alone, nor with the law named at the function.
 use Rattle.std.proofs.Common.{◌≡◌, ◌+◌, option_map}
 use borrow.Author.Rules.{rules}
 use Rattle.std.proofs.lemmas.List.Sorted.{answers_always}

@@ -1,4 +1,5 @@
 -- read_stored reads the amount behind a minus, or the amount alone.
+-- The check finds none of these goals alone, nor with the laws named at the function.
 use Rattle.number.proofs.Digits.{minus_stored, plain_stored}
 use Rattle.number.proofs.read_stored.Goals as goal
 

@@ -1,4 +1,5 @@
 -- take_character takes what read_character reads.
+-- The check does not find this goal alone, nor with the law named at the function.
 use Rattle.pass.proofs.Pieces.{takes_malformed}
 use Rattle.pass.proofs.take_character.Goals as goal
 

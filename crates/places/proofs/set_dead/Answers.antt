@@ -1,4 +1,5 @@
 -- set_dead adds the bit.
+-- The check does not find this goal alone, nor with the law named at the function.
 use Rattle.places.proofs.Bits.{bit_added}
 use Rattle.places.proofs.set_dead.Goals as goal
 

@@ -1,15 +1,13 @@
--- print_fits adds a row for each line: at first none is there, each has room, and those of all lines make the whole.
+-- print_fits adds a row for each line: each has room, and those of all lines make the whole.
+-- The check finds none of these goals alone, nor with the laws named at the function.
 use mathlib.Core.Path.{refl, ap, ◌∙◌}
 use lib.Dec.{eqb}
 use Prim.Native.Nat.{ℕ}
 use Rattle.std.proofs.Common.{rules, of_calls, Bor, List}
 use Rattle.std.proofs.lemmas.Fn.{always_returns_same}
 use Rattle.model.specs.Results.{fit_of_line}
-use Rattle.printed.proofs.Rows.{rowing_none, row_room, rowing_more, rowing_all, cuts_first, stripped}
+use Rattle.printed.proofs.Rows.{row_room, rowing_more, rowing_all, cuts_first, stripped}
 use Rattle.printed.proofs.print_fits.Goals as goal
-
-pub loop-line-init : goal.loop-line-init
-loop-line-init c = rowing_none (search rules)
 
 pub add_fitted-w-requires : goal.add_fitted-w-requires
 add_fitted-w-requires c =

@@ -1,4 +1,5 @@
 -- print_run adds the row that ends a run behind its output.
+-- The check does not find this goal alone, nor with the laws named at the function.
 use Rattle.printed.proofs.Rows.{run_prints, run_writes, run_reports}
 use Rattle.printed.proofs.print_run.Goals as goal
 

@@ -1,4 +1,5 @@
 -- run_text runs in the first 65,536 bytes of out, in all of second, and in the report's room.
+-- The check does not find this goal alone, nor with the law named at the function.
 use Rattle.std.proofs.Common.{ℕ}
 use Rattle.std.proofs.lemmas.List.{length-replicate}
 use Rattle.printed.proofs.Rows.{run_leaves}

@@ -1,4 +1,5 @@
 -- run_loaded expands the input of a loaded text, prints how often each template was chosen, and lists what is stored.
+-- The check finds none of these goals alone, nor with the laws named at the function.
 use Rattle.std.proofs.Common.{length-take, arith}
 use Rattle.run.proofs.Running.{starts_sound, starts_counted, loaded_runs}
 use Rattle.run.proofs.run_loaded.Goals as goal

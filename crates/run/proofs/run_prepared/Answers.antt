@@ -1,4 +1,5 @@
 -- run_prepared answers a refusal, or runs with nothing stored.
+-- The check finds none of these goals alone, nor with the laws named at the function.
 use Rattle.run.proofs.Running.{refused_runs, ready}
 use Rattle.run.proofs.run_prepared.Goals as goal
 

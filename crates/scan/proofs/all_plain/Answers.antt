@@ -1,4 +1,5 @@
 -- all_plain is the test `all_plain`: each byte is plain.
+-- The check does not find this goal alone, nor with the law named at the function.
 use mathlib.Core.Path.{◌∙◌}
 use borrow.Author.Rules.{rules}
 use borrow.Author.Tests.{tests}

@@ -1,4 +1,5 @@
 -- find_end finds where a content ends: the loop has passed no mark and no byte 10.
+-- The check finds none of these goals alone, nor with the laws named at the function.
 use borrow.Author.Rules.{rules}
 use Rattle.scan.proofs.Places.{scanning_goes_on, end_mark, end_line, end_text}
 use Rattle.scan.proofs.find_end.Goals as goal

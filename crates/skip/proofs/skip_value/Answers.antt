@@ -1,5 +1,5 @@
 -- skip_value values both parameters, then compares.
--- With the laws named at the function the search gives up at a limit.
+-- The check finds none of these goals alone, nor with the laws named at the function.
 use borrow.Author.Rules.{rules}
 use Rattle.skip.proofs.Skipping.{no_first, no_second, skips_value}
 use Rattle.skip.proofs.skip_value.Goals as goal

@@ -1,7 +1,6 @@
 -- fit answers 1 for a short row of nodes or of dead places, else the first reading, which keeps document 01's rule.
-use mathlib.Core.Path.{ap}
-use Rattle.faults.specs.Numbers.{fault_number}
-use Rattle.stage2.proofs.Results.{fit_short, fit_legal, fit_refused, no_rule, first_rule, refused_rule}
+-- The check finds none of these goals alone, nor with the laws named at the function.
+use Rattle.stage2.proofs.Results.{fit_short, fit_legal, no_rule, first_rule}
 use Rattle.stage2.proofs.fit.Goals as goal
 
 pub returns-then-lack_room : goal.returns-then-lack_room
@@ -13,9 +12,3 @@ pub returns-in-Ok : goal.returns-in-Ok
 returns-in-Ok c =
     let is = fit_legal _ _ _ _ c.lack_room.ensures c.if-lack_room.false c.fit_prepared.ensures in
     record { value = is; holds_tree = first_rule _ _ is (rw c.in-Ok.is at c.prepare.ensures) }
-
-pub returns-in-Err : goal.returns-in-Err
-returns-in-Err c =
-    let refused = rw c.in-Err.is at c.prepare.ensures in
-    let is = fit_legal _ _ _ _ c.lack_room.ensures c.if-lack_room.false (fit_refused _ _ refused (ap fault_number c.into.ensures) c.no_pieces-in-Err.ensures) in
-    record { value = is; holds_tree = refused_rule _ _ is refused }

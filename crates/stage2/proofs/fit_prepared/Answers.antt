@@ -1,11 +1,7 @@
--- fit_prepared answers 11 for a long line, or the first reading.
-use mathlib.Core.Path.{ap}
-use Rattle.faults.specs.Numbers.{fault_number}
-use Rattle.stage2.proofs.Results.{fit_long, asks_whole, template_within, fit_chosen}
+-- fit_prepared answers the first reading of a line that is not too long.
+-- The check finds none of these goals alone, nor with the laws named at the function.
+use Rattle.stage2.proofs.Results.{asks_whole, template_within, fit_chosen}
 use Rattle.stage2.proofs.fit_prepared.Goals as goal
-
-pub returns-then-line-gt-LINE_MOST : goal.returns-then-line-gt-LINE_MOST
-returns-then-line-gt-LINE_MOST c = fit_long _ c.requires.0 c.if-line-gt-LINE_MOST.true (ap fault_number c.into.ensures) c.no_pieces.ensures
 
 pub first_reading-choice-requires : goal.first_reading-choice-requires
 first_reading-choice-requires c = asks_whole _ c.requires.0 c.requires.1 c.if-line-gt-LINE_MOST.false

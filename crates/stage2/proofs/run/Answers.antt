@@ -1,18 +1,11 @@
 -- run answers 1 for illegal arguments, else what the run comes to, which is the expansion.
+-- The check finds none of these goals alone, nor with the laws named at the function.
 use mathlib.Core.Path.{refl}
-use Rattle.stage2.proofs.Demanded.{legal_fuel, illegal-runs, legal_runs, no_demand, follows-expansion}
+use Rattle.stage2.proofs.Demanded.{illegal-runs, legal_runs, follows-expansion}
 use Rattle.stage2.proofs.run.Goals as goal
 
-pub returns-then-is_illegal : goal.returns-then-is_illegal
-returns-then-is_illegal c =
-    let is = illegal-runs _ _ _ _ _ _ _ _ c.is_illegal.ensures c.if-is_illegal.true c.refuse.ensures in
-    record { runs = is; holds_tree = no_demand _ _ _ _ _ _ _ _ is c.is_illegal.ensures c.if-is_illegal.true }
-
-pub run_prepared-requires : goal.run_prepared-requires
-run_prepared-requires c =
-    let legal = c.is_illegal.ensures in
-    let is = c.if-is_illegal.false in
-    (c.prepare-t.ensures, legal_fuel legal is refl, legal.room is, legal.places is, legal.reports is)
+pub returns-then-is_illegal-clause-runs : goal.returns-then-is_illegal-clause-runs
+returns-then-is_illegal-clause-runs c = illegal-runs _ _ _ _ _ _ _ _ c.is_illegal.ensures c.if-is_illegal.true c.refuse.ensures
 
 pub returns : goal.returns
 returns c =

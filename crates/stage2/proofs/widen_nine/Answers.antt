@@ -1,4 +1,5 @@
 -- widen_nine keeps the nine numbers.
+-- The check does not find this goal alone.
 use mathlib.Core.Path.{◌≡◌}
 use native.Mathlib.Omega.{arith}
 use borrow.Author.Rules.{rules}

@@ -1,4 +1,5 @@
 -- append_entry writes the entry after the last, or refuses it by its number or its size.
+-- The check finds none of these goals alone, nor with the laws named at the function.
 use Rattle.store.proofs.Appended.{no_more, no_room, appends}
 use Rattle.store.proofs.append_entry.Goals as goal
 

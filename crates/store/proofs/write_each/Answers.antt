@@ -1,4 +1,5 @@
 -- write_each writes a part and a mark for each entry.
+-- The check finds none of these goals alone, nor with the laws named at the function.
 use Rattle.store.proofs.Writing.{write_room, write_done}
 use Rattle.store.proofs.write_each.Goals as goal
 

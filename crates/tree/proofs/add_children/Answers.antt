@@ -1,4 +1,5 @@
 -- add_children gives a node its children; an end has none.
+-- The check finds none of these goals alone, nor with the laws named at the function.
 use borrow.Author.Rules.{rules}
 use Rattle.tree.proofs.Filling.{link_end, link_full}
 use Rattle.tree.proofs.add_children.Goals as goal

@@ -1,4 +1,5 @@
 -- build makes the root, with all templates, and the tree grows from there.
+-- The check finds none of these goals alone, nor with the laws named at the function.
 use mathlib.Core.Path.{refl, ◌∙◌}
 use lib.ListN.{length-set}
 use Rattle.macros.proofs.Entries.{templates_in_length}

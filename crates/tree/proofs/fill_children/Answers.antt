@@ -1,15 +1,8 @@
 -- fill_children appends the children of a node: each is the node of the next key, for which there is room; at the run's end none is left.
+-- The check finds none of these goals alone, nor with the laws named at the function.
 use mathlib.Core.Path.{refl}
-use native.Mathlib.Omega.{arith}
-use Rattle.macros.proofs.Entries.{templates_in_length}
-use Rattle.tree.proofs.Filling.{last_within, child_fits, room_in_row, grown, all_filled}
+use Rattle.tree.proofs.Filling.{child_fits, room_in_row, grown, all_filled}
 use Rattle.tree.proofs.fill_children.Goals as goal
-
-pub take_run-r-requires : goal.take_run-r-requires
-take_run-r-requires c =
-    let few = last_within _ _ _ c.loop-at.invariant c.end_of_children-end.ensures in
-    let o = c.args.ordered.now in
-    (c.loop-at-test.true, omega (arith, few, templates_in_length o.text.now o.table.now o.table.now.count))
 
 pub make_child-requires : goal.make_child-requires
 make_child-requires c =

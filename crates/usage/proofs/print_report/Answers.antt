@@ -1,5 +1,5 @@
 -- print_report adds the head, a row a turn, and the last row: each has room, and with the last one the report is whole.
--- With last_room named at the function the search gives up at a limit.
+-- The check finds none of these goals alone, nor with the laws named at the function.
 use mathlib.Core.Logic.{inl, inr, ⊎_elim}
 use borrow.Author.Rules.{rules}
 use lib.ListN.{length-append}

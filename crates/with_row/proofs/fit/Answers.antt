@@ -1,4 +1,5 @@
 -- fit lends its own rows, of 2,048 nodes and of 51,456 bytes.
+-- The check does not find this goal alone.
 use Rattle.std.proofs.Common.{ℕ, arith}
 use Rattle.std.proofs.lemmas.List.{length-replicate}
 use Rattle.nodes.specs.declared.Node.{Node}

@@ -1,4 +1,5 @@
 -- run lends its own rows, of 2,048 nodes and of 51,456 bytes.
+-- The check does not find this goal alone.
 use Rattle.with_row.proofs.run.Goals as goal
 
 pub returns-clause-follows_expansion : goal.returns-clause-follows_expansion

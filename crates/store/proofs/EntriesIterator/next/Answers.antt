@@ -1,4 +1,5 @@
 -- next reads the first entry that is left.
+-- The check finds none of these goals alone, nor with the laws named at the function.
 use native.Mathlib.Omega.{arith}
 use Rattle.std.proofs.Common.{refl, ℕ, ◌-◌, ◌<◌, ◌≡◌}
 use Rattle.store.proofs.Walk.{first_entry, still_within}

@@ -1,5 +1,6 @@
 -- find_place halves the places where the template can go until one is left: the template at the middle place is the same, or it goes before
 -- that one, or behind it.
+-- The check finds none of these goals alone, nor with the laws named at the function.
 use borrow.Author.Rules.{rules}
 use native.Mathlib.Omega.{arith}
 use Rattle.templates.proofs.Finding.{seek_same, seek_low, seek_high, sought}

@@ -1,4 +1,5 @@
 -- take_run answers a run of the order.
+-- The check does not find this goal alone, nor with the law named at the function.
 use borrow.Author.Rules.{rules}
 use Rattle.templates.proofs.Runs.{run_goes_on}
 use Rattle.templates.proofs.Ordered.take_run.Goals as goal

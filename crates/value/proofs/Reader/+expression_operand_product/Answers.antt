@@ -1,4 +1,5 @@
 -- The answers of the cycle {expression, operand, product}, by the laws of levels and of operands.
+-- The check finds none of these goals alone, nor with the laws named at the functions.
 use borrow.Author.Rules.{rules}
 use Rattle.std.proofs.Common.{refl, ap}
 use Rattle.value.specs.Turns.{turn_of}

@@ -1,4 +1,5 @@
 -- read_name reads the name as an operand.
+-- The check finds none of these goals alone, nor with the laws named at the function.
 use Rattle.std.proofs.Common.{◌≡◌, ap, ◌∙◌, rules, tests, length}
 use Rattle.std.specs.Prelude.{position}
 use Rattle.std.specs.Option.{unwrap_or}

@@ -1,4 +1,5 @@
 -- run_length looks for the first other byte.
+-- The check does not find this goal alone, nor with the law named at the function.
 use Rattle.std.proofs.Common.{◌≡◌, ◌==◌, not, ap, ◌∙◌, rules, tests, length}
 use Rattle.std.specs.Prelude.{position}
 use Rattle.std.specs.Option.{unwrap_or}

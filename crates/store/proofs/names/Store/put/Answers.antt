@@ -1,4 +1,5 @@
 -- put keeps the index that fits the bytes.
+-- The check does not find this goal alone, nor with the law named at the function.
 use Rattle.store.proofs.Callers.{put_kept}
 use Rattle.store.proofs.names.Store.put.Goals as goal
 
