@@ -4,5 +4,6 @@ mod Taken
 mod Few
 mod Pieces
 mod Trees
+mod Stored
 pub mod Choose
 pub mod Asking

@@ -46,6 +46,7 @@ struct Notes {
 
 impl Notes {
     // Piece k starts at a place: what is left of it is all of it.
+    #[tactic(auto, using(crate::proofs::Stored::piece_stored))]
     fn store_piece(&mut self, k: usize, at: usize)
         requires { k < 9 }
         ensures { StoresPiece k at self.old self.new }

@@ -13,7 +13,7 @@ use faults::RunFault;
 use scan::Marked;
 
 // Skips n code lines of a call, and those past its end in its caller.
-#[tactic(auto, using(crate::proofs::Leaves::lands_on, crate::proofs::Leaves::lands_beyond, crate::proofs::Leaves::lands_badly))]
+#[tactic(auto, using(crate::proofs::Leaves::lands_on, crate::proofs::Leaves::lands_beyond))]
 pub fn land_skip(marked: &Marked, call: &mut Call, n: usize) -> Result<Turn, RunFault>
     requires { call.old.next ≤ length marked.now.text.now }
     ensures { LandsSkip marked.now.marks marked.now.text.now call.old n result call.new }

@@ -34,7 +34,6 @@ use Rattle.load.specs.Answer.{loaded_of}
 use Rattle.usage.specs.Counts.{tally_of, Counts, PrintsReport}
 use Rattle.usage.proofs.Counts.{counts_none, counts_start}
 use Rattle.usage.proofs.Report.{on_lines}
-use Rattle.matching.specs.Book as Book
 use Rattle.matching.specs.Book.{tally_in}
 use Rattle.prepare.specs.declared.Prepared.{Prepared}
 use Rattle.prepare.specs.Prepares.{IsPrepared, Prepares}

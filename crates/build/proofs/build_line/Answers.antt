@@ -1,5 +1,4 @@
--- build_line: what is left of the code line comes to the same as the whole, up to its end or the first fault. The invariant is `Partly`, which says so;
--- the measure is what is left of the code line.
+-- build_line: what is left of the code line comes to the same as the whole, up to its end or the first fault.
 -- The check finds none of these goals alone, nor with the laws named at the function.
 use borrow.Author.Rules.{rules}
 use Rattle.build.proofs.Lines.{partly_ends, partly_more, partly_fails}

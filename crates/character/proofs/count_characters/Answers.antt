@@ -1,7 +1,5 @@
--- count_characters counts character after character. The loop keeps `Counting`: the characters up to `at` are counted, and those from there on
--- give the rest. The measure is the length of the text less `at`.
+-- count_characters: where a character is malformed, so is the text.
 -- The check does not find this goal alone, nor with the law named at the function.
-
 use Rattle.character.proofs.Counting.{counting_fails}
 use Rattle.character.proofs.count_characters.Goals as goal
 

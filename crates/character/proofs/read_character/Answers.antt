@@ -1,4 +1,4 @@
--- read_character: nothing, or what decode reads there.
+-- read_character: what decode reads there, or that it is malformed.
 -- The check finds none of these goals alone, nor with the laws named at the function.
 use native.Mathlib.Omega.{arith}
 use Rattle.character.proofs.Decoding.{reads_one, reads_malformed}

@@ -1,5 +1,5 @@
--- add_converted: each case is what the expansion adds for it.
--- With these laws named at the function the search gives up at a limit.
+-- add_converted: what the expansion adds for a parameter itself, a stored text and the value of an expression.
+-- The check finds none of these goals alone, nor with the laws named at the function.
 use Rattle.convert.proofs.Converting.{converts_itself, converts_stored, converts_value}
 use Rattle.convert.proofs.add_converted.Goals as goal
 

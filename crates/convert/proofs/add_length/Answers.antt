@@ -1,4 +1,4 @@
--- add_length: the number of characters, in decimal.
+-- add_length: a text with a malformed character has no length.
 -- The check does not find this goal alone, nor with the law named at the function.
 use Rattle.convert.proofs.Adding.{length_malformed}
 use Rattle.convert.proofs.add_length.Goals as goal

@@ -1,5 +1,5 @@
 -- copy_input looks for parameter 1, where it is not empty.
--- With the laws named at the function the search gives up at a limit.
+-- The check finds none of these goals alone, nor with the laws named at the function.
 use mathlib.Core.Path.{sym, ◌∙◌}
 use borrow.Author.Rules.{rules}
 use borrow.Author.Tests.{eqb-false}

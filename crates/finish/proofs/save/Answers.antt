@@ -1,5 +1,5 @@
 -- save ends the run with 19 where the store is full.
--- With the law named at the function the goal is not found.
+-- The check does not find this goal alone, nor with the law named at the function.
 use Rattle.finish.proofs.Storing.{saves_full}
 use Rattle.finish.proofs.save.Goals as goal
 

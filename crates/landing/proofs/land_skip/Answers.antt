@@ -1,5 +1,5 @@
 -- land_skip ends the run where the skip ends inside an iteration.
--- With the law named at the function the goal is not found.
+-- The check does not find this goal alone, nor with the law named at the function.
 use borrow.Author.Rules.{rules}
 use Rattle.landing.proofs.Leaves.{lands_badly}
 use Rattle.landing.proofs.land_skip.Goals as goal

@@ -1,5 +1,5 @@
 -- read_digits reads the run of digits.
--- With these laws named at the function the search gives up at a limit.
+-- The check finds none of these goals alone, nor with the laws named at the function.
 use borrow.Author.Rules.{rules}
 use Rattle.number.proofs.Digits.{reading_more, reading_other, reading_ended}
 use Rattle.number.proofs.read_digits.Goals as goal

@@ -1,4 +1,4 @@
--- take_character takes what read_character reads.
+-- take_character: where the character is malformed, nothing is taken.
 -- The check does not find this goal alone, nor with the law named at the function.
 use Rattle.pass.proofs.Pieces.{takes_malformed}
 use Rattle.pass.proofs.take_character.Goals as goal

@@ -1,4 +1,4 @@
--- take_piece takes a row of atoms, or with no list one character.
+-- take_piece: with no list one character is taken.
 -- The check does not find this goal alone, nor with the law named at the function.
 use Rattle.pass.proofs.Pieces.{takes_character}
 use Rattle.pass.proofs.take_piece.Goals as goal

@@ -1,4 +1,4 @@
--- prepare builds the tree of a text that is loaded; a text that is refused has none.
+-- prepare builds the tree of a text that is loaded.
 -- The check finds none of these goals alone, nor with the laws named at the function.
 use Rattle.prepare.proofs.Trees.{ready, prepared}
 use Rattle.prepare.proofs.prepare.Goals as goal

@@ -1,5 +1,5 @@
 -- add_checked adds the two parts of the row: the name, and the counts with the byte 10.
--- With these laws named at the function the search gives up at a limit.
+-- The check finds none of these goals alone, nor with the laws named at the function.
 use Rattle.printed.proofs.Adding.{check_name, check-prints}
 use Rattle.printed.proofs.add_checked.Goals as goal
 

@@ -1,5 +1,5 @@
 -- add_end adds the four parts of the row: the word, number and line, the events, and the byte 10.
--- With these laws named at the function the search gives up at a limit.
+-- The check finds none of these goals alone, nor with the laws named at the function.
 use Rattle.printed.proofs.Adding.{end-word, end_events, end_newline, end_prints}
 use Rattle.printed.proofs.add_end.Goals as goal
 

@@ -1,5 +1,5 @@
 -- add_fitted adds the four parts of the row: the number, the line, the pieces, and the counts with the byte 10.
--- With these laws named at the function the search gives up at a limit.
+-- The check finds none of these goals alone, nor with the laws named at the function.
 use Rattle.printed.proofs.Adding.{fit_number, fit_pieces, fit_last, fit-prints}
 use Rattle.printed.proofs.add_fitted.Goals as goal
 

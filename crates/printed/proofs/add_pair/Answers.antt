@@ -1,5 +1,5 @@
 -- add_pair adds one number after the other.
--- With this law named at the function the search gives up at a limit.
+-- The check does not find this goal alone, nor with the law named at the function.
 use Rattle.rendering.proofs.Prints.{prints_more}
 use Rattle.printed.proofs.add_pair.Goals as goal
 

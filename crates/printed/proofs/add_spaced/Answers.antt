@@ -1,5 +1,5 @@
 -- add_spaced adds a blank, then the number.
--- With these laws named at the function the search gives up at a limit.
+-- The check finds none of these goals alone, nor with the laws named at the function.
 use Rattle.printed.proofs.Adding.{blank_room, spaced_prints}
 use Rattle.printed.proofs.add_spaced.Goals as goal
 

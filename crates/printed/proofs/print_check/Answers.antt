@@ -1,5 +1,5 @@
 -- print_check adds the row of what checking the text answers, for which there is room.
--- With this law named at the function the search gives up at a limit.
+-- The check does not find this goal alone, nor with the law named at the function.
 use Rattle.printed.proofs.Rows.{check_room}
 use Rattle.printed.proofs.print_check.Goals as goal
 

@@ -1,5 +1,5 @@
 -- skip_by ends the run with 15 where the parameter has no value.
--- With the law named at the function the goal is not found.
+-- The check does not find this goal alone, nor with the law named at the function.
 use borrow.Author.Rules.{rules}
 use Rattle.skip.proofs.Skipping.{skips_fault}
 use Rattle.skip.proofs.skip_by.Goals as goal

@@ -1,5 +1,5 @@
 -- skip_lines skips as many lines as the value says, unless it is negative.
--- With the laws named at the function the search gives up at a limit.
+-- The check finds none of these goals alone, nor with the laws named at the function.
 use Rattle.skip.proofs.Skipping.{skips_negative, skips-lines}
 use mathlib.Core.Path.{refl}
 use Rattle.skip.proofs.skip_lines.Goals as goal

@@ -1,4 +1,4 @@
--- check_in answers what loading the text comes to.
+-- check_in answers 0 and the last line of a text that is loaded.
 -- The check does not find this goal alone, nor with the law named at the function.
 use Rattle.stage2.proofs.Results.{checked_loaded}
 use Rattle.stage2.proofs.check_in.Goals as goal

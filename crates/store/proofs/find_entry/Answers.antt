@@ -1,4 +1,4 @@
--- find_entry walks the entries up to the first with the name.
+-- find_entry: an entry with another name is passed.
 -- The check does not find this goal alone, nor with the law named at the function.
 use Rattle.store.proofs.Seeking.{seek_on}
 use Rattle.store.proofs.find_entry.Goals as goal

@@ -1,5 +1,5 @@
 -- add_row adds the four parts of the row: the line's number, the comma, the count, and the byte 10.
--- With these laws named at the function the search gives up at a limit.
+-- The check finds none of these goals alone, nor with the laws named at the function.
 use Rattle.usage.proofs.Report.{row_line, row_prints}
 use Rattle.usage.proofs.add_row.Goals as goal
 

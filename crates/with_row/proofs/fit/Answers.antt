@@ -1,4 +1,4 @@
--- fit lends its own rows, of 2,048 nodes and of 51,456 bytes.
+-- fit lends its own rows, which are long enough for document 01's rule.
 -- The check does not find this goal alone.
 use Rattle.std.proofs.Common.{ℕ, arith}
 use Rattle.std.proofs.lemmas.List.{length-replicate}

@@ -1,4 +1,4 @@
--- run lends its own rows, of 2,048 nodes and of 51,456 bytes.
+-- run lends its own rows, which are long enough for what document 01 demands.
 -- The check does not find this goal alone.
 use Rattle.with_row.proofs.run.Goals as goal
 

@@ -1,5 +1,5 @@
 -- pass_through ends the run where there is no room.
--- With the law named at the function the goal is not found.
+-- The check does not find this goal alone, nor with the law named at the function.
 use borrow.Author.Rules.{rules}
 use Rattle.write.proofs.Lines.{passes_none}
 use Rattle.write.proofs.pass_through.Goals as goal

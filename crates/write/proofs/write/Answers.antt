@@ -1,5 +1,5 @@
 -- write counts what is put to the channel's output, or ends the run where there is no room.
--- With the laws named at the function none of these goals is found.
+-- The check finds none of these goals alone, nor with the laws named at the function.
 use borrow.Author.Rules.{rules}
 use Rattle.write.proofs.Lines.{writes_first, writes_second, no_room_first, no_room_second}
 use Rattle.write.proofs.write.Goals as goal

@@ -1,4 +1,4 @@
--- add_macro stores the macro that a line begins and puts it in order, unless its template has a fault.
+-- add_macro stores the macro that a line begins and puts it in order.
 -- The check does not find this goal alone, nor with the law named at the function.
 use mathlib.Core.Path.{refl}
 use Rattle.load.proofs.Macros.{macro_more}

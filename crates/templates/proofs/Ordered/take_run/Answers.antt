@@ -1,4 +1,4 @@
--- take_run answers a run of the order.
+-- take_run: the run goes on where the next template has its key.
 -- The check does not find this goal alone, nor with the law named at the function.
 use borrow.Author.Rules.{rules}
 use Rattle.templates.proofs.Runs.{run_goes_on}

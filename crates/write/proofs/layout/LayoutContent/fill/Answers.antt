@@ -1,4 +1,4 @@
--- fill writes the layout part by part: the loop keeps `LayoutSoFar`, that its first i bytes are written, and how many are left falls.
+-- fill writes the layout part by part: each has room, and at the end all are written.
 -- The check finds none of these goals alone, nor with the laws named at the function.
 use Rattle.write.proofs.Fields.{laying_room, laying_all}
 use Rattle.write.proofs.layout.LayoutContent.fill.Goals as goal
