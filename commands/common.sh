@@ -15,6 +15,10 @@ file_unwritten=106
 # One more byte than a text may have, so that a text that is too large is seen to be.
 read_most=65537
 
+# Where a reader is gone, what writes to it fails, and is answered as what cannot be written. The signal alone would end the shell and leave
+# its folder.
+trap : PIPE
+
 tell() {
     printf '%s\n' "$name: $1" >&2
 }
@@ -47,19 +51,35 @@ answer_option() {
     exit 0
 }
 
-# A folder of this call's own, which is removed with it.
+# A folder of this call's own, which is removed with it. A signal does not come between its making and the name of it, nor into the removal.
 make_folder() {
-    folder=$(mktemp -d 2>/dev/null) || fail "$no_folder" "no temporary file can be made"
-    case "$folder" in /*) ;; *) folder=$PWD/$folder ;; esac
-    trap 'rm -rf "$folder"' EXIT
+    folder=
+    trap 'trap "" HUP INT QUIT TERM; rm -rf "$folder"' EXIT
     trap 'exit 129' HUP
     trap 'exit 130' INT
+    trap 'exit 131' QUIT
     trap 'exit 143' TERM
+    folder=$(trap '' HUP INT QUIT TERM && mktemp -d 2>/dev/null) || fail_folder
+    case "$folder" in /*) ;; *) folder=$PWD/$folder ;; esac
+    test_room
 }
 
-# Whether standard output is open, before anything is done.
+fail_folder() {
+    fail "$no_folder" "no temporary file can be made"
+}
+
+# More bytes than a call writes there: the text and the line, what the program prints, that in two parts, and what goes to files.
+room=400000
+
+# Whether the folder has room, so that no file in it is cut.
+test_room() {
+    { head -c "$room" /dev/zero >"$folder/room"; } 2>/dev/null || fail_folder
+    rm "$folder/room"
+}
+
+# Whether standard output is open, before anything is done. What is duplicated onto itself is not tested by a shell.
 test_output() {
-    { true >&1; } 2>/dev/null || fail "$output_unwritten" "standard output cannot be written"
+    { true 3>&1; } 2>/dev/null || fail "$output_unwritten" "standard output cannot be written"
 }
 
 # Whether a source is newer than the program, or the program is missing.
@@ -96,7 +116,10 @@ find_program() {
     else
         program=$home/bin/$1
     fi
-    [ -x "$program" ] || fail "$not_built" "$program is missing"
+    [ -x "$program" ] || fail "$not_built" "$program is missing, or may not be run"
+    for part in commands/content.awk commands/line.awk commands/shown.awk commands/why.awk docs/NUMBERS.md; do
+        [ -r "$home/$part" ] || fail "$not_built" "$home/$part is missing"
+    done
 }
 
 # Copies the text of a file, or of standard input where no file is named, to the call's folder: a pipe can be read once, and what is shown
@@ -109,13 +132,14 @@ read_text() {
     fi
 }
 
-# Runs the program. What it says goes to standard error; what it prints stays in the call's folder, since a program has no exit status. One
-# that is killed has one; a shell says how it was killed, some where the program's messages go and some on their own standard error.
+# Runs the program in the call's folder, whose name need not be UTF-8. What it says goes to standard error; what it prints stays there, where
+# its number is read. A program ends with status 0, unless it cannot run on this machine, and says why, or is killed; a shell says how, some
+# where the program's messages go and some on their own standard error.
 run_program() {
     (
-        "$program" "$@" <"$folder/text" >"$folder/printed" 2>"$folder/said"
+        cd "$folder" && "$program" "$@" <text >printed 2>said
         exit $?
-    ) 2>/dev/null || fail "$broke_off" "the program broke off"
+    ) 2>/dev/null || fail "$broke_off" "the program broke off$(sed -n '1s/^/: /p' "$folder/said")"
     cat "$folder/said" >&2
 }
 

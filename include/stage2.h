@@ -1,8 +1,8 @@
 /* STAGE2 for name tables: check a text, fit a line against a text's templates, and run a text.
  *
- * Link with target/staticlib/libapi.a (x86-64 Linux), which `tools/build api` writes. The calls keep nothing between one and
- * the next, allocate nothing, and may run in several threads at once. A check and a fit need 128 KB of stack, a run 256 KB;
- * the deepest search that was found takes 57 KB, and a run with it 166 KB.
+ * Link with lib/libstage2.a of a package, or with target/staticlib/libapi.a, which `tools/build api` writes in the repository
+ * (x86-64 Linux). The calls keep nothing between one and the next, allocate nothing, and may run in several threads at once. A
+ * check and a fit need 128 KB of stack, a run 256 KB; the deepest search that was found takes 57 KB, and a run with it 166 KB.
  *
  * An array is passed as a pointer and a count of elements. No pointer may be NULL, not even with a count of 0. The arrays
  * that a call writes to, the node row, the row of dead places, both outputs, the store and the report, overlap neither each

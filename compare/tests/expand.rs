@@ -209,6 +209,23 @@ fn an_output_file_that_cannot_be_written_is_told() {
     }
 }
 
+/// A file of a program that runs is there and cannot be opened for writing, by root neither.
+#[test]
+fn a_file_that_is_there_and_cannot_be_opened_is_told() {
+    let folder = Folder::new("busy");
+    folder.write("text", BOTH);
+    let bad = std::env::current_exe().unwrap();
+    let bad = bad.to_str().unwrap();
+    for at in [2, 4, 6] {
+        let mut arguments = ["text", "-o", "out", "-4", "second", "--report", "uses"];
+        arguments[at] = bad;
+        let output = called_in(&folder, &command("expand"), &arguments);
+        let told = format!("expand: {bad} cannot be written\n");
+        assert_answer(&output, 106, b"", told.as_bytes(), arguments);
+        assert_eq!(folder.held().len(), 1, "{arguments:?}");
+    }
+}
+
 /// The program opens the file for channel 4 before that for the report, and both before anything is
 /// run. The command tests both in this order, and changes none before.
 #[test]
@@ -228,6 +245,70 @@ fn files_are_opened_in_order() {
             assert_eq!(said(&path, &arguments), "expand: / cannot be written\n");
             assert_eq!(fs::read_to_string(&good).unwrap(), left, "{arguments:?}");
         }
+    }
+}
+
+/// They are written in one order, and none behind one that takes no byte.
+#[test]
+fn files_are_written_in_order() {
+    let folder = Folder::new("order");
+    folder.write("text", BOTH);
+    let options = [["-4", "second"], ["--report", "uses"], ["-o", "out"]];
+    for at in 0..options.len() {
+        let mut named = options;
+        named[at][1] = "/dev/full";
+        for name in ["second", "uses", "out"] {
+            folder.write(name, "kept");
+        }
+        let output = called_in(&folder, &command("expand"), &[&["text"], named.as_flattened()].concat());
+        assert_answer(&output, 106, b"", b"expand: /dev/full cannot be written\n", named);
+        for (behind, [_, name]) in options.iter().enumerate() {
+            assert_eq!(read(&folder.path().join(name)) == b"kept", at <= behind, "{named:?}: {name}");
+        }
+    }
+}
+
+/// The text is read before a file is tested, and the file for the output is tested first.
+#[test]
+fn faults_are_told_in_order() {
+    let folder = Folder::new("faults");
+    folder.write("text", BOTH);
+    for (call, status, name) in [
+        ("missing -4 /", 102, "missing cannot be read"),
+        ("text -4 / -o /no/out", 106, "/no/out cannot be written"),
+        ("text --report / -4 /no/second", 106, "/no/second cannot be written"),
+    ] {
+        let arguments: Vec<&str> = call.split(' ').collect();
+        let output = called_in(&folder, &command("expand"), &arguments);
+        assert_answer(&output, status, b"", format!("expand: {name}\n").as_bytes(), call);
+    }
+}
+
+/// Names with blanks and with what a shell takes for a pattern, also of files that are not there.
+#[test]
+fn names_are_taken_whole() {
+    let folder = Folder::new("names");
+    for (bytes, number) in [(BOTH, 0), (b"$", 3)] {
+        folder.write("a text", bytes);
+        folder.write("a", "kept");
+        let arguments = ["a text", "-o", "a *", "-4", "a  ?", "--report", "a [a-z]"];
+        let output = called_in(&folder, &command("expand"), &arguments);
+        assert_eq!(output.status.code(), Some(number), "{}", String::from_utf8_lossy(&output.stderr));
+        let held = folder.held();
+        assert_eq!(held["a"].as_deref(), Some(&b"kept"[..]));
+        assert_eq!(held.len(), if number == 0 { 5 } else { 2 }, "{:?}", held.keys());
+        for name in ["a *", "a  ?", "a [a-z]"] {
+            assert_eq!(held.contains_key(name), number == 0, "{name}");
+            let _ = fs::remove_file(folder.path().join(name));
+        }
+        let output = called_in(&folder, &command("expand"), &["a text", "-o", "a *", "-4", "a *"]);
+        assert_answer(
+            &output,
+            100,
+            b"",
+            b"expand: a * is used twice; give a file of its own for each\n",
+            "a *",
+        );
     }
 }
 
@@ -355,12 +436,20 @@ fn other_results_can_go_to_standard_output() {
         let output = called_in(&folder, &command("expand"), &arguments);
         assert_answer(&output, 0, format!("{result}END 0 6 3\n").as_bytes(), b"", arguments);
         assert_eq!(read(&folder.path().join("out")), b"plain\n", "{arguments:?}");
-        let arguments = ["text", option, "/dev/stdout", other, "/dev/null"];
-        let output = called_in(&folder, &command("expand"), &arguments);
-        assert_answer(&output, 0, format!("{result}plain\nEND 0 6 3\n").as_bytes(), b"", arguments);
+        for place in ["/dev/stdout", "/dev/fd/1", "/proc/self/fd/1"] {
+            let arguments = ["text", option, place, other, "/dev/null"];
+            let output = called_in(&folder, &command("expand"), &arguments);
+            assert_answer(&output, 0, format!("{result}plain\nEND 0 6 3\n").as_bytes(), b"", arguments);
+        }
         let arguments = ["text", option, "/dev/stderr", other, "/dev/null"];
         let output = called_in(&folder, &command("expand"), &arguments);
         assert_answer(&output, 0, b"plain\nEND 0 6 3\n", result.as_bytes(), arguments);
+        let to_file = format!("\"$0\" text {option} /dev/stdout {other} /dev/null >out");
+        assert_answer(&scripted(&folder, "expand", &to_file), 0, b"", b"", &to_file);
+        let expected = format!("{result}plain\nEND 0 6 3\n");
+        assert_eq!(read(&folder.path().join("out")), expected.as_bytes(), "{to_file}");
+        let full = format!("\"$0\" text {option} /dev/stdout {other} /dev/null >/dev/full");
+        assert_refused(&scripted(&folder, "expand", &full), 105, "expand", &full);
     }
 }
 
@@ -410,7 +499,7 @@ fn with_two(first: [&str; 2], second: [&str; 2]) -> Vec<String> {
     row.into_iter().map(str::to_string).collect()
 }
 
-/// No file is named twice: not by one name, nor by two names of a file, be it there or not.
+/// No file is used twice: not by one name, nor by two names of a file, be it there or not.
 #[test]
 fn no_file_is_named_twice() {
     let folder = Folder::new("twice");
@@ -435,6 +524,15 @@ fn no_file_is_named_twice() {
             }
         }
     }
+    let others = [
+        "-o /dev/stdout -4 /dev/fd/1",
+        "-4 /dev/stderr --report /dev/stderr",
+        "-o /dev/null -4 same --report same",
+    ];
+    for call in others {
+        let arguments: Vec<&str> = ["text"].into_iter().chain(call.split(' ')).collect();
+        assert_refused(&called_in(&folder, &command("expand"), &arguments), 100, "expand", call);
+    }
     assert_eq!(folder.held(), held);
 }
 
@@ -442,9 +540,95 @@ fn no_file_is_named_twice() {
 fn nothing_may_be_named_twice() {
     let folder = Folder::new("nothing");
     folder.write("text", BOTH);
-    let arguments = ["text", "-o", "/dev/null", "-4", "/dev/null", "--report", "/dev/null"];
-    let output = called_in(&folder, &command("expand"), &arguments);
-    assert_answer(&output, 0, b"END 0 6 3\n", b"", arguments);
+    for null in ["/dev/null", "/dev/./null"] {
+        let arguments = ["text", "-o", null, "-4", "/dev/null", "--report", "/dev/null"];
+        let output = called_in(&folder, &command("expand"), &arguments);
+        assert_answer(&output, 0, b"END 0 6 3\n", b"", arguments);
+    }
     let output = called_in(&folder, &command("expand"), &["/dev/null", "-o", "/dev/null"]);
     assert_answer(&output, 3, b"END 3 1 0\n", &message("expand", 3, 1, b""), "an empty text");
+}
+
+/// Nor is a file named that is open already: as the text on standard input, or where standard output or
+/// standard error goes to. A shell empties those itself; what is appended to keeps what it held.
+#[test]
+fn no_file_is_named_that_is_open() {
+    let folder = Folder::new("open");
+    folder.write("text", BOTH);
+    symlink("/dev/stdout", folder.path().join("link")).unwrap();
+    let calls = [
+        "-o text <text",
+        "-4 second -o /dev/stdin <text",
+        "text -4 res >>res",
+        "text -4 second -o res >>res",
+        "text -4 second --report res >>res",
+        "text -4 second -o res 2>>res",
+        "text -4 link >>res",
+        "text >>text",
+    ];
+    for call in calls {
+        folder.write("res", "kept");
+        let output = scripted(&folder, "expand", &format!("\"$0\" {call}"));
+        assert_eq!((output.status.code(), &output.stdout[..]), (Some(100), &b""[..]), "{call}");
+        let left = read(&folder.path().join("res"));
+        let said = [left.strip_prefix(b"kept").unwrap(), &output.stderr].concat();
+        let is_told = said.starts_with(b"expand: ") && said.ends_with(b"; give a file of its own for each\n");
+        assert!(is_told, "{call} says {}", said.escape_ascii());
+        assert_eq!(read(&folder.path().join("text")), BOTH, "{call}");
+        assert!(!folder.path().join("second").exists(), "{call}");
+    }
+}
+
+/// A descriptor that the caller has opened keeps what it held, and where it stood.
+#[test]
+fn a_result_can_go_to_a_descriptor() {
+    let folder = Folder::new("descriptor");
+    folder.write("text", BOTH);
+    folder.write("log", "before\n");
+    let script = "exec 3>>log; echo first >&3; \"$0\" text -4 /dev/fd/3 --report /dev/null && echo last >&3";
+    let output = scripted(&folder, "expand", script);
+    assert_answer(&output, 0, b"plain\nEND 0 6 3\n", b"", script);
+    assert_eq!(read(&folder.path().join("log")), b"before\nfirst\nstyle\nlast\n");
+}
+
+/// What a link names that is not there is made where a run begins, and not where the text is refused.
+#[test]
+fn a_link_to_no_file_is_followed() {
+    let folder = Folder::new("link");
+    symlink("target", folder.path().join("out")).unwrap();
+    for (bytes, is_made) in [(&b"$"[..], false), (TEXT, true)] {
+        folder.write("text", bytes);
+        called_in(&folder, &command("expand"), &["text", "-o", "out"]);
+        assert_eq!(folder.path().join("target").exists(), is_made);
+    }
+    assert_eq!(read(&folder.path().join("target")), b"B\n");
+}
+
+/// Neither a name that begins with a minus nor a shell that does not write over files is in the way.
+#[test]
+fn names_and_shells_are_taken_as_they_are() {
+    let folder = Folder::new("as they are");
+    folder.write("text", TEXT);
+    folder.write("out", "before");
+    let output = called_in(&folder, &command("expand"), &["-o", "new", "--", "-missing"]);
+    assert_answer(&output, 102, b"", b"expand: -missing cannot be read\n", "-missing");
+    let script = "sh -C \"$0\" text -o out";
+    assert_answer(&scripted(&folder, "expand", script), 0, b"END 0 6 4\n", b"", script);
+    assert_eq!(read(&folder.path().join("out")), b"B\n");
+}
+
+/// The lines that the documents give to scripts: the output alone, with the status of `sed`, and a
+/// script that goes on only where all is done.
+#[test]
+fn scripts_take_the_output_alone() {
+    let folder = Folder::new("scripts");
+    for (bytes, number, output) in [(TEXT, 0, "B\n"), (FAULT, 15, "x\n"), (b"$", 3, "")] {
+        folder.write("text", bytes);
+        let piped = scripted(&folder, "expand", "\"$0\" text | sed '$d'");
+        assert_eq!((piped.status.code(), &piped.stdout[..]), (Some(0), output.as_bytes()), "{number}");
+        let script = "\"$0\" text -o out >end || exit; echo goes on";
+        let went = scripted(&folder, "expand", script);
+        let expected = if number == 0 { "goes on\n" } else { "" };
+        assert_eq!((went.status.code(), &went.stdout[..]), (Some(number), expected.as_bytes()), "{number}");
+    }
 }

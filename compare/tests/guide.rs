@@ -2,8 +2,10 @@
 //! that the guide shows prints, says or writes. The same holds for the commands of README.md and
 //! for the message in docs/NUMBERS.md. The examples and sections that they name are there.
 //!
-//! A listing is a block that is indented by four blanks. Where its first line begins with `./`, it
-//! is a block of commands, one to a line, and each is run.
+//! A listing is a block that is indented by four blanks. Where its first line begins with `./`, or
+//! gives a command files of the examples, it is a block of commands, one to a line, and each is run.
+//! A listing behind a paragraph that ends with `prints`, `says` or `has` is all of what is printed or
+//! said, or all of a file.
 
 mod files;
 
@@ -14,15 +16,11 @@ use std::path::PathBuf;
 use std::process::Stdio;
 use std::time::SystemTime;
 
-use files::{call, files, read, root, Folder};
+use files::{call, document, files, read, root, table, Folder};
 
 const GUIDE: &str = "docs/TEMPLATES.md";
 const NUMBERS: &str = "docs/NUMBERS.md";
 const README: &str = "README.md";
-
-fn document(path: &str) -> String {
-    String::from_utf8(read(&root().join(path))).unwrap()
-}
 
 // ---- a document's parts
 
@@ -40,8 +38,16 @@ impl<'a> Part<'a> {
         self.lines.join("\n")
     }
 
+    fn text_and_end(&self) -> String {
+        self.text() + "\n"
+    }
+
     fn is_heading(&self) -> bool {
         !self.is_listing && self.lines[0].starts_with('#')
+    }
+
+    fn has_commands(&self) -> bool {
+        self.is_listing && (self.lines[0].starts_with("./") || is_piped(self.lines[0]))
     }
 
     /// Whether a line that follows after so many empty ones belongs to it too: empty lines stand
@@ -89,7 +95,12 @@ fn texts_of(command: &str) -> impl Iterator<Item = String> + '_ {
 }
 
 fn is_command(line: &str) -> bool {
-    ["./expand ", "./check ", "./why "].iter().any(|command| line.starts_with(command))
+    is_piped(line) || ["./expand ", "./check ", "./why "].iter().any(|command| line.starts_with(command))
+}
+
+/// Whether files of the examples are given to a command as its standard input.
+fn is_piped(line: &str) -> bool {
+    line.starts_with("cat examples/") && line.contains(" | ./")
 }
 
 // ---- the checker
@@ -101,9 +112,23 @@ enum Form {
     Guide,
     /// Other commands, which are passed over.
     Readme,
-    /// Commands in the text, between backticks.
+    /// Commands in the text, between backticks, each with what it prints in the next ones.
     Numbers,
 }
+
+/// What a listing can be a part of.
+#[derive(Clone, Copy, PartialEq)]
+enum Kind {
+    /// A text, or lines of input.
+    Input,
+    Printed,
+    Said,
+    /// What is written to a file.
+    Written,
+}
+
+/// The last words of a paragraph whose listing is all of such a source.
+const WHOLE: [(&str, Kind); 3] = [("prints", Kind::Printed), ("says", Kind::Said), ("has", Kind::Written)];
 
 /// What other commands begin with.
 const OTHERS: [&str; 7] = [".ci/", "tools/", "cc ", "cargo ", "python3 ", "rt ", "rustc "];
@@ -117,7 +142,13 @@ struct Checker {
     /// The texts that were named last.
     texts: Vec<String>,
     /// What the last command printed, what it said, and the files that it wrote.
-    results: Vec<Vec<u8>>,
+    results: Vec<(Kind, Vec<u8>)>,
+    /// Of what the next listing is all, by the word before it.
+    whole: Option<(&'static str, Kind)>,
+    /// Whether a command was run since a paragraph named texts.
+    has_run: bool,
+    /// The line of the block of commands whose results are still to be shown.
+    unshown: Option<usize>,
     /// How many commands were run, and how many listings were found.
     commands: usize,
     listings: usize,
@@ -131,10 +162,13 @@ fn check(document: &str, form: Form) -> Checker {
         symlink(entry.path(), folder.path().join(entry.file_name())).unwrap();
     }
     let (texts, results, faults) = (vec![], vec![], vec![]);
-    let mut checker = Checker { form, folder, texts, results, commands: 0, listings: 0, faults };
+    let (whole, has_run, unshown, commands, listings) = (None, false, None, 0, 0);
+    let mut checker =
+        Checker { form, folder, texts, results, whole, has_run, unshown, commands, listings, faults };
     for part in parts(document) {
         checker.check(&part);
     }
+    checker.ask_shown();
     checker
 }
 
@@ -142,7 +176,7 @@ impl Checker {
     fn check(&mut self, part: &Part) {
         if !part.is_listing {
             self.read_text(part);
-        } else if part.lines[0].starts_with("./") {
+        } else if part.has_commands() {
             self.run_commands(part);
         } else if !self.is_passed_over(part.lines[0]) {
             self.find_listing(part);
@@ -163,26 +197,39 @@ impl Checker {
             self.fault(line, format!("{text} is no file"));
         }
         if !texts.is_empty() {
-            self.texts = texts;
+            (self.texts, self.has_run) = (texts, false);
         }
     }
 
     fn read_text(&mut self, part: &Part) {
         let text = part.text();
+        let last = text.split_whitespace().last();
+        self.whole = WHOLE.into_iter().find(|(word, _)| last == Some(word));
+        for (line, number) in part.lines.iter().zip(part.line..) {
+            if line.starts_with([' ', '\t']) || line.starts_with("```") {
+                self.fault(number, "a listing is indented by four blanks".to_string());
+            }
+        }
         self.name_texts(part.line, between(&text, '`').into_iter().filter_map(example).collect());
         if self.form == Form::Numbers {
-            between(&text, '`')
-                .into_iter()
-                .filter(|words| is_command(words))
-                .for_each(|words| self.run(words));
+            let words = between(&text, '`');
+            let is_example = |words: &str| is_command(words) && texts_of(words).count() > 0;
+            for pair in words.windows(2).filter(|pair| is_example(pair[0])) {
+                self.run(pair[0]);
+                if self.results[0].1 != format!("{}\n", pair[1]).as_bytes() {
+                    self.fault(part.line, format!("{} does not print {}", pair[0], pair[1]));
+                }
+            }
         }
     }
 
     fn run_commands(&mut self, part: &Part) {
+        self.ask_shown();
         self.name_texts(part.line, part.lines.iter().flat_map(|line| texts_of(line)).collect());
         for (line, number) in part.lines.iter().zip(part.line..) {
             if is_command(line) {
                 self.run(line);
+                self.unshown = Some(part.line);
             } else if !self.is_passed_over(line) {
                 self.fault(number, format!("{line:?} is no command"));
             }
@@ -195,8 +242,10 @@ impl Checker {
         shell.args(["-c", command]).current_dir(self.folder.path()).stdin(Stdio::null());
         let output = shell.output().unwrap();
         let files = self.written().into_iter().filter(|file| !before.contains(file));
-        let files = files.map(|(path, _)| read(&path));
-        self.results = [output.stdout, output.stderr].into_iter().chain(files).collect();
+        let files = files.map(|(path, _)| (Kind::Written, read(&path)));
+        let said = [(Kind::Printed, output.stdout), (Kind::Said, output.stderr)];
+        self.results = said.into_iter().chain(files).collect();
+        self.has_run = true;
         self.commands += 1;
     }
 
@@ -209,17 +258,36 @@ impl Checker {
 
     /// What a listing can be a part of: the texts that are named and what stands beside them, and
     /// the results of the last command.
-    fn sources(&self) -> Vec<Vec<u8>> {
-        let endings = ["text", "out", "second", "report"];
-        let beside = |text: &String| endings.map(|ending| root().join(text).with_extension(ending));
-        let files = self.texts.iter().flat_map(beside).filter(|file| file.is_file());
-        files.map(|file| read(&file)).chain(self.results.iter().cloned()).collect()
+    fn sources(&self) -> Vec<(Kind, Vec<u8>)> {
+        let endings = [
+            ("text", Kind::Input),
+            ("lines", Kind::Input),
+            ("out", Kind::Printed),
+            ("second", Kind::Written),
+            ("report", Kind::Written),
+        ];
+        let beside =
+            |text: &String| endings.map(|(ending, kind)| (kind, root().join(text).with_extension(ending)));
+        let files = self.texts.iter().flat_map(beside).filter(|(_, file)| file.is_file());
+        files.map(|(kind, file)| (kind, read(&file))).chain(self.results.iter().cloned()).collect()
     }
 
     fn find_listing(&mut self, part: &Part) {
         self.listings += 1;
-        let sources = self.sources();
-        let found = sources.iter().map(|source| found_lines(&part.lines, source)).max();
+        self.unshown = None;
+        let mut sources = self.sources();
+        if let Some((word, whole)) = self.whole.take() {
+            sources.retain(|(kind, _)| *kind == whole);
+            // the results are the last ones
+            if self.has_run {
+                sources.retain(|source| self.results.contains(source));
+            }
+            if !sources.iter().any(|(_, source)| source == part.text_and_end().as_bytes()) {
+                self.fault(part.line, format!("this is not all, though it stands behind {word:?}"));
+                return;
+            }
+        }
+        let found = sources.iter().map(|(_, source)| found_lines(&part.lines, source)).max();
         match found {
             None => self.fault(part.line, "no example is named before this listing".to_string()),
             Some(found) if found < part.lines.len() => {
@@ -227,6 +295,13 @@ impl Checker {
                 self.fault(part.line + found, words);
             }
             Some(_) => {}
+        }
+    }
+
+    /// A block of commands whose results are not shown before another one, or at all.
+    fn ask_shown(&mut self) {
+        if let Some(line) = self.unshown.take() {
+            self.fault(line, "what these commands do is not shown".to_string());
         }
     }
 }
@@ -258,6 +333,33 @@ fn each_listing_of_the_other_documents_is_run() {
     assert!(readme.listings >= 1 && readme.commands >= 1);
     let numbers = check(&document(NUMBERS), Form::Numbers);
     assert_faultless(&numbers, NUMBERS);
+    assert!(numbers.listings >= 1 && numbers.commands >= 1);
+    let changed = document(NUMBERS).replace("`END 7 4 0`", "`END 7 5 0`");
+    assert_eq!(check(&changed, Form::Numbers).faults.len(), 1);
+}
+
+/// The rows of the guide's table of lines with the templates that catch them, by `./why`.
+#[test]
+fn the_table_of_lines_is_run() {
+    let guide = document(GUIDE);
+    let rows = table(&guide, "line");
+    assert!(rows.len() >= 7);
+    for row in &rows[1..] {
+        let mut why = call(root().join("why"));
+        why.current_dir(root()).args(["examples/guide/which.text", row[0].trim_matches('`')]);
+        let printed = String::from_utf8(why.output().unwrap().stdout).unwrap();
+        let shown: Vec<&str> = printed.lines().collect();
+        let (caught, pieces) = (shown[1], &shown[2..shown.len() - 1]);
+        if row[1] == "none" {
+            assert_eq!((caught, pieces.len(), row[2]), ("no template catches it", 0, ""), "{row:?}");
+            continue;
+        }
+        assert!(caught.ends_with(&format!(": {}", row[1].trim_matches('`'))), "{row:?}: {caught}");
+        let expected = row[2].split(" and ").map(|piece| piece.trim_matches('`').replace("empty", ""));
+        let expected: Vec<String> =
+            expected.zip(1..).map(|(piece, at)| format!("{at}: \"{piece}\"")).collect();
+        assert_eq!(pieces, expected, "{row:?}");
+    }
 }
 
 /// Every example that is made for the guide stands there.
@@ -437,7 +539,7 @@ fn a_part_of_an_example_is_found() {
     let named = [
         ("# Of `guide/outputs`", "outputs.text"),
         ("words (`guide/outputs`)", "outputs.out"),
-        ("`examples/guide/outputs.text` has", "outputs.second"),
+        ("`examples/guide/outputs.text` has this", "outputs.second"),
         ("`guide/usage` and `guide/outputs`", "usage.report"),
         ("`guide/usage` and `guide/outputs`", "outputs.second"),
     ];
@@ -484,46 +586,103 @@ fn what_the_last_command_did_is_found() {
         let document = |since: &[Part]| {
             written(&[std::slice::from_ref(&runs), since, &[listing_part(results)]].concat())
         };
-        assert_eq!(faults(&document(&[text_part("prints")])), [""; 0]);
-        let other =
-            [text_part("then"), listing_part(&["./why examples/guide/usage.text x"]), text_part("prints")];
+        assert_eq!(faults(&document(&[text_part("shows")])), [""; 0]);
+        let another = listing_part(&["./why examples/guide/usage.text x"]);
+        let other = [text_part("and"), listing_part(results), text_part("then"), another, text_part("shows")];
         assert_eq!(faults(&document(&other)).len(), 1, "{command:?}: another command was run since");
         for changed in CHANGES.into_iter().filter_map(|change| changed(results, change)) {
-            let document = written(&[runs.clone(), text_part("prints"), listing_part(&borrowed(&changed))]);
+            let document = written(&[runs.clone(), text_part("shows"), listing_part(&borrowed(&changed))]);
             assert_eq!(faults(&document).len(), 1, "{changed:?}");
         }
     }
 }
 
+/// Behind these words a listing is all of one result, and of no other.
 #[test]
-fn a_block_of_commands_has_no_other_lines() {
-    let block = ["./check examples/guide/first.text", "rt check", "examples/guide/first.text 0 4"];
-    let document = shown("words", &block);
-    let (line_4, line_5) =
-        ("line 4: \"rt check\" is no command", format!("line 5: {:?} is no command", block[2]));
-    assert_eq!(faults(&document), [line_4, &line_5]);
-    assert_eq!(check(&document, Form::Readme).faults, [line_5]);
-    assert_eq!(faults(&shown("words", &["./configure"])), ["line 3: \"./configure\" is no command"]);
-    assert_eq!(check(&shown("words", &["rt check"]), Form::Readme).faults, [""; 0]);
-    assert_eq!(faults(&shown("`guide/first`", &["rt check"])).len(), 1);
+fn a_whole_result_is_found() {
+    let command = "./expand examples/guide/usage.text -o names --report uses.csv";
+    let document = |word: &str, listing: &[&str]| {
+        written(&[listing_part(&[command]), text_part(word), listing_part(listing)])
+    };
+    let (output, report) =
+        (document_lines("examples/guide/usage.out"), document_lines("examples/guide/usage.report"));
+    let (names, end) = output.split_at(output.len() - 1);
+    let results = [("prints", vec![end]), ("has", vec![names, &report])];
+    for (word, wholes) in &results {
+        for lines in [end, names, &report] {
+            let lines: Vec<&str> = lines.iter().map(String::as_str).collect();
+            let is_whole = wholes.iter().any(|whole| *whole == lines);
+            assert_eq!(faults(&document(word, &lines)).is_empty(), is_whole, "{word} {lines:?}");
+            for part in [&lines[1..], &lines[..lines.len() - 1]].into_iter().filter(|part| !part.is_empty()) {
+                assert_eq!(faults(&document(word, part)).len(), 1, "{word} {part:?}");
+            }
+        }
+    }
+    let output: Vec<&str> = output.iter().map(String::as_str).collect();
+    assert_eq!(faults(&document("prints", &output)).len(), 1, "without -o it prints this");
+    let said = ["check: no such file cannot be read"];
+    let says =
+        |word| written(&[listing_part(&["./check 'no such file'"]), text_part(word), listing_part(&said)]);
+    assert_eq!(faults(&says("says")), [""; 0]);
+    assert_eq!(faults(&says("prints")).len(), 1);
 }
 
-/// Each listing of the guide, changed, is refused; where it cannot be changed it is left out.
+fn document_lines(path: &str) -> Vec<String> {
+    document(path).lines().map(str::to_string).collect()
+}
+
+#[test]
+fn what_a_command_does_is_to_be_shown() {
+    let runs = listing_part(&["./check examples/guide/first.text"]);
+    let line_1 = ["line 1: what these commands do is not shown"];
+    assert_eq!(faults(&written(&[runs.clone()])), line_1);
+    let shown = listing_part(&["examples/guide/first.text 0 4"]);
+    assert_eq!(
+        faults(&written(&[runs.clone(), text_part("then"), runs.clone(), text_part("prints"), shown])),
+        line_1
+    );
+}
+
+#[test]
+fn a_listing_is_indented_by_four_blanks() {
+    for line in ["```", "   three", "\ttab", " one"] {
+        let words = [text_part("words"), text_part(line)];
+        assert_eq!(faults(&written(&words)), ["line 3: a listing is indented by four blanks"], "{line}");
+    }
+}
+
+#[test]
+fn a_block_of_commands_has_no_other_lines() {
+    let block = ["./check examples/guide/first.text", "rt run", "examples/guide/first.text 0 4"];
+    let document = shown("words", &block);
+    let (line_4, line_5) =
+        ("line 4: \"rt run\" is no command", format!("line 5: {:?} is no command", block[2]));
+    let line_3 = "line 3: what these commands do is not shown";
+    assert_eq!(faults(&document), [line_4, &line_5, line_3]);
+    assert_eq!(check(&document, Form::Readme).faults, [&line_5, line_3]);
+    assert_eq!(faults(&shown("words", &["./configure"])), ["line 3: \"./configure\" is no command"]);
+    assert_eq!(check(&shown("words", &["rt run"]), Form::Readme).faults, [""; 0]);
+    assert_eq!(faults(&shown("`guide/first`", &["rt run"])).len(), 1);
+}
+
+/// Each listing of the guide that can be changed is refused then.
 #[test]
 fn a_changed_guide_is_refused() {
     let guide = document(GUIDE);
     for change in CHANGES {
         let parts = parts(&guide);
-        let is_kept = |part: &Part| !part.is_listing || part.lines[0].starts_with("./");
-        let changed: Vec<Option<Vec<String>>> =
-            parts.iter().map(|part| changed(&part.lines, change)).collect();
-        let all = parts.iter().zip(&changed).filter_map(|(part, changed)| match changed {
-            _ if is_kept(part) => Some(part.clone()),
-            Some(lines) => Some(listing_part(&borrowed(lines))),
-            None => None,
+        let can_change = |part: &&Part| part.is_listing && !part.has_commands();
+        let changed: Vec<Option<Vec<String>>> = parts
+            .iter()
+            .map(|part| Some(part).filter(can_change).and_then(|part| changed(&part.lines, change)))
+            .collect();
+        let all = parts.iter().zip(&changed).map(|(part, changed)| match changed {
+            Some(lines) => listing_part(&borrowed(lines)),
+            None => part.clone(),
         });
         let checker = check(&written(&all.collect::<Vec<Part>>()), Form::Guide);
-        assert!(checker.listings >= 25);
-        assert_eq!(checker.faults.len(), checker.listings, "{}", checker.faults.join("\n"));
+        let count = changed.iter().flatten().count();
+        assert!(count >= 25);
+        assert_eq!(checker.faults.len(), count, "{}", checker.faults.join("\n"));
     }
 }

@@ -42,14 +42,26 @@ const CHOSEN: &[u8] = b"$!$!0 (+-*/)\nA!$ a remark\n$\n!=!$\n$\n!,!,!,!,!,!,!,!,
 
 /// Lines to fit, with a bar between two.
 const CHOSEN_LINES: &str = "|A|A | A| A |  | |=|a=b|(=)=|,,,,,,,,|1,2,3,4,5,6,7,8,9|a,,,,,,,,(,)|-|--|-A|-n|--help|\
-    %s%s*\\|*|\"\"|\"x\"|'|A'\"'|$|A$B|$HOME|$(ls)|`ls`|A\tB\r|A\u{1}\u{7F}|\u{FEFF}=x|A\u{FEFF}|\u{E9}|A\u{E9}|\
+    %s%s*\\|*|\"\"|\"x\"|'|A'\"'|$|A$B|$HOME|$(ls)|`ls`|A\tB\r|A\u{1}\u{7F}|\u{FEFF}=x|A\u{FEFF}|A\u{80}\u{9F}\u{A0}\u{A1}\u{AC}\u{AD}\u{AE}|\
+    A\u{1FFF}\u{2000}\u{200F}\u{2010}\u{2027}\u{2028}\u{202F}\u{2030}|A\u{2FF}\u{300}\u{33F}\u{340}\u{36F}\u{370}\u{7FF}\u{800}\u{FFFF}\u{10000}\u{10FFFF}|A\u{205E}\u{205F}\u{206F}\u{2070}\u{2FFF}\u{3000}\u{3001}|\u{E9}|A\u{E9}|\
     \\n|A\\|&|;|a=b=c|!|!10";
 
 #[test]
 fn why_explains_chosen_lines() {
     let folder = Folder::new("chosen");
     let text = PathBuf::from(folder.write("text", CHOSEN));
-    let bytes: [&[u8]; 3] = [b"\xFF=\x80", b"\xC3x\xA9", b"\xC3"];
+    let bytes: [&[u8]; 10] = [
+        b"\xFF=\x80",
+        b"\xC3x\xA9",
+        b"\xC3",
+        b"A\xC2",
+        b"A\xE2\x80",
+        b"A\xE2\xC2\xA0\xE2\x80=",
+        b"A\xC1\xBF\xC2\xBF\xC0\x80\xF5\x80\x80\x80",
+        b"A\xE0\x9F\xBF\xE0\xA0\x80\xED\x9F\xBF\xED\xA0\x80",
+        b"A\xF0\x8F\xBF\xBF\xF0\x90\x80\x80\xF4\x8F\xBF\xBF\xF4\x90\x80\x80",
+        b"A\xE9=Caf\xE9",
+    ];
     for line in CHOSEN_LINES.split('|').map(str::as_bytes).chain(bytes) {
         assert_explained(CHOSEN, &why_arguments(&text, line), line);
     }
@@ -69,6 +81,28 @@ fn an_explanation_to_the_letter() {
     assert_eq!(printed(b""), "line: \"\"\ncaught by line 8: \nplaces 2, bytes 0\n");
     let none = "line: \"\\tx\"\nno template catches it\nplaces ";
     assert!(printed(b"\tx").starts_with(none), "{}", printed(b"\tx"));
+}
+
+/// A template with bytes that cannot be seen.
+#[test]
+fn the_template_is_shown() {
+    let text = b"$!$!0 (+-*/)\n\tA!\r\n$\n\x7F!\x01$ a remark\n$$\n";
+    let folder = Folder::new("template");
+    let path = PathBuf::from(folder.write("text", text));
+    for line in [&b"\tAx\r"[..], b"\x7Fx\x01"] {
+        assert_explained(text, &why_arguments(&path, line), line);
+    }
+    let printed = called(&command("why"), &why_arguments(&path, b"\tAx\r")).stdout;
+    assert!(printed.starts_with(b"line: \"\\tAx\\r\"\ncaught by line 2: \\tA!\\r\n1: \"x\"\n"));
+}
+
+/// The text may be one that can be read once, or has no end.
+#[test]
+fn why_takes_what_can_be_read_once() {
+    let piped = pipe("why-command.pipe", TEXT);
+    assert_usual(&called(&command("why"), &usual("why", &piped)), "why", &piped, "a pipe");
+    let endless = called(&command("why"), &["/dev/zero", "x"]);
+    assert_answer(&endless, 2, b"", &message("why", 2, 0, b""), "an endless file");
 }
 
 /// Lines of 200 bytes, of more, and of more than the program reads. No line of the text is named.

@@ -1,6 +1,11 @@
 /* Expands one text with the library, and prints both outputs, the answer, the stored names and the usage report.
  *
- *     tools/build api
+ * In a package:
+ *
+ *     cc -Iinclude examples/link/expand.c lib/libstage2.a -o expand_c
+ *
+ * In the repository, after `tools/build api`:
+ *
  *     cc -Iinclude examples/link/expand.c target/staticlib/libapi.a -o expand_c
  */
 #include <stdio.h>

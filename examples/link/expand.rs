@@ -1,6 +1,11 @@
 //! Expands one text with the library, and prints both outputs, the answer, the stored names and the usage report.
 //!
-//!     tools/build api
+//! In a package:
+//!
+//!     rustc -O -L lib -l static=stage2 examples/link/expand.rs -o expand_rust
+//!
+//! In the repository, after `tools/build api`:
+//!
 //!     rustc -O -L target/staticlib -l static=api examples/link/expand.rs -o expand_rust
 
 use std::io::{stdout, Write};

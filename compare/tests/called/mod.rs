@@ -41,7 +41,8 @@ pub fn command(name: &str) -> PathBuf {
 /// What a call answers, with these bytes on standard input.
 pub fn answered(call: &mut Command, input: &[u8]) -> Output {
     let pipes = call.stdin(Stdio::piped()).stdout(Stdio::piped()).stderr(Stdio::piped());
-    let mut child = pipes.spawn().unwrap_or_else(|_| panic!("{call:?} cannot be run: run `tools/build` first"));
+    let mut child =
+        pipes.spawn().unwrap_or_else(|_| panic!("{call:?} cannot be run: run `tools/build` first"));
     // a program that does not read its input may have closed it
     let _ = child.stdin.take().unwrap().write_all(input);
     child.wait_with_output().unwrap()
@@ -65,6 +66,19 @@ pub fn redirected<S: AsRef<OsStr>>(path: &Path, arguments: &[S], how: &str) -> O
     let script = format!("\"$0\" \"$@\" {how}");
     let mut shell = call("sh");
     shell.arg("-c").arg(script).arg(path).args(arguments).stdin(Stdio::null()).output().unwrap()
+}
+
+/// What a shell's script answers in this folder, with a command and a text as $0 and $1 and an empty
+/// folder `temporary` for temporary files, which is empty again after it.
+pub fn scripted(folder: &Folder, command_name: &str, script: &str) -> Output {
+    let temporary = folder.path().join("temporary");
+    fs::create_dir_all(&temporary).unwrap();
+    let mut shell = call("sh");
+    shell.args(["-c", script]).arg(command(command_name)).args(usual(command_name, "text"));
+    let output = answered(shell.current_dir(folder.path()).env("TMPDIR", &temporary), b"");
+    let left = fs::read_dir(&temporary).unwrap().count();
+    assert_eq!(left, 0, "{command_name} leaves temporary files by {script}");
+    output
 }
 
 /// What a call says on standard error, where it prints nothing.
@@ -138,29 +152,47 @@ pub fn message(name: &str, number: u64, line: u64, text: &[u8]) -> Vec<u8> {
     said
 }
 
-/// A line as it is shown: at most 200 bytes of it, with what cannot be seen as an escape.
+/// A line as it is shown: at most 200 bytes of it, with what cannot be seen, or not be told apart, as
+/// escapes.
 pub fn shown(line: &[u8]) -> Vec<u8> {
     let end = shown_length(line);
-    let (front, rest) = match line[..end].strip_prefix(b"\xEF\xBB\xBF") {
-        Some(rest) => (&br"\357\273\277"[..], rest),
-        None => (&b""[..], &line[..end]),
-    };
     let more = if end < line.len() { &b" .."[..] } else { b"" };
-    [front, &rest.iter().flat_map(|byte| escaped(*byte)).collect::<Vec<u8>>(), more].concat()
+    let parts = line[..end]
+        .utf8_chunks()
+        .flat_map(|chunk| chunk.valid().chars().flat_map(escaped).chain(octal(chunk.invalid())));
+    parts.chain(more.iter().copied()).collect()
 }
 
-/// How many bytes of a line are shown, so that no character is cut in two.
+pub fn octal(bytes: &[u8]) -> Vec<u8> {
+    bytes.iter().flat_map(|byte| format!("\\{byte:03o}").into_bytes()).collect()
+}
+
+/// How many bytes of a line are shown, so that no character is cut in two; it has at most four.
 pub fn shown_length(line: &[u8]) -> usize {
     let begins_character = |end: &usize| line.get(*end).is_none_or(|byte| byte & 0xC0 != 0x80);
-    (0..=line.len().min(200)).rev().find(begins_character).unwrap_or(0)
+    if line.len() <= 200 {
+        return line.len();
+    }
+    (196..=200).rev().find(begins_character).unwrap_or(196)
 }
 
-pub fn escaped(byte: u8) -> Vec<u8> {
-    match byte {
-        b'\r' => br"\r".to_vec(),
-        b'\t' => br"\t".to_vec(),
-        0..32 | 127 => format!("\\{byte:03o}").into_bytes(),
-        _ => vec![byte],
+/// A character as it is shown: one that cannot be seen, and a combining accent, as the octal numbers of
+/// its bytes.
+pub fn escaped(character: char) -> Vec<u8> {
+    let shown = character.to_string();
+    match character {
+        '\r' => br"\r".to_vec(),
+        '\t' => br"\t".to_vec(),
+        '\0'..' '
+        | '\u{7F}'..='\u{A0}'
+        | '\u{AD}'
+        | '\u{300}'..='\u{36F}'
+        | '\u{2000}'..='\u{200F}'
+        | '\u{2028}'..='\u{202F}'
+        | '\u{205F}'..='\u{206F}'
+        | '\u{3000}'
+        | '\u{FEFF}' => octal(shown.as_bytes()),
+        _ => shown.into_bytes(),
     }
 }
 
