@@ -9,7 +9,7 @@ ghost use Rattle.model.specs.Limits.{fuel_most};
 
 use store::Store;
 
-#[derive(Drop)]
+#[derive(Clone, Copy)]
 pub struct State {
     // where the input left starts in the text
     pub at: usize,

@@ -9,7 +9,7 @@ use Rattle.store.specs.Memory.{held, Kept}
 use Rattle.store.specs.Seek.{Found, SeeksName}
 use Rattle.store.specs.Names.{Names, GetsText}
 use Rattle.store.specs.declared.Index.{Index}
-use Rattle.store.proofs.Packed.{filled}
+use Rattle.store.specs.Filled.{filled}
 
 module _ {m : List ℕ} {x : Index} {es : Names} (k : Kept m x) (v : held x.count m ≡ es) where
   -- as many names as entries

@@ -4,6 +4,7 @@ pub mod Seeking
 pub mod Packed
 pub mod Placed
 pub mod Holding
+pub mod Cleared
 pub mod Replaced
 pub mod Appended
 pub mod Writing

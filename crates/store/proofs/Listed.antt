@@ -12,7 +12,8 @@ use Rattle.store.specs.Memory.{held, Kept}
 use Rattle.store.specs.List.{each, WritesEach, ClosesNames, Lists}
 use Rattle.store.specs.declared.Index.{Index}
 use Rattle.store.specs.declared.Part.TheVariants.{Name, Text}
-use Rattle.store.proofs.Packed.{size-packed, filled}
+use Rattle.store.specs.Filled.{filled}
+use Rattle.store.proofs.Packed.{size-packed}
 
 -- ---- names and texts as `each` has them
 

@@ -15,7 +15,8 @@ use Rattle.store.specs.Memory.{held, packed, Kept}
 use Rattle.store.specs.Seek.{Place, place_in, Locates}
 use Rattle.store.specs.declared.Index.{Index}
 use Rattle.std.specs.Prelude.{Some, None}
-use Rattle.store.proofs.Packed.{packed_append, filled}
+use Rattle.store.specs.Filled.{filled}
+use Rattle.store.proofs.Packed.{packed_append}
 
 -- ---- among the entries
 

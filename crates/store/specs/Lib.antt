@@ -1,5 +1,7 @@
 -- What the contracts cite.
 pub mod Memory
+pub mod Filled
+pub mod Clean
 pub mod Seek
 pub mod Put
 pub mod List

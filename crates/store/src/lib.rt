@@ -1,16 +1,18 @@
 // Stored names and their texts, in memory of 8,704 bytes: 8,192 for names and texts, and two for the lengths of each
 // of 256 entries. An entry is a byte with the name's length, one with the text's, the name and the text. Entries stand in
 // the order in which their names were first stored, with nothing between them: so they are listed, and a map would want a heap.
+// The bytes behind them are 0: so the names and texts alone say what all of the memory is, and a store can be copied.
 #![tactic(auto)]
 
 mod names;
 
-ghost use Rattle.std.specs.Prelude.{◌≡◌, [], ◌+◌, ◌≤◌, ◌<◌, length, get_or, option_copied};
+ghost use Rattle.std.specs.Prelude.{◌≡◌, [], ◌+◌, ◌-◌, ◌≤◌, ◌<◌, length, get_or, replicate, option_copied};
 ghost use Rattle.store.specs.Memory.{held, Kept, Holds};
 ghost use Rattle.store.specs.Seek.{EntryAt, IsWithin, YieldsEntry, BeginsEntries, FindsEntry, Locates, SeeksName};
 ghost use Rattle.std.specs.Iterator.{at_most};
-ghost use Rattle.store.specs.Put.{Puts};
+ghost use Rattle.store.specs.Put.{Puts, StaysClean};
 ghost use Rattle.store.specs.List.{part_at, each, Marked, WritesEach, ClosesNames, Lists};
+ghost use Rattle.buffer.specs.Pasted.{Pasted};
 ghost use Rattle.model.specs.Limits.{store_least};
 ghost use Rattle.faults.specs.declared.RunFault.TheVariants.{FullStore};
 
@@ -150,6 +152,16 @@ fn seek<'a>(memory: &'a [u8], index: Index, name: &[u8]) -> Option<&'a [u8]>
     find_entry(memory, index, name).map(|entry| entry.text)
 }
 
+// The bytes from offset from up to offset to become 0. Where from is not below to, nothing changes.
+fn clear(memory: &mut [u8], from: usize, to: usize)
+    requires { to ≤ length memory.old }
+    ensures { Pasted memory.old from (replicate (to - from) 0) (to - from) memory.new }
+{
+    if from < to {
+        memory[from..to].fill(0);
+    }
+}
+
 // The text of the name whose entry begins at offset at is replaced. An Entry in its place would lend the memory that is changed.
 // name and text are slices of the caller's, here and below: as a type of at most 255 bytes each would be copied before it is stored.
 #[tactic(auto, using(crate::proofs::Placed::entry_used, crate::proofs::Placed::used_within))]
@@ -162,7 +174,8 @@ fn replace(
 ) -> Result<Index, Full>
     requires kept { Kept memory.old index × Locates memory.old index name.now (Some at) }
     requires text_len_bound { length text.now < 256 }
-    ensures { Puts memory.old index name.now text.now memory.new result }
+    ensures puts { Puts memory.old index name.now text.now memory.new result }
+    ensures clean { StaysClean memory.old index memory.new result }
 {
     let from = at + 2 + name.len();
     let next = from + usize::from(memory[at + 1]);
@@ -175,17 +188,18 @@ fn replace(
     buffer::copy(memory, from, text);
     // the `requires` says that it is below 256; what u8::try_from would refuse cannot be
     memory[at + 1] = text.len() as u8;
-    Ok(Index {
-        used: end + tail,
-        ..index
-    })
+    let used = end + tail;
+    // a shorter text leaves bytes behind the new end
+    clear(memory, used, index.used);
+    Ok(Index { used, ..index })
 }
 
 // A new name and its text come last.
 fn append_entry(memory: &mut [u8], index: Index, name: &[u8], text: &[u8]) -> Result<Index, Full>
     requires kept { Kept memory.old index × Locates memory.old index name.now None }
     requires name_len_bound { (length name.now < 256) × (length text.now < 256) }
-    ensures { Puts memory.old index name.now text.now memory.new result }
+    ensures puts { Puts memory.old index name.now text.now memory.new result }
+    ensures clean { StaysClean memory.old index memory.new result }
 {
     let Index { count, used } = index;
     if count == NAMES_MOST {
@@ -212,7 +226,8 @@ fn append_entry(memory: &mut [u8], index: Index, name: &[u8], text: &[u8]) -> Re
 fn put(memory: &mut [u8], index: Index, name: &[u8], text: &[u8]) -> Result<Index, Full>
     requires kept { Kept memory.old index }
     requires name_len_bound { (length name.now < 256) × (length text.now < 256) }
-    ensures { Puts memory.old index name.now text.now memory.new result }
+    ensures puts { Puts memory.old index name.now text.now memory.new result }
+    ensures clean { StaysClean memory.old index memory.new result }
 {
     let Some(Entry { at, .. }) = find_entry(memory, index, name) else {
         return append_entry(memory, index, name, text);

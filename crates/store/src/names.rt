@@ -8,7 +8,7 @@ use model::STORE_LEAST;
 use std::marker::Model;
 
 // Entries stand at the front of its 8,704 bytes, which are an array, since the library has no heap.
-#[derive(Drop)]
+#[derive(Clone, Copy)]
 pub struct Store {
     bytes: [u8; STORE_LEAST],
     entries: Index,
@@ -17,16 +17,23 @@ pub struct Store {
 impl Model for Store {
     ghost use Rattle.store.specs.Names.{Names};
     ghost use Rattle.store.specs.Memory.{held, Kept};
+    ghost use Rattle.store.specs.Clean.{Clean, memory_of, index_of, memory_back, index_back};
 
     ghost Value = { Names };
 
     ghost view = { λ s. held s.entries.count s.bytes };
 
-    ghost invariant = { λ s. Kept s.bytes s.entries };
+    ghost invariant = { λ s. Kept s.bytes s.entries × Clean s.bytes s.entries };
+
+    // names and texts give back all of the bytes, which a copy needs
+    ghost inverse = { λ es. record { bytes = memory_of es; entries = index_of es } };
+
+    ghost inverse_ok = { λ s h i. record { bytes = memory_back h.0 h.1 i; entries = index_back h.0 i } };
 }
 
 impl Store {
     // Nothing is stored.
+    #[tactic(auto, using(crate::proofs::Cleared::nothing_clean))]
     pub fn new() -> Store
         ensures { result ≡ [] }
     {
