@@ -8,7 +8,7 @@ ghost use Rattle.model.specs.Machine.{compares};
 ghost use Rattle.number.specs.Number.{Gives, WritesValue, step_value};
 ghost use Rattle.number.specs.Run.{DigitRun, Numerals, saturated};
 
-use model::{Comparison, DIGITS_MOST, Integer, Marks};
+use model::{Comparison, DIGITS_MOST, Integer, LARGEST, Marks};
 
 // What joins the next value to the value so far.
 // A step is a value and no closure: it is read from the text before the value that it joins, and the clauses say by it what comes of it.
@@ -109,6 +109,8 @@ pub fn read_number(s: &[u8]) -> Numeral<'_>
     ensures { Numerals s.now result }
 {
     let run = read_digits(s);
+    // std's test, here and in the steps, is against the end of the type: it is the largest value
+    prove!(LARGEST == Integer::MAX);
     Numeral {
         value: Integer::try_from(run.amount).ok(),
         rest: run.rest,
