@@ -192,14 +192,18 @@ pub record Passing (m : Marks) (text : Bytes) (at n i depth passed : ℕ) : Type
   pub within : i ≤ length text
   pub few : depth ≤ i
 
--- an answer's number is that of what it stands for
-passed-fault : (m : Marks) (text : Bytes) (at n : ℕ) (r : Result Passed RunFault) → RangedPassed text at n r → passed_fault r ≡ Machine.landing_fault (passed_of m text r)
-passed-fault m text at n (Ok (Landed p)) g = refl
-passed-fault m text at n (Ok (Beyond k)) g = refl
-passed-fault m text at n (Err fault) g = ap run_number g
+-- an answer's number is that of what it stands for, where a fault is a bad skip
+passed-fault : (m : Marks) (text : Bytes) (r : Result Passed RunFault) → ((f : RunFault) → r ≡ Err f → f ≡ BadSkip) → passed_fault r ≡ Machine.landing_fault (passed_of m text r)
+passed-fault m text (Ok (Landed p)) g = refl
+passed-fault m text (Ok (Beyond k)) g = refl
+passed-fault m text (Err fault) g = ap run_number (g fault refl)
+
+-- no other fault comes of a skip
+only_bad : (text : Bytes) (at n : ℕ) {r : Result Passed RunFault} {f : RunFault} → RangedPassed text at n r → r ≡ Err f → f ≡ BadSkip
+only_bad text at n g q = subst (λ (x : Result Passed RunFault). RangedPassed text at n x) q g
 
 passes : {m : Marks} {text : Bytes} {at n : ℕ} {r : Result Passed RunFault} → Machine.pass_over m n 0 (body_at m text at) ≡ passed_of m text r → RangedPassed text at n r → PassesOver m text at n r
-passes {m} {text} {at} {n} {r} e g = record { is = e; number = passed-fault m text at n r g ∙ ap Machine.landing_fault (sym e); ranged = g }
+passes {m} {text} {at} {n} {r} e g = record { is = e; number = passed-fault m text r (λ f q. only_bad text at n g q) ∙ ap Machine.landing_fault (sym e); ranged = g }
 
 module _ {m : Marks} {text : Bytes} {at n i depth passed : ℕ} (p : Passing m text at n i depth passed) where
   module _ (h : n ≤ passed) where
@@ -266,7 +270,7 @@ module _ {m : Marks} {text : Bytes} {at n : ℕ} {r : Result Passed RunFault} (s
 
   -- no fault but a bad skip
   pub bad_skip : {f : RunFault} → r ≡ Err f → f ≡ BadSkip
-  bad_skip q = subst (λ (x : Result Passed RunFault). RangedPassed text at n x) q s.ranged
+  bad_skip q = only_bad text at n s.ranged q
 
   pub landed_within : {p : ℕ} → r ≡ Ok (Landed p) → p ≤ length text
   landed_within q = (subst (λ (x : Result Passed RunFault). RangedPassed text at n x) q s.ranged).1
