@@ -51,7 +51,7 @@ pub record Partly (m : Marks) (code : Bytes) (c : Call) (s : State) (line : Text
   pub ahead : Ahead m code at
   pub keeps : Keeps s t
 
-module _ {m : Marks} {code : Bytes} {c : Call} {s : State} {line : Text} {u : State} {at : ℕ} (h : Partly m code c s line u at) {t : Token} (g : ReadsToken m code at t) where
+module _ {m : Marks} {code : Bytes} {c : Call} {s : State} {line : Text} {u : State} {at : ℕ} (h : Partly m code c s line u at) {t : Token} (g : ReadsToken m code at (eqb at 0) t) where
   -- the code line is at its end
   pub partly_ends : {k : Ending} → t ≡ Ends k → Builds m code c s line (Ok k) u
   unfolding carry_out build finish_built built_step effect Code.only

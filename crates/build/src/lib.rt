@@ -51,7 +51,7 @@ pub fn build_line(
     // where a part ends is found by reading it, so that the places are no range
     let mut at = 0;
     loop {
-        match code::read_token(m, code, at) {
+        match code::read_token(m, code, at, at == 0) {
             Token::Ends(ending) => return Ok(ending),
             Token::Has(part, end) => {
                 add_part(m, call, part, line, s)?;

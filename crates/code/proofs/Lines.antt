@@ -77,28 +77,28 @@ three s h =
     first_is s (omega arith) ∙ ap (λ t. get_or s 0 0 ∷ t) second
 
 -- what a line says from `at` on, by the slice's bytes
-parsed : (m : Marks) (line : Bytes) (at : ℕ) {s : Bytes} → here line at ≡ s → Code.parse m (eqb at 0) (drop at line) ≡ Code.parse m (eqb at 0) s
-parsed m line at e = ap (λ s. Code.parse m (eqb at 0) s) (sym (take_rest line at) ∙ e)
+parsed : (m : Marks) (line : Bytes) (at : ℕ) (first : Bool) {s : Bytes} → here line at ≡ s → Code.parse m first (drop at line) ≡ Code.parse m first s
+parsed m line at first e = ap (λ s. Code.parse m first s) (sym (take_rest line at) ∙ e)
 
-module _ {m : Marks} {line : Bytes} {at : ℕ} where
-  pub token_end : length (here line at) < 1 → ReadsToken m line at (Ends Offer)
+module _ {m : Marks} {line : Bytes} {at : ℕ} {first : Bool} where
+  pub token_end : length (here line at) < 1 → ReadsToken m line at first (Ends Offer)
   unfolding Code.parse
-  token_end h = record { is = parsed m line at (nil_from_length _ (omega arith)); ranged = tt }
+  token_end h = record { is = parsed m line at first (nil_from_length _ (omega arith)); ranged = tt }
 
-  pub token_byte : 1 ≤ length (here line at) → (get_or (here line at) 0 0 ≡ m.escape → ⊥) → ReadsToken m line at (Has (Byte (get_or (here line at) 0 0)) (at + 1))
+  pub token_byte : 1 ≤ length (here line at) → (get_or (here line at) 0 0 ≡ m.escape → ⊥) → ReadsToken m line at first (Has (Byte (get_or (here line at) 0 0)) (at + 1))
   token_byte h n =
       let k = long line at h (omega arith) in
       record {
-        is = parsed m line at (first_is _ h) ∙ parse_byte m (eqb at 0) _ _ (ne_eqb _ _ n)
+        is = parsed m line at first (first_is _ h) ∙ parse_byte m first _ _ (ne_eqb _ _ n)
             ∙ ap (λ s. Code.onto (Code.byte (get_or (here line at) 0 0)) (Code.parse m false s)) (behind line at 1);
         ranged = (tt, (omega arith, omega arith));
       }
 
-  pub token_short : at < length line → get_or line at 0 ≡ m.escape → length (here line at) < 3 → ReadsToken m line at (Ends Malformed)
+  pub token_short : at < length line → get_or line at 0 ≡ m.escape → length (here line at) < 3 → ReadsToken m line at first (Ends Malformed)
   token_short h e l =
       let k : 1 ≤ length (here line at) = omega (arith, length-drop at line, ap length (take_rest line at)) in
       record {
-        is = parsed m line at (first_is _ k) ∙ parse_short m (eqb at 0) _ _ (eq-eqb _ _ (leads line at ∙ e)) (omega (arith, length-drop 1 (here line at)));
+        is = parsed m line at first (first_is _ k) ∙ parse_short m first _ _ (eq-eqb _ _ (leads line at ∙ e)) (omega (arith, length-drop 1 (here line at)));
         ranged = tt;
       }
 
@@ -112,28 +112,25 @@ says_ranged None s = tt
 says_ranged (Some k) s = s.ranged
 
 -- the form after an escape, and the function where it is an F
-module _ (m : Marks) (line : Bytes) (at : ℕ) where
+module _ (m : Marks) (line : Bytes) (at : ℕ) (first : Bool) where
   abbrev form_here : Code.Form
-  form_here = Code.form m (eqb at 0) (get_or (here line at) 1 0) (get_or (here line at) 2 0) (drop (at + 3) line)
+  form_here = Code.form m first (get_or (here line at) 1 0) (get_or (here line at) 2 0) (drop (at + 3) line)
 
-  abbrev function_here : Bool → Code.Form
-  function_here first = Code.function m first (get_or (here line at) 2 0) (take (length (here line at) - 3) (drop 3 (here line at)))
+  abbrev function_here : Code.Form
+  function_here = Code.function m first (get_or (here line at) 2 0) (take (length (here line at) - 3) (drop 3 (here line at)))
 
-  function_is : (first : Bool) → get_or (here line at) 1 0 ≡ 70 → eqb at 0 ≡ first → form_here ≡ function_here first
+  function_is : get_or (here line at) 1 0 ≡ 70 → form_here ≡ function_here
   unfolding Code.form
-  function_is first w z =
-      when_true _ _ (eq-eqb _ _ w)
-      ∙ ap (λ x. Code.function m x (get_or (here line at) 2 0) (drop (at + 3) line)) z
-      ∙ ap (λ s. Code.function m first (get_or (here line at) 2 0) s) (sym (after line at))
+  function_is w = when_true _ _ (eq-eqb _ _ w) ∙ ap (λ s. Code.function m first (get_or (here line at) 2 0) s) (sym (after line at))
 
   module _ (l : 3 ≤ length (here line at)) (e : get_or line at 0 ≡ m.escape) where
-    form_is : {f : Code.Form} → form_here ≡ f → Code.parse m (eqb at 0) (drop at line) ≡ formed m (eqb at 0) f (drop (at + 3) line)
+    form_is : {f : Code.Form} → form_here ≡ f → Code.parse m first (drop at line) ≡ formed m first f (drop (at + 3) line)
     form_is q =
-        parsed m line at (three (here line at) l) ∙ parse-form m (eqb at 0) _ _ _ _ (eq-eqb _ _ (leads line at ∙ e))
-        ∙ ap (λ s. formed m (eqb at 0) (Code.form m (eqb at 0) (get_or (here line at) 1 0) (get_or (here line at) 2 0) s) s) (after line at)
-        ∙ ap (λ g. formed m (eqb at 0) g (drop (at + 3) line)) q
+        parsed m line at first (three (here line at) l) ∙ parse-form m first _ _ _ _ (eq-eqb _ _ (leads line at ∙ e))
+        ∙ ap (λ s. formed m first (Code.form m first (get_or (here line at) 1 0) (get_or (here line at) 2 0) s) s) (after line at)
+        ∙ ap (λ g. formed m first g (drop (at + 3) line)) q
 
-    token_formed : (f : Option Token) → Forms line (at + 3) form_here f → ReadsToken m line at (unwrap_or f (Ends Malformed))
+    token_formed : (f : Option Token) → Forms line (at + 3) form_here f → ReadsToken m line at first (unwrap_or f (Ends Malformed))
     token_formed None g = record { is = form_is g.is; ranged = tt }
     token_formed (Some (Ends k)) g = record { is = form_is g.is; ranged = g.ranged }
     token_formed (Some (Has p i)) g =
@@ -143,24 +140,23 @@ module _ (m : Marks) (line : Bytes) (at : ℕ) where
           ranged = (g.ranged.0, (omega (arith, g.ranged.1), omega (arith, g.ranged.1)));
         }
 
-    token_function : (first : Bool) → get_or (here line at) 1 0 ≡ 70 → eqb at 0 ≡ first → (f : Option Ending) {k : Ending} → Says line (function_here first) f → k ≡ unwrap_or f Malformed
-        → ReadsToken m line at (Ends k)
-    token_function first w z f s q =
-        subst (λ (x : Ending). ReadsToken m line at (Ends x)) (sym q) (record { is = form_is (function_is first w z ∙ s.is ∙ ap Code.ends (said_is line f)); ranged = says_ranged f s })
+    token_function : get_or (here line at) 1 0 ≡ 70 → (f : Option Ending) {k : Ending} → Says line function_here f → k ≡ unwrap_or f Malformed → ReadsToken m line at first (Ends k)
+    token_function w f s q =
+        subst (λ (x : Ending). ReadsToken m line at first (Ends x)) (sym q) (record { is = form_is (function_is w ∙ s.is ∙ ap Code.ends (said_is line f)); ranged = says_ranged f s })
 
-module _ {m : Marks} {line : Bytes} {at : ℕ} (l : 3 ≤ length (here line at)) (e : get_or line at 0 ≡ m.escape) where
-  pub token_form : {f : Option Token} {r : Token} → (at + 3 ≤ length line → Forms line (at + 3) (form_here m line at) f) → r ≡ unwrap_or f (Ends Malformed) → ReadsToken m line at r
-  token_form {f} g q = subst (λ (x : Token). ReadsToken m line at x) (sym q) (token_formed m line at l e f (g (long line at l (omega arith))))
+module _ {m : Marks} {line : Bytes} {at : ℕ} {first : Bool} (l : 3 ≤ length (here line at)) (e : get_or line at 0 ≡ m.escape) where
+  pub token_form : {f : Option Token} {r : Token} → (at + 3 ≤ length line → Forms line (at + 3) (form_here m line at first) f) → r ≡ unwrap_or f (Ends Malformed) → ReadsToken m line at first r
+  token_form {f} g q = subst (λ (x : Token). ReadsToken m line at first x) (sym q) (token_formed m line at first l e f (g (long line at l (omega arith))))
 
-  pub token_first : {f : Option Ending} {k : Ending} → get_or (here line at) 1 0 ≡ 70 → at ≡ 0 → Says line (function_here m line at true) f → k ≡ unwrap_or f Malformed → ReadsToken m line at (Ends k)
-  token_first {f} w z s q = token_function m line at l e true w (eq-eqb _ _ z) f s q
+  pub token_first : {f : Option Ending} {k : Ending} → get_or (here line at) 1 0 ≡ 70 → first ≡ true → Says line (function_here m line at true) f → k ≡ unwrap_or f Malformed → ReadsToken m line at first (Ends k)
+  token_first {f} {k} w z s q = subst (λ (b : Bool). ReadsToken m line at b (Ends k)) (sym z) (token_function m line at true l e w f s q)
 
-  pub token_later : {f : Option Ending} {k : Ending} → get_or (here line at) 1 0 ≡ 70 → (at ≡ 0 → ⊥) → Says line (function_here m line at false) f → k ≡ unwrap_or f Malformed → ReadsToken m line at (Ends k)
-  token_later {f} w z s q = token_function m line at l e false w (ne_eqb _ _ z) f s q
+  pub token_later : {f : Option Ending} {k : Ending} → get_or (here line at) 1 0 ≡ 70 → first ≡ false → Says line (function_here m line at false) f → k ≡ unwrap_or f Malformed → ReadsToken m line at first (Ends k)
+  token_later {f} {k} w z s q = subst (λ (b : Bool). ReadsToken m line at b (Ends k)) (sym z) (token_function m line at false l e w f s q)
 
 -- ---- what callers take from a token
 
-module _ {m : Marks} {line : Bytes} {at : ℕ} {r : Token} (s : ReadsToken m line at r) where
+module _ {m : Marks} {line : Bytes} {at : ℕ} {first : Bool} {r : Token} (s : ReadsToken m line at first r) where
   has_ranged : {p : Part} {e : ℕ} → r ≡ Has p e → RangedPart p × ((at < e) × (e ≤ length line))
   has_ranged q = subst (λ (x : Token). RangedToken line at x) q s.ranged
 
@@ -175,11 +171,11 @@ module _ {m : Marks} {line : Bytes} {at : ℕ} {r : Token} (s : ReadsToken m lin
   has_within q = (has_ranged q).1.1
 
   -- what the line says: what the token does, and the rest
-  pub says_ends : {k : Ending} → r ≡ Ends k → Code.parse m (eqb at 0) (drop at line) ≡ Code.only (ending_of line k)
+  pub says_ends : {k : Ending} → r ≡ Ends k → Code.parse m first (drop at line) ≡ Code.only (ending_of line k)
   says_ends q = s.is ∙ ap (λ x. token_code m line x) q
 
   -- the rest is no line's start
-  pub says_has : {p : Part} {e : ℕ} → r ≡ Has p e → Code.parse m (eqb at 0) (drop at line) ≡ Code.onto (part_of p) (Code.parse m (eqb e 0) (drop e line))
+  pub says_has : {p : Part} {e : ℕ} → r ≡ Has p e → Code.parse m first (drop at line) ≡ Code.onto (part_of p) (Code.parse m (eqb e 0) (drop e line))
   says_has {p} {e} q =
       let h = has_after q in
       s.is ∙ ap (λ x. token_code m line x) q ∙ ap (λ b. Code.onto (part_of p) (Code.parse m b (drop e line))) (sym (ne_eqb e 0 (λ z. omega arith)))
@@ -191,7 +187,7 @@ pub record Ahead (m : Marks) (line : Bytes) (at : ℕ) : Type 0 where
   pub is : (Code.parse m true line).ending ≡ (Code.parse m (eqb at 0) (drop at line)).ending
   pub within : at ≤ length line
 
-module _ {m : Marks} {line : Bytes} {at : ℕ} {r : Token} (a : Ahead m line at) (s : ReadsToken m line at r) where
+module _ {m : Marks} {line : Bytes} {at : ℕ} {r : Token} (a : Ahead m line at) (s : ReadsToken m line at (eqb at 0) r) where
   pub ahead_more : {p : Part} {e : ℕ} → r ≡ Has p e → Ahead m line e
   unfolding Code.onto
   ahead_more q = record { is = a.is ∙ ap (λ c. c.ending) (says_has s q); within = has_within s q }

@@ -1,5 +1,5 @@
 -- A token of a code line, as the model's values: a place of the line stands for what follows it.
-use Rattle.std.specs.Prelude.{◌≡◌, true, false, ℕ, ◌≤◌, ◌<◌, eqb, length, drop, Option, Some, None, IfSome}
+use Rattle.std.specs.Prelude.{◌≡◌, Bool, true, false, ℕ, ◌≤◌, ◌<◌, length, drop, Option, Some, None, IfSome}
 use Rattle.std.proofs.Math.Option as Math
 use Rattle.model.specs.Text.{Bytes}
 use Rattle.model.specs.Code as Code
@@ -105,9 +105,9 @@ pub record Forms (line : Bytes) (at : ℕ) (f : Code.Form) (r : Option Token) : 
   pub is : f ≡ form_of line r
   pub ranged : RangedForm line at r
 
--- r is what a code line says first from `at` on; at 0 it is the line's start
-pub record ReadsToken (m : Marks) (line : Bytes) (at : ℕ) (r : Token) : Type 0 where
-  pub is : Code.parse m (eqb at 0) (drop at line) ≡ token_code m line r
+-- r is what a code line says first from `at` on; `first`: it is the line's start
+pub record ReadsToken (m : Marks) (line : Bytes) (at : ℕ) (first : Bool) (r : Token) : Type 0 where
+  pub is : Code.parse m first (drop at line) ≡ token_code m line r
   pub ranged : RangedToken line at r
 
 -- r is how a code line ends

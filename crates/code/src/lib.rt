@@ -1,5 +1,5 @@
 // What a code line says, read token by token: bytes and conversions that build a line, then what is done at its end.
-// A place stays beside a code line, here and below: it tells the line's start, and an iteration keeps one as that of its delimiters.
+// A place stays beside a code line, here and below: an iteration keeps one as that of its delimiters, and a reader tells the line's start by it.
 // Marks and line come one by one: build, body and load have them so, and would make a struct of both for one call.
 // A parameter's number is a usize of 1 to 9, as in call: a type of its own would be made of the digit first.
 #![tactic(auto)]
@@ -167,12 +167,12 @@ fn read_form(a: u8, b: u8, at: usize) -> Option<Token>
 // What an escape at `at` of a code line begins. With these arms in read_token the compiled loop makes the slice for each byte, a plain one too.
 #[inline(always)]
 #[tactic(auto, using(crate::proofs::Lines::token_short))]
-fn read_escaped(m: Marks, line: &[u8], at: usize) -> Token
+fn read_escaped(m: Marks, line: &[u8], at: usize, first: bool) -> Token
     requires { (at < length line.now) × (get_or line.now at 0 ≡ m.escape) }
-    ensures { ReadsToken m line.now at result }
+    ensures { ReadsToken m line.now at first result }
 {
     match &line[at..] {
-        [_, b'F', b, rest @ ..] if at == 0 => {
+        [_, b'F', b, rest @ ..] if first => {
             Token::Ends(read_first_function(m, *b, rest).unwrap_or(Ending::Malformed))
         }
         [_, b'F', b, rest @ ..] => {
@@ -183,18 +183,18 @@ fn read_escaped(m: Marks, line: &[u8], at: usize) -> Token
     }
 }
 
-// What stands at `at` of a code line. It is compiled where it is called: most tokens are one byte, and a call for each costs more than the
-// byte that it reads.
+// What stands at `at` of a code line; `first`: it is the line's start. It is compiled where it is called: most tokens are one byte, and a call
+// for each costs more than the byte that it reads.
 #[inline(always)]
 #[tactic(auto, using(crate::proofs::Lines::token_end, crate::proofs::Lines::token_byte))]
-pub fn read_token(m: Marks, line: &[u8], at: usize) -> Token
+pub fn read_token(m: Marks, line: &[u8], at: usize, first: bool) -> Token
     requires { at ≤ length line.now }
-    ensures { ReadsToken m line.now at result }
+    ensures { ReadsToken m line.now at first result }
 {
     match &line[at..] {
         [] => Token::Ends(Ending::Offer),
         [x, ..] if *x != m.escape => Token::Has(Part::Byte(*x), at + 1),
-        _ => read_escaped(m, line, at),
+        _ => read_escaped(m, line, at, first),
     }
 }
 
@@ -206,7 +206,7 @@ pub fn read_ending(m: Marks, line: &[u8]) -> Ending
     // where a token ends is found by reading it, so that the places are no range
     let mut at = 0;
     loop {
-        match read_token(m, line, at) {
+        match read_token(m, line, at, at == 0) {
             Token::Ends(k) => return k,
             Token::Has(_, e) => at = e,
         }
