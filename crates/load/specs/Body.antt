@@ -29,9 +29,9 @@ pub record MacrosKept (l k : Loader) : Type 0 where
   pub table : k.table ≡ l.table
   pub nodes : k.nodes ≡ l.nodes
 
--- no code line ends the section
+-- no code line ends the section; after a fault the loader is as it was
 abbrev pub CodeKept : Loader → Loader → LineSeen → Type 0
-CodeKept l k (Err f) = Unit {0}
+CodeKept l k (Err f) = k ≡ l
 CodeKept l k (Ok None) = MacrosKept l k
 CodeKept l k (Ok (Some x)) = ⊥
 
@@ -40,10 +40,11 @@ pub record AddsCode (m : Marks) (l : Loader) (line : Bytes) (k : Loader) (r : Li
   pub is : (text : Bytes) → code_line (progress_of m text l) (up_to m.code line) (effect_here m (due l.next) (up_to m.code line)) ≡ seen_of m text k r
   pub kept : CodeKept l k r
 
+-- after a fault and at the section's end the loader is as it was
 abbrev pub EndKept : Marks → Loader → ℕ → ℕ → Loader → LineSeen → Type 0
-EndKept m l n next k (Err f) = Unit {0}
+EndKept m l n next k (Err f) = k ≡ l
 EndKept m l n next k (Ok None) = MacrosKept l k
-EndKept m l n next k (Ok (Some x)) = (k.table ≡ l.table) × (x ≡ record { line = n; marks = m; nodes = l.nodes; input = next })
+EndKept m l n next k (Ok (Some x)) = (k ≡ l) × (x ≡ record { line = n; marks = m; nodes = l.nodes; input = next })
 
 -- the end of a macro or of the section, line n, comes to r, and the loader l to k; `rest` is what follows the line's first byte
 pub record EndsMacro (m : Marks) (l : Loader) (n next : ℕ) (rest : Bytes) (k : Loader) (r : LineSeen) : Type 0 where

@@ -57,10 +57,11 @@ pub record LineIn (text : Bytes) (start : ℕ) (bytes : Bytes) (next : ℕ) : Ty
   pub is : bytes ≡ part text start (start + length bytes)
 
 -- the loader k that is left where line n, after which the next one starts at `next`, came to r; l was it before
+-- after a fault and at the section's end it is as it was
 abbrev pub Left : Marks → Bytes → Loader → ℕ → ℕ → Loader → LineSeen → Type 0
-Left m text l n next k (Err f) = Unit {0}
+Left m text l n next k (Err f) = k ≡ l
 Left m text l n next k (Ok None) = TableSound m text k
-Left m text l n next k (Ok (Some x)) = (k.table ≡ l.table) × (x ≡ record { line = n; marks = m; nodes = l.nodes; input = next })
+Left m text l n next k (Ok (Some x)) = (k ≡ l) × (x ≡ record { line = n; marks = m; nodes = l.nodes; input = next })
 
 -- line n has these bytes, and the next one starts at `next`: it comes to r, and the loader l to k
 pub record SeesLine (m : Marks) (text : Bytes) (l : Loader) (n : ℕ) (bytes : Bytes) (next : ℕ) (k : Loader) (r : LineSeen) : Type 0 where
