@@ -14,15 +14,17 @@ use Rattle.model.proofs.Nesting.{load-nested}
 use Rattle.model.proofs.Input.{text_short}
 use Rattle.nodes.specs.declared.Node.{Node}
 use Rattle.nodes.specs.SideBySide.{SideBySide, HoldsTree}
+use Rattle.macros.specs.declared.Table.{Table}
 use Rattle.macros.specs.Table.{templates_in, macros_in}
 use Rattle.macros.proofs.Entries.{macros-templates, templates_in_length}
 use Rattle.tree.specs.Built.{ReadyToBuild, Built, Builds}
-use Rattle.std.specs.Prelude.{Ok}
+use Rattle.std.specs.Prelude.{Ok, Err}
 use Rattle.load.specs.declared.Loaded.{Loaded}
+use Rattle.load.specs.declared.Refused.{Refused}
 use Rattle.load.specs.Answer.{loaded_of, Loads}
 use Rattle.load.proofs.Answer.{loads_counted, loads_nodes}
 use Rattle.prepare.specs.declared.Prepared.{Prepared}
-use Rattle.prepare.specs.Prepares.{HasTree, IsPrepared}
+use Rattle.prepare.specs.Prepares.{HasTree, IsPrepared, Prepares}
 
 module _ {text : Bytes} {t : Prepared} (h : Loads (load text) text t.table (Ok t.loaded)) where
   abbrev r : Loaded
@@ -75,6 +77,10 @@ module _ {text : Bytes} {t : Prepared} (h : Loads (load text) text t.table (Ok t
       let u = b.built r.marks refl in
       let e = built_counted row c b.within u in
       record { loads = h; has_tree = has_tree row (subst (λ (n : ℕ). n ≤ length row) e b.within) (subst (λ (n : ℕ). Built r.marks listed (take n row)) e u) }
+
+-- a text that is refused is prepared as refused, whatever the table and the row hold
+pub refused_text : {text : Bytes} (row : List Node) {t : Table} {f : Refused} → Loads (load text) text t (Err f) → Prepares text row (Err f)
+refused_text row h = h.is
 
 -- a prepared text has its tree in the row
 pub holds-tree : {text : Bytes} {row : List Node} {t : Prepared} → IsPrepared text row t → (u : Load.Loaded) → load text ≡ loaded u → HoldsTree u row
