@@ -20,9 +20,7 @@ use Rattle.buffer.specs.Written.{Written}
 use Rattle.buffer.proofs.Written.{written-length}
 use Rattle.state.specs.declared.State.{State}
 use Rattle.state.specs.State.{state_of, Sound}
-use Rattle.faults.specs.declared.Fault.{Fault}
-use Rattle.faults.specs.declared.Fault.TheVariants.{Load}
-use Rattle.faults.specs.Numbers.{fault_number}
+use Rattle.faults.specs.Numbers.{load_number}
 use Rattle.load.specs.declared.Loaded.{Loaded}
 use Rattle.load.specs.declared.Refused.{Refused}
 use Rattle.std.specs.Prelude as Prelude
@@ -72,11 +70,11 @@ refuses {r = r} e =
     }
 
 -- a text that is refused
-pub refused_runs : (text : Bytes) (row : List Node) {t : Prelude.Result Prepared Refused} {f : Refused} (fuel : ℕ) {output second store report : Bytes} {g : Fault} {r : Ran} → Prepares text row t → t ≡ Err f
-    → g ≡ Load f.fault → r ≡ ran_as (no_run (fault_number g) f.line) → Runs (run fuel (rooms (length output) (length second)) (load text)) output second store report r output second store report
+pub refused_runs : (text : Bytes) (row : List Node) {t : Prelude.Result Prepared Refused} {f : Refused} (fuel : ℕ) {output second store report : Bytes} {k : ℕ} {r : Ran} → Prepares text row t → t ≡ Err f
+    → k ≡ load_number f.fault → r ≡ ran_as (no_run k f.line) → Runs (run fuel (rooms (length output) (length second)) (load text)) output second store report r output second store report
 unfolding run
 refused_runs text row {f = f} fuel {output = output} {second = second} p z n e =
-    same_runs (ap (run fuel (rooms (length output) (length second))) (sym (rw z at p))) (refuses (e ∙ ap (λ (g : Fault). ran_as (no_run (fault_number g) f.line)) n))
+    same_runs (ap (run fuel (rooms (length output) (length second))) (sym (rw z at p))) (refuses (e ∙ ap (λ (k : ℕ). ran_as (no_run k f.line)) n))
 
 -- ---- a text that is prepared is ready for its expansion
 

@@ -12,13 +12,12 @@ ghost use Rattle.model.specs.Machine.{rooms, no_run};
 ghost use Rattle.model.specs.Results.{ran_as};
 ghost use Rattle.prepare.specs.Prepares.{Prepares};
 ghost use Rattle.model.specs.Runs.{Runs};
-ghost use Rattle.faults.specs.Numbers.{fault_number};
 ghost use Rattle.answer.specs.Answers.{end_number};
 ghost use Rattle.run.specs.Inner.{ReadyToRun, start_of, EndsRun};
 ghost use Rattle.model.specs.Limits.{store_least, dead_least, report_least, fuel_most};
 
 use answer::Turn;
-use faults::{Fault, RunFault};
+use faults::RunFault;
 use input::expand_input;
 use load::{Loaded, Refused};
 use matching::Script;
@@ -30,14 +29,14 @@ use state::State;
 use store::Store;
 use usage::{COUNTS_SIZE, print_report};
 
-// A fault and its line; nothing is written. C callers read u64, of which From makes none of a count.
+// A number of document 01's table and a line; nothing is written. C callers read u64, of which From makes none of a count.
 // The zeroes stand by hand: `model`, which declares the type, has no function, and a derived Default would be one.
 #[tactic(auto, unfolding(model::specs::Results::ran_as, model::specs::Machine::no_output))]
-pub fn refuse(fault: Fault, line: usize) -> Ran
-    ensures { result ≡ ran_as (no_run (fault_number fault) line) }
+pub fn refuse(number: u64, line: usize) -> Ran
+    ensures { result ≡ ran_as (no_run number line) }
 {
     Ran {
-        number: fault.into(),
+        number,
         line: line as u64,
         events: 0,
         output: 0,

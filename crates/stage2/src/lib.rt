@@ -194,7 +194,7 @@ pub fn run(
         output.new second.new store.new report.new }
 {
     if is_illegal(fuel, nodes.len(), dead.len(), store.len(), report.len()) {
-        return refuse(Fault::Illegal, 0);
+        return refuse(Fault::Illegal.into(), 0);
     }
     let t = prepare(text, nodes);
     // `as`: fuel that is legal is at most 1,000,000, so that what usize::try_from would refuse cannot be
