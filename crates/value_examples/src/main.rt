@@ -3,6 +3,8 @@
 // them, and the ends of the range for each step and each kind of operand.
 #![tactic(auto)]
 
+ghost use Rattle.std.specs.Prelude.{◌≤◌, length};
+
 use model::{Integer, Marks};
 use std::io::{Read, Write};
 use store::Store;
@@ -68,9 +70,25 @@ fn run(output: &mut impl Write, text: &[u8]) {
     }
 }
 
+// Reads until buf is full, the input ends or a read fails, and answers how many bytes it put at the start of buf.
+// The loop stays: std's read_to_end takes a Vec, and where no heap is to be had it would leave the text empty without a word.
+fn read_full(input: &mut impl Read, buf: &mut [u8]) -> usize
+    ensures { result ≤ length buf.new }
+{
+    let mut done = 0;
+    while done < buf.len() {
+        let n = input.read(&mut buf[done..]).unwrap_or(0);
+        if n == 0 {
+            break;
+        }
+        done += n;
+    }
+    done
+}
+
 // The first 4,096 bytes of the input. Where a read fails, the input ends.
 fn main(rt: HostRuntime) {
-    let mut text = Vec::new(rt.alloc());
-    let _ = rt.stdin().take(4096).read_to_end(&mut text);
-    run(&mut rt.stdout(), &text);
+    let mut text = [0u8; 4096];
+    let n = read_full(&mut rt.stdin(), &mut text);
+    run(&mut rt.stdout(), &text[..n]);
 }
