@@ -27,8 +27,12 @@ impl<'a, E: Env> Arguments<'a, E> {
     fn says(&self, i: usize, what: Argument) -> bool
         ensures { IsTrue result → i < self.now.count }
     {
+        // no room is cleared for an argument that is missing
+        if self.count <= i {
+            return false;
+        }
         let mut space = [0u8; ARGUMENT_ROOM];
-        i < self.count && read_argument(arg(self.env, i, &mut space)) == what
+        read_argument(arg(self.env, i, &mut space)) == what
     }
 
     // Argument i, if it is a name.

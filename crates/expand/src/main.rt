@@ -5,7 +5,7 @@
 // on standard error.
 #![tactic(auto)]
 
-ghost use Rattle.std.specs.Prelude.{◌≡◌};
+ghost use Rattle.std.specs.Prelude.{◌≡◌, length};
 ghost use Rattle.model.specs.Printed.{expand_prints, expand_writes, expand_reports};
 ghost use Rattle.expand.specs.Room.{room_for};
 
@@ -66,23 +66,38 @@ fn write_report<F: Write + Drop>(
 
 // ---- a text
 
-// Nothing is printed before the files are written. Where there is no file for channel 4 it has no room, so that nothing which is written
-// there is lost in silence.
+// With the room that channel 4 has. Nothing is printed before the files are written.
 // The rooms are arrays, as all buffers of the programs (source); what is shown of each is a count, as print_run answers it, for its reason.
+fn expand_with<F: Write + Drop>(
+    output: &mut impl Write,
+    text: &[u8],
+    second: &mut [u8],
+    styles: Option<Target<F>>,
+    uses: Option<Target<F>>,
+) -> Result<(), Trouble>
+    requires { length second.old ≡ room_for styles }
+{
+    let mut out = [0u8; EXPAND_ROOM];
+    let mut report = [0u8; REPORT_LEAST];
+    let room = second.len();
+    let shown = print_run(text, &mut out, second, &mut report);
+    write_second(text, room, &second[..shown.second], styles)?;
+    write_report(text, room, &report[..shown.report], uses)?;
+    write_printed(output, text, room, &out[..shown.printed])
+}
+
+// Where there is no file for channel 4 it has no room, so that nothing which is written there is lost in silence; and none is cleared for it.
 fn expand_text<F: Write + Drop>(
     output: &mut impl Write,
     text: &[u8],
     styles: Option<Target<F>>,
     uses: Option<Target<F>>,
 ) -> Result<(), Trouble> {
-    let mut out = [0u8; EXPAND_ROOM];
-    let mut second = [0u8; TEXT_MOST];
-    let mut report = [0u8; REPORT_LEAST];
-    let room = if styles.is_some() { TEXT_MOST } else { 0 };
-    let shown = print_run(text, &mut out, &mut second[..room], &mut report);
-    write_second(text, room, &second[..shown.second], styles)?;
-    write_report(text, room, &report[..shown.report], uses)?;
-    write_printed(output, text, room, &out[..shown.printed])
+    if styles.is_some() {
+        let mut second = [0u8; TEXT_MOST];
+        return expand_with(output, text, &mut second, styles, uses);
+    }
+    expand_with(output, text, &mut [], styles, uses)
 }
 
 // A byte past the limit is read too, so that a text that is too large is seen to be. Nothing is run before the files are open.
