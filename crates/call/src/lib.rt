@@ -10,6 +10,7 @@ ghost use Rattle.call.specs.Params.{PiecesInside, Opens, Reads, Sets, Delimiter,
 ghost use Rattle.call.specs.Line.{Appends};
 ghost use Rattle.model.specs.Limits.{line_most, nesting_most};
 
+use buffer::copy;
 use faults::RunFault;
 use model::{LINE_MOST, NESTING_MOST, PLACEHOLDERS_MOST};
 
@@ -47,13 +48,13 @@ impl Text {
     }
 
     // It becomes another.
+    #[tactic(auto, using(crate::proofs::Line::holds_copied))]
     pub fn set(&mut self, bytes: &[u8])
         requires { length bytes.now ≤ line_most }
         ensures { Holds bytes.now self.new }
     {
-        let n = bytes.len();
-        self.bytes[..n].copy_from_slice(bytes);
-        self.len = n;
+        copy(&mut self.bytes, 0, bytes);
+        self.len = bytes.len();
     }
 
     // A part comes at its end, or it stays as it was where that would pass 200 bytes.
@@ -65,9 +66,8 @@ impl Text {
         if LINE_MOST - n < part.len() {
             return Err(RunFault::LongLine);
         }
-        let end = n + part.len();
-        self.bytes[n..end].copy_from_slice(part);
-        self.len = end;
+        copy(&mut self.bytes, n, part);
+        self.len = n + part.len();
         Ok(())
     }
 }
