@@ -9,7 +9,7 @@ use mir.Val.{Fits}
 use borrow.Author.Tests.{ltb-false, leb-true, leb-false, eqb-false, eq-eqb, ne_eqb}
 use lib.Dec.{eqb, leb, ltb}
 use lib.ListN.{length, get_or, set, take, drop, replicate, length-append, length-drop, drop_of_length-le}
-use lib.Seq.{take-length, take_at, drop-drop, length-take-le}
+use lib.Seq.{take-length, drop-drop, length-take-le}
 use borrow.Rule.Slice.PartMut.{mid_of, post_of, put_mid}
 use Rattle.std.specs.Prelude.{Option, Some, None, position}
 use Rattle.std.specs.Option.{unwrap_or}
@@ -18,7 +18,9 @@ use Rattle.model.specs.Text.{Bytes, part}
 use Rattle.model.specs.Machine.{Frame, param, field, fields}
 use Rattle.model.proofs.Choices.{when_true, when_false}
 use Rattle.model.proofs.Text.{part_length, part-rest}
+use Rattle.buffer.specs.Pasted.{Pasted}
 use Rattle.buffer.specs.Written.{Written}
+use Rattle.buffer.proofs.Pasted.{pasted_long, front_pasted}
 use Rattle.buffer.proofs.Written.{written_none, written-length, written-take, written-drop, written_store}
 use Rattle.call.specs.declared.Call.{Call}
 use Rattle.call.specs.Call.{frame_of}
@@ -70,17 +72,17 @@ pub reads_param : {c : Call} {d : ℕ} {s : Bytes} → Reads c d s → param_of 
 unfolding param
 reads_param r = r.is (record { source = 0; placeholder = 0; code = 0; escape = 0; blank = 0; left = 0; plus = 0; minus = 0; times = 0; divide = 0; right = 0 }) []
 
--- a parameter cut, or with blanks after it: a are the bytes that are copied, f those that are blanks
-pub fills_field : {blank : ℕ} {c : Call} {d len : ℕ} {s o a f : Bytes} → Reads c d s → len ≡ min (length s) (length o) → a ≡ take len s
-    → f ≡ replicate (length (mid_of len (length (a ++ drop len o) - len) (a ++ drop len o))) blank → FillsField blank c d o (put_mid len (length (a ++ drop len o) - len) (a ++ drop len o) f)
-fills_field {blank} {c} {d} {len} {s} {o} {a} {f} l e g h =
-    let x : Bytes = a ++ drop len o in
-    let n : length a ≡ len = ap (λ (y : Bytes). length y) g ∙ length-take-le len s (omega arith) in
-    let w : length x ≡ length o = omega (arith, length-append a (drop len o), length-drop len o) in
+-- a parameter cut, or with blanks after it: x is the field when its bytes are copied, f the blanks
+pub fills_field : {blank : ℕ} {c : Call} {d len : ℕ} {s o x f : Bytes} → Reads c d s → len ≡ min (length s) (length o) → Pasted o 0 (take len s) (length (take len s)) x
+    → f ≡ replicate (length (mid_of len (length x - len) x)) blank → FillsField blank c d o (put_mid len (length x - len) x f)
+fills_field {blank} {c} {d} {len} {s} {o} {x} {f} l e g h =
+    let n : length (take len s) ≡ len = length-take-le len s (omega arith) in
+    let w : length x ≡ length o = pasted_long g (omega arith) (omega arith) in
     let k : length (mid_of len (length x - len) x) ≡ length o - len = omega (arith, part_length x len (length x) (omega arith)) in
     let none : post_of len (length x - len) x ≡ [] = drop_of_length-le (drop len x) (omega (arith, length-drop len x)) in
+    let copied : take len x ≡ take len s = ap (λ (i : ℕ). take i x) (sym n) ∙ front_pasted g (omega arith) in
     record {
-      is = ap₂ (λ (y z : Bytes). y ++ z) (take_at a (drop len o) len n ∙ g) (ap (λ (y : Bytes). f ++ y) none ∙ append-nil f ∙ h ∙ ap (λ (i : ℕ). replicate i blank) k)
+      is = ap₂ (λ (y z : Bytes). y ++ z) copied (ap (λ (y : Bytes). f ++ y) none ∙ append-nil f ∙ h ∙ ap (λ (i : ℕ). replicate i blank) k)
           ∙ sym (ap (λ (y : Bytes). field blank (length o) y) (reads_param l) ∙ field_min blank (length o) len s e);
     }
 

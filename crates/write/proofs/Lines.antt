@@ -8,7 +8,7 @@ use native.Mathlib.Omega.{arith}
 use borrow.Author.Tests.{leb-true, leb-false}
 use borrow.Rule.Slice.PartMut.{mid_of, put_mid, put_same, take_put}
 use lib.ListN.{length, take, drop, set}
-use lib.Seq.{length-take-le}
+use lib.Seq.{length-take-le, take-length}
 use Rattle.std.specs.Prelude.{Result, Ok, Err}
 use mathlib.Core.Option as Math
 use Rattle.faults.specs.declared.RunFault.{RunFault}
@@ -20,7 +20,9 @@ use Rattle.model.specs.Text.{Bytes}
 use Rattle.model.specs.Report.{Tally}
 use Rattle.model.specs.Machine.{Outputs, outputs, Frame, Shared, continues, appended, with_first, with_second, wrote, goes_written, write_to, running, ended, state_with, stepped, passed, pass_through}
 use Rattle.model.proofs.Text.{part_length}
+use Rattle.buffer.specs.Pasted.{Pasted}
 use Rattle.buffer.specs.Written.{Written}
+use Rattle.buffer.proofs.Pasted.{pasted_long, front_pasted}
 use Rattle.buffer.proofs.Written.{written_store, written_none, written-length, written-take, written-drop}
 use Rattle.write.proofs.Fields.{written_behind}
 use Rattle.model.proofs.Choices.{when_true, when_false, false-not-true}
@@ -37,6 +39,12 @@ use Rattle.answer.proofs.Expansion.{skip-none}
 use Rattle.write.specs.Output.{has_room, Puts, has_room_on, Writes, PassesThrough, done_with}
 
 -- ---- one output
+
+-- a slice as long as a line becomes it, when the line is copied to its front
+pub line_copied : {l o o' : Bytes} → Pasted o 0 l (length l) o' → length o ≡ length l → o' ≡ l
+line_copied {l} {o} {o'} g h =
+    let e : length o' ≡ length l = pasted_long g (omega arith) (omega arith) ∙ h in
+    sym (take-length o') ∙ ap (λ (n : ℕ). take n o') e ∙ front_pasted g (omega arith)
 
 -- the front becomes a line, and a byte 10 comes after it
 pub puts_line : {l o f : Bytes} {n : ℕ} → n ≡ length l → n < length o → f ≡ l → Puts l o (Ok (n + 1)) (set (f ++ drop n o) n 10)

@@ -4,6 +4,7 @@ ghost use Rattle.std.specs.Prelude.{◌≡◌, ◌≤◌, ◌<◌, length};
 ghost use Rattle.write.specs.Layout.{layout_of, NamesField, run_length, FillsField, PutsPart};
 
 use super::Content;
+use buffer::copy;
 use call::Call;
 use model::Marks;
 
@@ -81,6 +82,6 @@ fn fill_field(blank: u8, call: &Call, d: usize, out: &mut [u8])
 {
     let param = call.param(d);
     let len = param.len().min(out.len());
-    out[..len].copy_from_slice(&param[..len]);
+    copy(out, 0, &param[..len]);
     out[len..].fill(blank);
 }

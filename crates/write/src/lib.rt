@@ -8,6 +8,7 @@ ghost use Rattle.model.specs.Text.{Bytes};
 
 mod layout;
 
+use buffer::copy;
 use faults::RunFault;
 pub use layout::Layout;
 use model::Channel;
@@ -40,8 +41,9 @@ impl<'a> Content for Line<'a> {
         self.bytes.len()
     }
 
+    #[tactic(auto, using(crate::proofs::Lines::line_copied))]
     fn fill(&self, out: &mut [u8]) {
-        out.copy_from_slice(self.bytes);
+        copy(out, 0, self.bytes);
     }
 }
 
