@@ -15,7 +15,7 @@ use Rattle.call.specs.declared.Kind.{Kind}
 use Rattle.call.specs.declared.Iteration.{Iteration}
 use Rattle.call.specs.declared.Call.{Call}
 use Rattle.call.specs.Call.{Holds, text_of, no_param, texts_of, delimiters_of}
-use Rattle.call.specs.Params.{Reads, Sets, with_delimiter, Delimits, Enters}
+use Rattle.call.specs.Params.{Reads, Sets, with_delimiter, Delimits, DelimitsParam, Enters}
 use Rattle.call.proofs.Loops.{loops_entered, placed_entered}
 
 -- ---- the parameters
@@ -50,14 +50,19 @@ module _ {c : Call} {d : ℕ} where
     placed = λ text p. record { number = p.number; next = p.next; depth = p.depth; iterations = p.iterations };
   }
 
-  pub delimits : {b : Option ℕ} → Delimits c d b (record c { params = set c.params (d - 1) (record (get_or c.params (d - 1) no_param) { delimiter = b }) })
-  unfolding with_delimiter
-  delimits {b} =
-      let q : Param = record (get_or c.params (d - 1) no_param) { delimiter = b } in
-      record {
-        frame = λ m text. rw (same_texts c.params (d - 1) q refl, set_delimiters c.params (d - 1) q refl) refl;
+  pub delimits : {b : Option ℕ} {q : Param} → DelimitsParam (get_or c.params (d - 1) no_param) b q → Delimits c d b (record c { params = set c.params (d - 1) q })
+  delimits h = h.call c d refl
+
+pub delimits_param : {p : Param} {b : Option ℕ} → DelimitsParam p b (record p { delimiter = b })
+unfolding with_delimiter
+delimits_param {p} {b} =
+    let q : Param = record p { delimiter = b } in
+    record {
+      call = λ c d e. record {
+        frame = λ m text. rw (same_texts c.params (d - 1) q (ap (λ (p : Param). p.text) (sym e)), set_delimiters c.params (d - 1) q refl) refl;
         placed = λ text p. record { number = p.number; next = p.next; depth = p.depth; iterations = p.iterations };
-      }
+      };
+    }
 
 -- ---- a new iteration
 

@@ -6,9 +6,10 @@ use Rattle.model.specs.Text.{Bytes, part}
 use Rattle.model.specs.Load.{body_at}
 use Rattle.model.specs.Machine.{Frame, param, with_param, resume_at}
 use Rattle.pass.specs.Pass.{delimiter_bytes}
+use Rattle.call.specs.declared.Param.{Param}
 use Rattle.call.specs.declared.Kind.{Kind}
 use Rattle.call.specs.declared.Call.{Call}
-use Rattle.call.specs.Call.{loop_by, frame_of, PlacedKind, Placed}
+use Rattle.call.specs.Call.{no_param, loop_by, frame_of, PlacedKind, Placed}
 
 -- a piece lies in the line, and is not too long
 pub record PieceInside (line : Bytes) (at len : ℕ) : Type 0 where
@@ -52,6 +53,10 @@ with_delimiter f d b = record { number = f.number; params = f.params; delimiters
 pub record Delimits (c : Call) (d : ℕ) (b : Option ℕ) (r : Call) : Type 0 where
   pub frame : (m : Marks) (text : Bytes) → frame_of m text r ≡ with_delimiter (frame_of m text c) d (delimiter_bytes b)
   pub placed : (text : Bytes) → Placed text c → Placed text r
+
+-- q is p with another latest delimiter, in whatever call and place it is the parameter
+pub record DelimitsParam (p : Param) (b : Option ℕ) (q : Param) : Type 0 where
+  pub call : (c : Call) (d : ℕ) → get_or c.params (d - 1) no_param ≡ p → Delimits c d b (record c { params = set c.params (d - 1) q })
 
 -- r is c, at place `next`
 pub record Moves (c : Call) (next : ℕ) (r : Call) : Type 0 where

@@ -6,7 +6,7 @@
 
 ghost use Rattle.std.specs.Prelude.{◌≡◌, ◌≤◌, ◌<◌, length};
 ghost use Rattle.call.specs.Call.{Holds, text_of};
-ghost use Rattle.call.specs.Params.{PiecesInside, Opens, Reads, Sets, Delimiter, Delimits, Moves, Enters};
+ghost use Rattle.call.specs.Params.{PiecesInside, Opens, Reads, Sets, Delimiter, Delimits, DelimitsParam, Moves, Enters};
 ghost use Rattle.call.specs.Line.{Appends};
 ghost use Rattle.model.specs.Limits.{line_most, nesting_most};
 
@@ -93,6 +93,16 @@ impl Param {
         ensures delimiter { self.new.delimiter ≡ self.old.delimiter }
     {
         self.text.set(bytes);
+    }
+
+    // It gets another latest delimiter; its text stays.
+    #[tactic(auto, using(crate::proofs::Calls::delimits_param))]
+    pub fn set_delimiter(&mut self, delimiter: Option<u8>)
+        ensures text { self.new.text ≡ self.old.text }
+        ensures delimiter { self.new.delimiter ≡ delimiter }
+        ensures call { DelimitsParam self.old delimiter self.new }
+    {
+        self.delimiter = delimiter;
     }
 }
 
@@ -214,7 +224,7 @@ impl Call {
         ensures { Delimits self.old d delimiter self.new }
     {
         let param = &mut self.params[d - 1];
-        param.delimiter = delimiter;
+        param.set_delimiter(delimiter);
     }
 
     // The call goes on at another code line.

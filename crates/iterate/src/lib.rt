@@ -26,7 +26,7 @@ fn set_piece(param: &mut Param, piece: &[u8], delimiter: Option<u8>)
     ensures delimiter { param.new.delimiter ≡ delimiter }
 {
     param.set(piece);
-    param.delimiter = delimiter;
+    param.set_delimiter(delimiter);
 }
 
 // An ed7 makes a pass over the rest of its line.
