@@ -1,15 +1,19 @@
 -- Outputs and states that follow one another.
-use mathlib.Core.Path.{◌≡◌, refl, sym, ap, ◌∙◌}
+use mathlib.Core.Path.{◌≡◌, refl, sym, ap, subst, ◌∙◌}
+use mathlib.Core.Bool.{false}
 use Prim.Native.Nat.{ℕ, ◌-◌, ◌+◌, ◌≤◌}
 use native.Mathlib.Omega.{arith}
 use lib.ListN.{length, take, drop}
 use lib.Seq.{take-take, drop-drop}
 use Rattle.model.specs.Text.{Bytes}
 use Rattle.model.specs.Machine.{rooms, Outputs}
+use Rattle.model.proofs.Choices.{false-not-true}
 use Rattle.state.specs.declared.State.{State}
 use Rattle.state.specs.State.{Sound}
-use Rattle.answer.specs.Answers.{rooms_of}
-use Rattle.answer.specs.Kept.{Extends, ExtendsBoth, Stays, Follows}
+use Rattle.call.specs.declared.Call.{Call}
+use Rattle.call.specs.Params.{Moves}
+use Rattle.answer.specs.Answers.{Answer, is_left, rooms_of}
+use Rattle.answer.specs.Kept.{Extends, ExtendsBoth, Stays, OnlyMoves, Follows}
 
 pub extends_none : {o : Bytes} {w : ℕ} → w ≤ length o → Extends o w o w
 extends_none h = record { front = refl; rest = refl; long = refl; more = omega arith; fits = h }
@@ -40,6 +44,17 @@ rooms_kept x = λ i. rooms (x.first.long i) (x.second.long i)
 
 pub stays_same : (s : State) → Stays s s
 stays_same s = record { from = omega arith; calls = refl; events = refl; fuel = refl }
+
+-- a call that stays as it was
+pub only_itself : {c : Call} {r : Answer} → OnlyMoves c r c
+only_itself = record { rest = refl; kept = λ _. refl }
+
+-- a call that goes on at another place
+pub only_moves : {c : Call} {n : ℕ} {r : Answer} {c' : Call} → Moves c n c' → is_left r ≡ false → OnlyMoves c r c'
+only_moves {c} moves e = record {
+  rest = subst (λ (x : Call). x ≡ record c { next = x.next }) (sym moves.is) refl;
+  kept = λ f. false-not-true (sym e ∙ f);
+}
 
 pub follows_itself : {text : Bytes} {s : State} {o : Outputs} → Sound text s o → Follows text s o s o
 follows_itself h = record { sound = h; from = omega arith; fuel = omega arith; extends = both_none h }

@@ -1,5 +1,5 @@
 -- What is kept from one answer to the next, and what a code line's answer is.
-use Rattle.std.specs.Prelude.{◌≡◌, List, ℕ, ◌≤◌, length, take, drop}
+use Rattle.std.specs.Prelude.{◌≡◌, true, List, ℕ, ◌≤◌, length, take, drop}
 use Rattle.std.proofs.Math.Option.{none}
 use Rattle.model.specs.Limits.{fuel_most}
 use Rattle.model.specs.declared.Marks.{Marks}
@@ -11,7 +11,7 @@ use Rattle.state.specs.declared.State.{State}
 use Rattle.state.specs.State.{Sound, state_of}
 use Rattle.call.specs.declared.Call.{Call}
 use Rattle.call.specs.Call.{frame_of, Placed}
-use Rattle.answer.specs.Answers.{Answer, settle, next_of}
+use Rattle.answer.specs.Answers.{Answer, is_left, settle, next_of}
 
 -- what was written to an output stays, and so does what lies beyond what is written now
 pub record Extends (o : Bytes) (w : ℕ) (o' : Bytes) (w' : ℕ) : Type 0 where
@@ -45,6 +45,11 @@ pub record Stays (s t : State) : Type 0 where
   pub calls : t.calls ≡ s.calls
   pub events : t.events ≡ s.events
   pub fuel : t.fuel ≡ s.fuel
+
+-- with the answer r the call c becomes c': only where its next code line starts may change, and that only where the call goes on
+pub record OnlyMoves (c : Call) (r : Answer) (c' : Call) : Type 0 where
+  pub rest : c' ≡ record c { next = c'.next }
+  pub kept : is_left r ≡ true → c' ≡ c
 
 -- r is what the step p comes to from the state s. A step has what calls share with it, so that of the state before only input, line, calls and events
 -- count.

@@ -4,6 +4,8 @@
 ghost use Rattle.std.specs.Prelude.{◌≡◌, Ok};
 ghost use Rattle.answer.specs.Answers.{is_left};
 
+use faults::RunFault;
+
 // What comes next where no fault ends the run. It is no Option or Result: each of the four is a way of its own.
 #[derive(Clone, Copy)]
 pub enum Turn {
@@ -23,5 +25,15 @@ impl Turn {
         ensures { result ≡ is_left (Ok self) }
     {
         matches!(self, Turn::Back(_) | Turn::Ends)
+    }
+}
+
+// Whether the call is left, or the run ends, by a fault too.
+pub fn is_left(answer: Result<Turn, RunFault>) -> bool
+    ensures { result ≡ is_left answer }
+{
+    match answer {
+        Ok(turn) => turn.is_left(),
+        Err(_) => true,
     }
 }

@@ -60,6 +60,7 @@ pub record DelimitsParam (p : Param) (b : Option ℕ) (q : Param) : Type 0 where
 
 -- r is c, at place `next`
 pub record Moves (c : Call) (next : ℕ) (r : Call) : Type 0 where
+  pub is : r ≡ record c { next = next }
   pub frame : (m : Marks) (text : Bytes) → frame_of m text r ≡ resume_at (frame_of m text c) (frame_of m text c).loops (body_at m text next)
   pub placed : (text : Bytes) → Placed text c → next ≤ length text → Placed text r
 

@@ -240,7 +240,8 @@ impl Call {
     #[tactic(auto, using(crate::proofs::Calls::enters))]
     pub fn enter(&mut self, kind: Kind)
         requires { self.old.depth < nesting_most }
-        ensures { Enters self.old kind self.new }
+        ensures enters { Enters self.old kind self.new }
+        ensures params { self.new.params ≡ self.old.params }
     {
         self.iterations[self.depth] = Iteration {
             after: self.next,

@@ -18,7 +18,7 @@ ghost use Rattle.answer.specs.Kept.{Open};
 ghost use Rattle.cycle_laws.specs.Meets.{Meets, Advances};
 ghost use Rattle.model.specs.Limits.{line_most, calls_most, dead_least};
 
-use answer::Turn;
+use answer::{Turn, is_left};
 use call::{Call, Text};
 use carry::step;
 use faults::RunFault;
@@ -76,11 +76,11 @@ fn body(
         depth s.old (outputs output.old second.old) counts.old result
         s.new (outputs output.new second.new) counts.new }
 {
-    // the turns are not counted: the last one is that after which the call is left
+    // the answers are not counted: the last one is that with which the call is left
     loop {
-        let turn = advance(script, dead, output, second, counts, &mut call, depth, s)?;
-        if turn.is_left() {
-            return Ok(turn);
+        let answer = advance(script, dead, output, second, counts, &mut call, depth, s);
+        if is_left(answer) {
+            return answer;
         }
     }
 }
@@ -118,6 +118,6 @@ fn advance(
         line.as_bytes(),
         depth + 1,
         s,
-    )?;
+    );
     land(&script.marked, call, offered)
 }

@@ -22,7 +22,7 @@ use Rattle.model.proofs.Frames.{NextOk}
 use Rattle.state.specs.declared.State.{State}
 use Rattle.state.specs.State.{state_of, Sound, counted_event, with_call}
 use Rattle.call.specs.declared.Call.{Call}
-use Rattle.call.specs.Call.{frame_of, Placed}
+use Rattle.call.specs.Call.{frame_of}
 use Rattle.fit.specs.declared.Choice.{Choice}
 use Rattle.fit.specs.declared.Reading.{Reading}
 use Rattle.fit.specs.Chosen.{Chooses}
@@ -58,8 +58,8 @@ module _ {v w : Basis} (e : v ≡ w) where
       → Steps v.marks v.text c s o b q s₁ c₁ o₁ → Steps w.marks w.text c s o b q s₁ c₁ o₁
   steps_by {c} {s} {o} {b} {q} {s₁} {c₁} {o₁} = subst (λ (u : Basis). Steps u.marks u.text c s o b q s₁ c₁ o₁) e
 
-  pub lands_by : {c : Call} {z : Turn} {a : Answer} {c₂ : Call} → LandsTurn v.marks v.text c z a c₂ → LandsTurn w.marks w.text c z a c₂
-  lands_by {c} {z} {a} {c₂} = subst (λ (u : Basis). LandsTurn u.marks u.text c z a c₂) e
+  pub lands_by : {c : Call} {r a : Answer} {c₂ : Call} → LandsTurn v.marks v.text c r a c₂ → LandsTurn w.marks w.text c r a c₂
+  lands_by {c} {r} {a} {c₂} = subst (λ (u : Basis). LandsTurn u.marks u.text c r a c₂) e
 
 -- ---- the states that follow one another
 
@@ -265,11 +265,12 @@ module _ {w : Basis} {c : Call} {s : State} {o : Outputs} {b : Bytes} {q : Answe
 
   module _ {depth : ℕ} {l : Bytes} {cs : List ℕ} {r : Answer} {s₂ : State} {o₂ : Outputs} {cs₂ : List ℕ} (e : is_offer q ≡ true) (el : l ≡ b)
       (p : Meets w (some l) [] (depth + 1) s₁ o₁ cs r s₂ o₂ cs₂) where
-    -- the line that it builds is offered, and comes to an answer in the call
-    advance_as : {a : Answer} {c₂ : Call} → is_offer a ≡ false → Placed w.text c₂
-        → ((fs : List Frame) (y : Tally) (line : Bytes) → next_of w.marks w.text (frame_of w.marks w.text c₁ ∷ fs) y r c₁ s₂ line o₂ ≡ next_of w.marks w.text fs y a c₂ s₂ line o₂)
-        → Advances w c depth s o cs a s₂ c₂ o₂ cs₂
-    advance_as {a} {c₂} settled placed same =
+    -- the line that it builds is offered, and what comes of it lands in the call
+    pub advance_lands : {a : Answer} {c₂ : Call} → LandsTurn w.marks w.text c₁ r a c₂ → Advances w c depth s o cs a s₂ c₂ o₂ cs₂
+    advance_lands {a} {c₂} k =
+        let placed = k.placed (offer_stays steps e).placed in
+        let same : (fs : List Frame) (y : Tally) (line : Bytes) → next_of w.marks w.text (frame_of w.marks w.text c₁ ∷ fs) y r c₁ s₂ line o₂ ≡ next_of w.marks w.text fs y a c₂ s₂ line o₂ =
+        λ fs y line. k.same p.left fs y line s₂ o₂ in
         let f = frame_of w.marks w.text c₁ in
         let y = no_lines [] in
         let ok : NextOk w.marks (next_of w.marks w.text [] y a c₂ s₂ [] o₂) =
@@ -277,7 +278,7 @@ module _ {w : Basis} {c : Call} {s : State} {o : Outputs} {b : Bytes} {q : Answe
         record {
           counted = p.counted;
           follows = follows_trans steps.follows p.follows;
-          settled = settled;
+          settled = k.settled p.left;
           less = λ _. omega (arith, p.follows.fuel, offer_less steps e);
           stays = λ g. record { placed = placed; nested = next-nested w.marks w.text a [] y c₂ s₂ [] o₂ ok g };
           same = λ t b' fs i line. steps.same t b'.marks fs (tally_in t cs)
@@ -288,18 +289,6 @@ module _ {w : Basis} {c : Call} {s : State} {o : Outputs} {b : Bytes} {q : Answe
               (rooms_kept steps.follows.extends) (p.same t b' (f ∷ fs) (ap suc i ∙ sym (add-one depth)) c₁ line)
               ∙ ap (comes_to s₂.fuel (rooms_of o) t) (same fs (tally_in t cs₂) line);
         }
-
-    -- a fault ends the run
-    pub advance_fails : {k : RunFault} {a : Answer} → r ≡ Err k → a ≡ Err k → Advances w c depth s o cs a s₂ c₁ o₂ cs₂
-    unfolding next_of
-    advance_fails {k} er ea = subst (λ (x : Answer). Advances w c depth s o cs x s₂ c₁ o₂ cs₂) (sym ea) (advance_as refl (offer_stays steps e).placed (λ fs y line. ap (λ (x : Answer). next_of w.marks w.text (frame_of w.marks w.text c₁ ∷ fs) y x c₁ s₂ line o₂) er))
-
-    -- what it comes to lands in the call
-    pub advance_lands : {z : Turn} {a : Answer} {c₂ : Call} → r ≡ Ok z → LandsTurn w.marks w.text c₁ z a c₂ → Advances w c depth s o cs a s₂ c₂ o₂ cs₂
-    advance_lands {z} er k =
-        let left : is_left (Ok z) ≡ true = sym (ap (λ (x : Answer). is_left x) er) ∙ p.left in
-        advance_as (k.settled left) (k.placed (offer_stays steps e).placed)
-        (λ fs y line. ap (λ (x : Answer). next_of w.marks w.text (frame_of w.marks w.text c₁ ∷ fs) y x c₁ s₂ line o₂) er ∙ k.same left fs y line s₂ o₂)
 
 -- ---- a body
 

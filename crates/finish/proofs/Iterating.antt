@@ -39,6 +39,8 @@ module _ {m : Marks} {text : Bytes} {c : Call} {line : Bytes} {s : State} {v : V
   repeats_fault {r = Err e} f g =
       let k = valued_none i f in
       record {
+        params = refl;
+        kept = refl;
         comes = λ o b p h. came_fault h p (ap (λ (e : RunFault). goes_on (Err e)) (g ∙ k.1))
             (ap (λ (x : Math.Option ℤ). start_repeat m x (frame_of m text c) (shared_of s o)) (a.is ∙ ap number_of k.0));
       }
@@ -49,6 +51,8 @@ module _ {m : Marks} {text : Bytes} {c : Call} {line : Bytes} {s : State} {v : V
       let k = valued_some i f in
       let h : StartsRepeat m text c z c' = subst (λ (z : ℤ). StartsRepeat m text c z c') (told_in z (subst InRange k a.fits)) g in
       record {
+        params = h.params;
+        kept = tt;
         comes = λ o b p e. came_on e (h.placed p) refl
             (ap (λ (x : Math.Option ℤ). start_repeat m x (frame_of m text c) (shared_of s o)) (a.is ∙ ap number_of k) ∙ h.step (shared_of s o));
       }

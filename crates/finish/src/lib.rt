@@ -22,7 +22,6 @@ use write::{Layout, write};
 
 // F1 at the line's start: the next code line is a layout, written in place of the line.
 // The outputs are no struct of two `&mut`: every function that is lent it would have to say that each is still the caller's reference (tried).
-#[tactic(auto, using(crate::proofs::Lines::no_layout, crate::proofs::Lines::writes_layout))]
 pub fn write_layout_line(
     marked: &Marked,
     ch: Channel,
@@ -39,13 +38,14 @@ pub fn write_layout_line(
     let Some(line) = marked.read_code(at) else {
         return Ok(());
     };
-    call.move_to(line.next);
     let layout = Layout {
         m: marked.marks,
         text: &marked.text[at..line.end],
         call,
     };
-    write(ch, &layout, output, second, s)
+    write(ch, &layout, output, second, s)?;
+    call.move_to(line.next);
+    Ok(())
 }
 
 // F3: parameter 2 is stored under parameter 1.

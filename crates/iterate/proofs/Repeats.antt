@@ -58,14 +58,16 @@ module _ {m : Marks} {text : Bytes} {c : Call} {v : ℤ} {n : ℕ} (f : SFits wi
         repeat_none m v g w (ap pass_count (sym (told f)) ∙ sym k.is ∙ omega arith)
         ∙ ap (λ (f : Frame). continues f w) (sym (q.frame m text ∙ ap (λ (cs : List Bytes). resume_at g g.loops cs) (sym o.is)));
     placed = λ p. q.placed text p o.within;
+    params = ap (λ (c : Call). c.params) q.is;
   }
 
-  pub repeat_begins : {left : ℕ} {r : Call} → (1 ≤ n) × (left ≡ n - 1) → Enters c (Kinds.Count left) r → StartsRepeat m text c v r
+  pub repeat_begins : {left : ℕ} {r : Call} → (1 ≤ n) × (left ≡ n - 1) → Enters c (Kinds.Count left) r → r.params ≡ c.params → StartsRepeat m text c v r
   unfolding start_repeat
-  repeat_begins {left} e q = record {
+  repeat_begins {left} e q params = record {
     step = λ w.
         let a = e.0 in
         let b = e.1 in
         repeat_some m v (frame_of m text c) w left (ap pass_count (sym (told f)) ∙ sym k.is ∙ omega arith) ∙ ap (λ (f : Frame). continues f w) (sym (q.frame m text));
     placed = λ p. q.placed text p tt;
+    params = params;
   }

@@ -86,3 +86,4 @@ pub record CountsPasses (v : ℤ) (r : ℕ) : Type 0 where
 pub record StartsRepeat (m : Marks) (text : Bytes) (c : Call) (v : ℤ) (c' : Call) : Type 0 where
   pub step : (w : Shared) → start_repeat m (some v) (frame_of m text c) w ≡ continues (frame_of m text c') w
   pub placed : Placed text c → Placed text c'
+  pub params : c'.params ≡ c.params

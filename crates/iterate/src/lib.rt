@@ -123,7 +123,6 @@ fn count_passes(v: Integer) -> usize
 }
 
 // eF7: so many passes; 0 or less skips past the matching eF8.
-#[tactic(auto, using(crate::proofs::Repeats::repeat_begins))]
 pub fn start_repeat(marked: &Marked, call: &mut Call, v: Integer)
     requires next_in_bounds { call.old.next ≤ length marked.now.text.now }
     requires depth_lt_nesting_most { call.old.depth < nesting_most }

@@ -1,4 +1,4 @@
--- Each way that a skip ends in a call, and each turn to a line that a call offered.
+-- Each way that a skip ends in a call, and each answer to a line that a call offered.
 use mathlib.Core.Path.{◌≡◌, refl, sym, ap, ◌∙◌, subst}
 use mathlib.Core.Logic.{◌⊎◌, inl, inr}
 use mathlib.Core.Bool.{false}
@@ -26,6 +26,7 @@ use Rattle.call.specs.Params.{Moves}
 use Rattle.answer.specs.declared.Turn.{Turn}
 use Rattle.answer.specs.declared.Turn.TheVariants.{Continues, Offers, Back, Ends}
 use Rattle.answer.specs.Answers.{Answer, is_left, settle, next_of}
+use Rattle.answer.proofs.Following.{only_itself, only_moves}
 use Rattle.answer.proofs.Expansion.{skip-same}
 use Rattle.landing.specs.Landing.{LandsSkip, LandsTurn}
 
@@ -45,6 +46,7 @@ module _ {m : Marks} {text : Bytes} {c : Call} {n : ℕ} {x : Result Passed RunF
   unfolding settle next_of skip_from state_with resume_at
   lands_on {i} {c'} z moves = record {
     settled = refl;
+    moves = only_moves moves refl;
     placed = λ h. moves.placed text h (landed_within p z);
     same = λ fs y line s o. skipped m text c n _ (passes_landed p z) s fs y o ∙ ap (λ (f : Frame). running (state_of text none (f ∷ fs) y s o)) (sym (moves.frame m text));
   }
@@ -52,42 +54,52 @@ module _ {m : Marks} {text : Bytes} {c : Call} {n : ℕ} {x : Result Passed RunF
   -- it goes past the body's end
   pub lands_beyond : {k : ℕ} → x ≡ Ok (Beyond k) → LandsSkip m text c n (Ok (Back k)) c
   unfolding next_of skip_from
-  lands_beyond z = record { settled = refl; placed = λ h. h; same = λ fs y line s o. skipped m text c n _ (passes_beyond p z) s fs y o }
+  lands_beyond z = record { settled = refl; moves = only_itself; placed = λ h. h; same = λ fs y line s o. skipped m text c n _ (passes_beyond p z) s fs y o }
 
   -- it ends inside an iteration
   pub lands_badly : {fault : RunFault} {r : Answer} → x ≡ Err fault → r ≡ Err fault → LandsSkip m text c n r c
   unfolding settle next_of skip_from state_with
   lands_badly q e = subst (λ (r : Answer). LandsSkip m text c n r c) (sym (e ∙ ap (λ (f : RunFault). Err f) (bad_skip p q))) record {
     settled = refl;
+    moves = only_itself;
     placed = λ h. h;
     same = λ fs y line s o. skipped m text c n _ (passes_bad p q) s fs y o;
   }
 
--- ---- a turn
+-- ---- an answer
 
 module _ {m : Marks} {text : Bytes} {c : Call} where
   -- what was offered is done with, and lines are skipped
-  pub turns_back : {n : ℕ} {a : Answer} {c' : Call} → LandsSkip m text c n a c' → LandsTurn m text c (Back n) a c'
+  pub turns_back : {r : Answer} {n : ℕ} {a : Answer} {c' : Call} → r ≡ Ok (Back n) → LandsSkip m text c n a c' → LandsTurn m text c r a c'
   unfolding next_of state_with
-  turns_back {n} h = record {
+  turns_back {n = n} {a} {c'} e h = subst (λ (r : Answer). LandsTurn m text c r a c') (sym e) record {
     settled = λ _. h.settled;
+    moves = h.moves;
     placed = h.placed;
     same = λ _ fs y line s o.
         let f = frame_of m text c in
         ap settle (skip-same m n (f ∷ fs) fs (shared_of s o) (shared_of s o) (state_of text none (f ∷ fs) y s o)) ∙ h.same fs y line s o;
   }
 
-  -- where the call goes on there is no turn to an offer
-  open_turn : {z : Turn} → is_left (Ok z) ≡ false → LandsTurn m text c z (Ok z) c
-  open_turn f = record { settled = λ g. false-not-true (sym f ∙ g); placed = λ h. h; same = λ g. false-not-true (sym f ∙ g) }
+  -- a fault ends the run
+  pub turns_fault : {r a : Answer} {fault : RunFault} → r ≡ Err fault → a ≡ Err fault → LandsTurn m text c r a c
+  unfolding next_of
+  turns_fault e f = rw (e, f) (record { settled = λ _. refl; moves = only_itself; placed = λ h. h; same = λ _ fs y line s o. refl })
+
+  -- where the call goes on there is no answer to an offer
+  open_turn : {r : Answer} → is_left r ≡ false → LandsTurn m text c r r c
+  open_turn f = record { settled = λ g. false-not-true (sym f ∙ g); moves = only_itself; placed = λ h. h; same = λ g. false-not-true (sym f ∙ g) }
 
   -- the run ends
-  ended_turn : LandsTurn m text c Ends (Ok Ends) c
+  ended_turn : LandsTurn m text c (Ok Ends) (Ok Ends) c
   unfolding next_of
-  ended_turn = record { settled = λ _. refl; placed = λ h. h; same = λ _ fs y line s o. refl }
+  ended_turn = record { settled = λ _. refl; moves = only_itself; placed = λ h. h; same = λ _ fs y line s o. refl }
 
-  -- any other turn ends the run, or leaves no call and is no turn to an offer
-  pub turns_else : {z : Turn} → (z ≡ Continues) ⊎ ((z ≡ Offers) ⊎ (z ≡ Ends)) → LandsTurn m text c z (Ok z) c
-  turns_else {z} (inl e) = open_turn (ap (λ (t : Turn). is_left (Ok t)) e)
-  turns_else {z} (inr (inl e)) = open_turn (ap (λ (t : Turn). is_left (Ok t)) e)
-  turns_else {z} (inr (inr e)) = subst (λ (t : Turn). LandsTurn m text c t (Ok t) c) (sym e) ended_turn
+  -- any other turn ends the run, or leaves no call and is no answer to an offer
+  pub turns_else : {r : Answer} {z : Turn} → r ≡ Ok z → (z ≡ Continues) ⊎ ((z ≡ Offers) ⊎ (z ≡ Ends)) → LandsTurn m text c r (Ok z) c
+  turns_else {z = z} e f = subst (λ (r : Answer). LandsTurn m text c r (Ok z) c) (sym e) (by f)
+    where
+      by : (z ≡ Continues) ⊎ ((z ≡ Offers) ⊎ (z ≡ Ends)) → LandsTurn m text c (Ok z) (Ok z) c
+      by (inl e) = open_turn (ap (λ (t : Turn). is_left (Ok t)) e)
+      by (inr (inl e)) = open_turn (ap (λ (t : Turn). is_left (Ok t)) e)
+      by (inr (inr e)) = subst (λ (t : Turn). LandsTurn m text c (Ok t) (Ok t) c) (sym e) ended_turn

@@ -1,4 +1,4 @@
-// Where a skip of lines ends in a call, and what a turn comes to in the call that offered a line (document 01, "Skips").
+// Where a skip of lines ends in a call, and what an answer comes to in the call that offered a line (document 01, "Skips").
 // Asked is that the call's place lies in the text: it is no fact of the type, since a call borrows no text.
 // marked and call are two parameters: a struct of them would hold a `&mut`, and each clause would name the call behind its field.
 #![tactic(auto)]
@@ -13,7 +13,7 @@ use faults::RunFault;
 use scan::Marked;
 
 // Skips n code lines of a call, and those past its end in its caller.
-#[tactic(auto, using(crate::proofs::Leaves::lands_on, crate::proofs::Leaves::lands_beyond))]
+#[tactic(auto, using(crate::proofs::Leaves::lands_beyond))]
 pub fn land_skip(marked: &Marked, call: &mut Call, n: usize) -> Result<Turn, RunFault>
     requires { call.old.next ≤ length marked.now.text.now }
     ensures { LandsSkip marked.now.marks marked.now.text.now call.old n result call.new }
@@ -27,12 +27,16 @@ pub fn land_skip(marked: &Marked, call: &mut Call, n: usize) -> Result<Turn, Run
     }
 }
 
-// What a turn to a line that a call offered comes to in that call.
-#[tactic(auto, using(crate::proofs::Leaves::turns_back, crate::proofs::Leaves::turns_else))]
-pub fn land(marked: &Marked, call: &mut Call, turn: Turn) -> Result<Turn, RunFault>
+// What the answer to a line that a call offered comes to in that call.
+pub fn land(
+    marked: &Marked,
+    call: &mut Call,
+    answer: Result<Turn, RunFault>,
+) -> Result<Turn, RunFault>
     requires { call.old.next ≤ length marked.now.text.now }
-    ensures { LandsTurn marked.now.marks marked.now.text.now call.old turn result call.new }
+    ensures { LandsTurn marked.now.marks marked.now.text.now call.old answer result call.new }
 {
+    let turn = answer?;
     match turn {
         Turn::Back(n) => land_skip(marked, call, n),
         Turn::Continues | Turn::Offers | Turn::Ends => Ok(turn),

@@ -28,7 +28,7 @@ use Rattle.faults.specs.declared.RunFault.TheVariants.{BadSkip, NoValue}
 use Rattle.answer.specs.declared.Turn.TheVariants.{Continues}
 use Rattle.answer.specs.Answers.{Answer}
 use Rattle.answer.specs.Kept.{Comes}
-use Rattle.answer.proofs.Following.{both_none, stays_same}
+use Rattle.answer.proofs.Following.{both_none, stays_same, only_itself}
 use Rattle.answer.proofs.Coming.{comes_as, came_on, came_fault}
 use Rattle.landing.specs.Landing.{LandsSkip}
 use Rattle.skip.specs.Skips.{SkipsLines, HasValue, ParamValue, Agrees, SkipsBy, SkipsIf, SkipsText, SkipsValue}
@@ -68,19 +68,20 @@ module _ {m : Marks} {text : Bytes} {c : Call} {v : ℤ} {r : Answer} {E : Type 
     where
       by : (v : ℤ) → SFits width v → ¬ FitsUnsignedBits 64 v → SkipsLines m text c v r c
       by (pos n) f h = absurd (h (omega (arith, f.sfits)))
-      by (negsuc n) f h = record { comes = λ s o b q i. came_fault i q g refl }
+      by (negsuc n) f h = record { moves = only_itself; comes = λ s o b q i. came_fault i q g refl }
 
   pub skips-lines : {n : ℕ} {c' : Call} → x ≡ Ok n → LandsSkip m text c n r c' → SkipsLines m text c v r c'
   unfolding skip_by
   skips-lines {n} {c'} z l = by v (subst (λ (y : Result ℕ E). OkIff y (FitsUnsignedBits 64 v) (nat_abs v)) z (rw (told f) at k))
     where
       by : (v : ℤ) → FitsUnsignedBits 64 v × (n ≡ nat_abs v) → SkipsLines m text c v r c'
-      by (pos i) h = record { comes = λ s o b q g. lands_come g q (subst (λ (j : ℕ). LandsSkip m text c j r c') h.1 l) }
+      by (pos i) h = record { moves = l.moves; comes = λ s o b q g. lands_come g q (subst (λ (j : ℕ). LandsSkip m text c j r c') h.1 l) }
       by (negsuc i) h = absurd (h.0)
 
 module _ {m : Marks} {text : Bytes} {c : Call} {d : ℕ} {s : State} {v : Result ℤ RunFault} {r : Answer} where
   pub skips_by : {z : ℤ} {c' : Call} → ParamValue m c d s.store v → v ≡ Ok z → SkipsLines m text c (read_back z) r c' → SkipsBy m text c d s r c'
   skips_by p e f = record {
+    moves = f.moves;
     comes = λ o b q h. comes_as (ap (λ (i : Math.Option ℤ). skip_by i (frame_of m text c) (shared_of s o)) (has_value p e text ∙ ap some (sym (told_value p e)))) (f.comes s o b q h);
   }
 
@@ -88,18 +89,18 @@ module _ {m : Marks} {text : Bytes} {c : Call} {d : ℕ} {s : State} {v : Result
   unfolding skip_by
   skips_fault p e g =
       let z = no_value p e in
-      record { comes = λ o b q h. came_fault h q (g ∙ ap Err z.0) (ap (λ (i : Math.Option ℤ). skip_by i (frame_of m text c) (shared_of s o)) (z.1 text)) }
+      record { moves = only_itself; comes = λ o b q h. came_fault h q (g ∙ ap Err z.0) (ap (λ (i : Math.Option ℤ). skip_by i (frame_of m text c) (shared_of s o)) (z.1 text)) }
 
 -- ---- where a test holds
 
 module _ {m : Marks} {text : Bytes} {b : Bool} {c : Call} {s : State} {r : Answer} where
   pub skips_where : {c' : Call} → b ≡ true → SkipsBy m text c 3 s r c' → SkipsIf m text b c s r c'
   unfolding skip_if
-  skips_where e f = record { comes = λ o line q h. comes_as (when_true _ _ e) (f.comes o line q h) }
+  skips_where e f = record { moves = f.moves; comes = λ o line q h. comes_as (when_true _ _ e) (f.comes o line q h) }
 
   pub skips_nowhere : b ≡ false → r ≡ Ok Continues → SkipsIf m text b c s r c
   unfolding skip_if
-  skips_nowhere e g = record { comes = λ o line q h. came_on h q g (when_false _ _ e) }
+  skips_nowhere e g = record { moves = only_itself; comes = λ o line q h. came_on h q g (when_false _ _ e) }
 
 -- ---- texts
 
@@ -112,6 +113,7 @@ wanted-is false false = refl
 
 pub skips_text : {m : Marks} {text : Bytes} {b q : Bool} {c : Call} {s : State} {r : Answer} {c' : Call} → Agrees c q → SkipsIf m text (beq q b) c s r c' → SkipsText m text b c s r c'
 skips_text {m} {text} {b} {q} {c} {s} e g = record {
+  moves = g.moves;
   comes = λ o line p h. comes_as (ap (λ (i : Bool). skip_if m i (frame_of m text c) (shared_of s o)) (sym (wanted-is b q ∙ ap (wanted b) (e.is m text)))) (g.comes o line p h);
 }
 
@@ -129,18 +131,19 @@ module _ {m : Marks} {text : Bytes} {k : Comparison} {c : Call} {s : State} {v :
   unfolding skip_compared
   no_first e g =
       let z = no_value p e in
-      record { comes = λ o line q h. came_fault h q (g ∙ ap Err z.0) (compared m text k c s o (z.1 text) refl) }
+      record { moves = only_itself; comes = λ o line q h. came_fault h q (g ∙ ap Err z.0) (compared m text k c s o (z.1 text) refl) }
 
   module _ {a : ℤ} (f : v ≡ Ok a) {u : Result ℤ RunFault} (n : ParamValue m c 2 s.store u) where
     pub no_second : {e : RunFault} {r : Answer} → u ≡ Err e → r ≡ Err e → SkipsValue m text k c s r c
     unfolding skip_compared
     no_second e g =
         let z = no_value n e in
-        record { comes = λ o line q h. came_fault h q (g ∙ ap Err z.0) (compared m text k c s o (has_value p f text) (z.1 text)) }
+        record { moves = only_itself; comes = λ o line q h. came_fault h q (g ∙ ap Err z.0) (compared m text k c s o (has_value p f text) (z.1 text)) }
 
     pub skips_value : {b : ℤ} {t : Bool} {r : Answer} {c' : Call} → u ≡ Ok b → t ≡ compares k (read_back a) (read_back b) → SkipsIf m text t c s r c' → SkipsValue m text k c s r c'
     unfolding skip_compared
     skips_value e i g = record {
+      moves = g.moves;
       comes = λ o line q h. comes_as
           (compared m text k c s o (has_value p f text) (has_value n e text) ∙ ap (λ (x : Bool). skip_if m x (frame_of m text c) (shared_of s o)) (ap₂ (compares k) (sym (told_value p f)) (sym (told_value n e)) ∙ sym i))
           (g.comes o line q h);

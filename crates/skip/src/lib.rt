@@ -47,7 +47,6 @@ fn params_agree(call: &Call) -> bool
 }
 
 // F4 by parameter d.
-#[tactic(auto, using(crate::proofs::Skipping::skips_by))]
 pub fn skip_by(marked: &Marked, call: &mut Call, d: usize, s: &State) -> Result<Turn, RunFault>
     requires { Parameter d × (call.old.next ≤ length marked.now.text.now) }
     ensures { SkipsBy marked.now.marks marked.now.text.now call.old d s.now result call.new }
@@ -58,7 +57,6 @@ pub fn skip_by(marked: &Marked, call: &mut Call, d: usize, s: &State) -> Result<
 
 // Where a test holds, a skip by parameter 3.
 // The flag is the test's outcome: without it each of its two callers would have this `if`, with the same two proofs.
-#[tactic(auto, using(crate::proofs::Skipping::skips_where, crate::proofs::Skipping::skips_nowhere))]
 fn skip_if(marked: &Marked, call: &mut Call, holds: bool, s: &State) -> Result<Turn, RunFault>
     requires { call.old.next ≤ length marked.now.text.now }
     ensures { SkipsIf marked.now.marks marked.now.text.now holds call.old s.now result call.new }
@@ -72,7 +70,6 @@ fn skip_if(marked: &Marked, call: &mut Call, holds: bool, s: &State) -> Result<T
 
 // F5: F50 wants equal texts, F51 unequal ones.
 // What is wanted is a bool, which is compared with what is found: an enum of two would be turned into one first.
-#[tactic(auto, using(crate::proofs::Skipping::skips_text))]
 pub fn skip_text(marked: &Marked, call: &mut Call, equal: bool, s: &State) -> Result<Turn, RunFault>
     requires { call.old.next ≤ length marked.now.text.now }
     ensures { SkipsText marked.now.marks marked.now.text.now equal call.old s.now result call.new }

@@ -5,7 +5,7 @@ use borrow.Author.Rules.{rules}
 use Rattle.matching.proofs.Matching.{choice_opening}
 use Rattle.matching.proofs.Counting.{choice_below}
 use Rattle.matching.specs.Book.{Prepared}
-use Rattle.cycle_laws.proofs.Ways.{chosen_by, opened_by, steps_by, lands_by, offer_fails, offer_passes, offer_opens, called_sound, called_less, called_counts, called_open, offer_enters, turns_else, advance_takes, advance_fails, advance_lands, running_on, body_left}
+use Rattle.cycle_laws.proofs.Ways.{chosen_by, opened_by, steps_by, lands_by, offer_fails, offer_passes, offer_opens, called_sound, called_less, called_counts, called_open, offer_enters, turns_else, advance_takes, advance_lands, running_on, body_left}
 use Rattle.answer.specs.Answers.{is_offer}
 use Rattle.std.specs.Prelude.{Ok}
 use Rattle.cycle.proofs.+calls.Goals as goal
@@ -50,14 +50,11 @@ offer-returns t c =
 
 -- ---- a body
 
-pub body-returns-in_err-turn : goal.body-returns-in_err-turn
-body-returns-in_err-turn t c = body_left c.loop-turn.invariant c.in_err-turn.ensures refl (search rules)
-
 pub body-returns-then-is_left : goal.body-returns-then-is_left
-body-returns-then-is_left t c = body_left c.loop-turn.invariant c.in_ok-turn.ensures (sym c.is_left.ensures ∙ c.if-is_left.true) refl
+body-returns-then-is_left t c = body_left c.loop-call.invariant c.advance-answer.ensures (sym c.is_left.ensures ∙ c.if-is_left.true) refl
 
-pub body-loop-turn-preserved : goal.body-loop-turn-preserved
-body-loop-turn-preserved t c = running_on c.loop-turn.invariant c.in_ok-turn.ensures (sym c.is_left.ensures ∙ c.if-is_left.false)
+pub body-loop-call-preserved : goal.body-loop-call-preserved
+body-loop-call-preserved t c = running_on c.loop-call.invariant c.advance-answer.ensures (sym c.is_left.ensures ∙ c.if-is_left.false)
 
 -- ---- a code line
 
@@ -67,12 +64,7 @@ advance-returns-in_err-turn t c = advance_takes (steps_by c.script.view_is c.in_
 pub advance-returns-in_default : goal.advance-returns-in_default
 advance-returns-in_default t c = advance_takes (steps_by c.script.view_is c.in_ok-turn.ensures) c.requires.4 (turns_else _ c.in_default.not-Offers) refl
 
-pub advance-returns-in_err-offered : goal.advance-returns-in_err-offered
-advance-returns-in_err-offered t c =
-    let steps = steps_by c.script.view_is c.in_ok-turn.ensures in
-    advance_fails steps (ap (λ z. is_offer (Ok z)) c.in-Offers.is) c.as_bytes.ensures c.offer.ensures c.in_err-offered.was (search rules)
-
 pub advance-returns : goal.advance-returns
 advance-returns t c =
     let steps = steps_by c.script.view_is c.in_ok-turn.ensures in
-    advance_lands steps (ap (λ z. is_offer (Ok z)) c.in-Offers.is) c.as_bytes.ensures c.offer.ensures c.in_ok-offered.was (lands_by c.script.view_is c.land.ensures)
+    advance_lands steps (ap (λ z. is_offer (Ok z)) c.in-Offers.is) c.as_bytes.ensures c.offer-offered.ensures (lands_by c.script.view_is c.land.ensures)

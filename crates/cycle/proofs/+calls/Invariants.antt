@@ -15,10 +15,10 @@ decreases-body l = 2 * l.s.now.fuel + 1
 abbrev pub decreases-advance : goal.decreases-advance
 decreases-advance l = 2 * l.s.now.fuel
 
-abbrev pub invariant-body-loop-turn : goal.invariant-body-loop-turn
-invariant-body-loop-turn l =
+abbrev pub invariant-body-loop-call : goal.invariant-body-loop-call
+invariant-body-loop-call l =
     Running l.script l.depth (frame_of l.script.marks l.script.text l.initial.call) l.initial.s (outputs l.initial.output l.initial.second) l.initial.counts
     l.call l.s (outputs l.output l.second) l.counts
 
-abbrev pub decreases-body-loop-turn : goal.decreases-body-loop-turn
-decreases-body-loop-turn l = l.s.fuel
+abbrev pub decreases-body-loop-call : goal.decreases-body-loop-call
+decreases-body-loop-call l = l.s.fuel

@@ -8,4 +8,4 @@ pub returns-in_err-take_pass : goal.returns-in_err-take_pass
 returns-in_err-take_pass c = start_fails c.requires.placed c.new.ensures c.take_pass.ensures c.in_err-take_pass.was (search rules)
 
 pub returns : goal.returns
-returns c = starts c.requires.placed c.new.ensures c.take_pass.ensures c.in_ok-take_pass.was c.enter.ensures
+returns c = starts c.requires.placed c.new.ensures c.take_pass.ensures c.in_ok-take_pass.was c.enter.ensures.enters
