@@ -1,4 +1,4 @@
-// Where a skip of lines ends in a call, and what an answer comes to in the call that offered a line (document 01, "Skips").
+// Where a skip of lines ends in a call, and what an answer comes to in the call that offered a line ("Skips").
 // Asked is that the call's place lies in the text: it is no fact of the type, since a call borrows no text.
 // marked and call are two parameters: a struct of them would hold a `&mut`, and each clause would name the call behind its field.
 #![tactic(auto)]

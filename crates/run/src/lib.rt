@@ -29,7 +29,7 @@ use state::State;
 use store::Store;
 use usage::{COUNTS_SIZE, print_report};
 
-// A number of document 01's table and a line; nothing is written. C callers read u64, of which From makes none of a count.
+// A number of the table of numbers and a line; nothing is written. C callers read u64, of which From makes none of a count.
 // The zeroes stand by hand: `model`, which declares the type, has no function, and a derived Default would be one.
 #[tactic(auto, unfolding(model::specs::Results::ran_as, model::specs::Machine::no_output))]
 pub fn refuse(number: u64, line: usize) -> Ran
