@@ -1,7 +1,7 @@
 // What a program is given: its arguments, and all that a reader gives or a whole file, read into a lent buffer; and what it says where
 // something keeps it from its work.
-// Every buffer is an array of the largest size that a program takes, here and in the programs that expand, check and fit: they use no heap, and what
-// they need is known before they run (docs/DECISIONS.md). value_examples, which promises nothing of its memory, has a Vec.
+// Every buffer is an array of the largest size that a program takes, here and in the programs: they use no heap, and what they need is known
+// before they run (docs/DECISIONS.md).
 #![tactic(auto)]
 
 ghost use Rattle.std.specs.Prelude.{◌≡◌, ◌≤◌, ◌<◌, IfOk, IfErr, IfSome, length, take};
