@@ -23,6 +23,12 @@ class Needs(Unpacked):
                 self.assertNotIn(path, shown.lower())
             self.assertIn("[Requesting program interpreter: /lib64/ld-linux-x86-64.so.2]", self.shown("--program-headers", program))
 
+    def test_what_the_library_asks_for(self):
+        """A program without a C library can link it: two names are asked for from outside, and no other."""
+        status, printed, _ = self.ran(["nm", "-u", "lib/libstage2.a"])
+        self.assertEqual(status, 0)
+        self.assertEqual(sorted(re.findall(r"^ +U (\S+)$", printed.decode(), re.MULTILINE)), ["memcpy", "memset"])
+
     def test_the_readme_names_its_version(self):
         """The newest version of the C library that a program asks for is the one that the README says."""
         asked = [version for program in PROGRAMS for version in re.findall(r"GLIBC_([\d.]+)", self.shown("--version-info", program))]
