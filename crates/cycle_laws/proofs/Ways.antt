@@ -36,6 +36,7 @@ use Rattle.write.specs.Output.{PassesThrough, done_with}
 use Rattle.write.proofs.Lines.{wrote_back, wrote_follows, wrote_left, wrote_fuel}
 use Rattle.carry.specs.Carries.{Steps}
 use Rattle.landing.specs.Landing.{LandsTurn}
+use Rattle.landing.proofs.Leaves.{turns_fault}
 use Rattle.usage.specs.Counts.{Counts}
 use Rattle.usage.proofs.Counts.{counts_less}
 use Rattle.matching.specs.Book.{Basis, Book, Prepared, tally_in}
@@ -289,6 +290,10 @@ module _ {w : Basis} {c : Call} {s : State} {o : Outputs} {b : Bytes} {q : Answe
               (rooms_kept steps.follows.extends) (p.same t b' (f ∷ fs) (ap suc i ∙ sym (add-one depth)) c₁ line)
               ∙ ap (comes_to s₂.fuel (rooms_of o) t) (same fs (tally_in t cs₂) line);
         }
+
+    -- a fault ends the run
+    pub advance_fails : {k : RunFault} {a : Answer} → r ≡ Err k → a ≡ Err k → Advances w c depth s o cs a s₂ c₁ o₂ cs₂
+    advance_fails er ea = advance_lands (turns_fault er ea)
 
 -- ---- a body
 

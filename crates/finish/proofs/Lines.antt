@@ -48,16 +48,21 @@ moved c n = record {
   placed = λ text p h. record { number = p.number; next = h; depth = p.depth; iterations = p.iterations };
 }
 
+-- a layout is the same of the call at another place
+same_layout : (m : Marks) (line : Bytes) {c : Call} {n : ℕ} {c' : Call} → Moves c n c' → layout_of m line c ≡ layout_of m line c'
+unfolding resume_at
+same_layout m line {c} {c' = c'} g = fields-same m (frame_of m [] c) (frame_of m [] c') (sym (ap (λ (f : Frame). f.params) (g.frame m []))) 256 0 line
+
 -- with the layout passed over
 after_layout : (m : Marks) (text : Bytes) (ch : Channel) (c : Call) (s : State) (o : Outputs) (l : Line) (c' : Call) → CodeLine m text c.next l → Moves c l.next c'
     → write_layout (rooms_of o) m ch (frame_of m text c).next (frame_of m text c) (shared_of s o)
-    ≡ write_to (rooms_of o) ch (layout_of m (part text c.next l.end) c) (frame_of m text c') (shared_of s o)
+    ≡ write_to (rooms_of o) ch (layout_of m (part text c.next l.end) c') (frame_of m text c') (shared_of s o)
 unfolding write_layout resume_at
 after_layout m text ch c s o l c' a g =
     ap (λ (b : List Bytes). write_layout (rooms_of o) m ch b (frame_of m text c) (shared_of s o)) a.is
     ∙ ap (λ (x : Bytes). write_to (rooms_of o) ch x (resume_at (frame_of m text c) (frame_of m text c).loops (body_at m text l.next)) (shared_of s o))
-    (fields-same m (frame_of m text c) (frame_of m [] c) refl 256 0 (part text c.next l.end))
-    ∙ ap (λ (f : Frame). write_to (rooms_of o) ch (layout_of m (part text c.next l.end) c) f (shared_of s o)) (sym (g.frame m text))
+    (fields-same m (frame_of m text c) (frame_of m [] c) refl 256 0 (part text c.next l.end) ∙ same_layout m (part text c.next l.end) g)
+    ∙ ap (λ (f : Frame). write_to (rooms_of o) ch (layout_of m (part text c.next l.end) c') f (shared_of s o)) (sym (g.frame m text))
 
 module _ {m : Marks} {text : Bytes} {ch : Channel} {c : Call} {s : State} {o : Outputs} {x : Option Line} (q : Placed text c) (a : CodeAt m text c.next x) where
   pub no_layout : x ≡ None → WritesLayoutLine m text ch c s o (Ok tt) c s o
@@ -67,13 +72,19 @@ module _ {m : Marks} {text : Bytes} {ch : Channel} {c : Call} {s : State} {o : O
     comes = λ b h. came_on h q refl (ap (λ (b : List Bytes). write_layout (rooms_of o) m ch b (frame_of m text c) (shared_of s o)) (code_over a z));
   }
 
+  -- what a layout comes to, whatever is answered, where the call is behind it
+  pub writes_layout : {l : Line} {c' : Call} {r : Result Unit RunFault} {s' : State} {o' : Outputs} → x ≡ Some l → Moves c l.next c' → Writes ch (layout_of m (part text c.next l.end) c') s o r s' o'
+      → (b : Bytes) → Sound text s o → Comes m text (write_layout (rooms_of o) m ch (frame_of m text c).next (frame_of m text c) (shared_of s o)) s o b (goes_on r) s' c' o'
+  writes_layout {l} {c'} z g v b h = comes_as (after_layout m text ch c s o l c' (code_line a z) g) (wrote_on h (g.placed text q (code_line a z).within) v)
+
   module _ {l : Line} {r : Result Unit RunFault} {s' : State} {o' : Outputs} (z : x ≡ Some l) (v : Writes ch (layout_of m (part text c.next l.end) c) s o r s' o') where
+    -- the same of a layout that is written before the call moves on
     wrote : {c' : Call} → Moves c l.next c' → (b : Bytes) → Sound text s o
         → Comes m text (write_layout (rooms_of o) m ch (frame_of m text c).next (frame_of m text c) (shared_of s o)) s o b (goes_on r) s' c' o'
-    wrote {c'} g b h = comes_as (after_layout m text ch c s o l c' (code_line a z) g) (wrote_on h (g.placed text q (code_line a z).within) v)
+    wrote {c'} g = writes_layout z g (subst (λ (x : Bytes). Writes ch x s o r s' o') (same_layout m (part text c.next l.end) g) v)
 
-    pub writes_layout : {u : Unit} {c' : Call} → r ≡ Ok u → Moves c l.next c' → WritesLayoutLine m text ch c s o (Ok tt) c' s' o'
-    writes_layout {c' = c'} e g = record {
+    pub layout_written : {u : Unit} {c' : Call} → r ≡ Ok u → Moves c l.next c' → WritesLayoutLine m text ch c s o (Ok tt) c' s' o'
+    layout_written {c' = c'} e g = record {
       moves = only_moves g refl;
       comes = λ b h. subst (λ (y : Result Unit RunFault). Comes m text (write_layout (rooms_of o) m ch (frame_of m text c).next (frame_of m text c) (shared_of s o)) s o b (goes_on y) s' c' o') e (wrote g b h);
     }

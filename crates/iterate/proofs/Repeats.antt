@@ -18,7 +18,7 @@ use Rattle.number.proofs.Signed.{read_back, told}
 use Rattle.body.specs.Steps.{Leaves}
 use Rattle.call.specs.declared.Kind.TheVariants as Kinds
 use Rattle.call.specs.declared.Call.{Call}
-use Rattle.call.specs.Call.{frame_of}
+use Rattle.call.specs.Call.{frame_of, Placed}
 use Rattle.call.specs.Params.{Moves, Enters}
 use Rattle.iterate.specs.Iterate.{pass_count, CountsPasses, StartsRepeat}
 
@@ -48,6 +48,11 @@ unfolding pass_count
 repeat_some m (pos k) f w n e = ap (λ (j : ℕ). start_repeat m (some (pos j)) f w) e
 repeat_some m (negsuc k) f w n e = absurd (omega arith)
 
+-- what an eF7 of value v comes to in the call c, which becomes r, whatever is said of its parameters
+pub record Begins (m : Marks) (text : Bytes) (c : Call) (v : ℤ) (r : Call) : Type 0 where
+  pub step : (w : Shared) → start_repeat m (some v) (frame_of m text c) w ≡ continues (frame_of m text r) w
+  pub placed : Placed text c → Placed text r
+
 -- the value is handed to count_passes by its bits
 module _ {m : Marks} {text : Bytes} {c : Call} {v : ℤ} {n : ℕ} (f : SFits width v) (k : CountsPasses (read_back v) n) where
   pub repeat_skips : {to : ℕ} {r : Call} → ¬ (1 ≤ n) → Leaves m text c.next to → Moves c to r → StartsRepeat m text c v r
@@ -61,13 +66,16 @@ module _ {m : Marks} {text : Bytes} {c : Call} {v : ℤ} {n : ℕ} (f : SFits wi
     params = ap (λ (c : Call). c.params) q.is;
   }
 
-  pub repeat_begins : {left : ℕ} {r : Call} → (1 ≤ n) × (left ≡ n - 1) → Enters c (Kinds.Count left) r → r.params ≡ c.params → StartsRepeat m text c v r
+  pub repeat_begins : {left : ℕ} {r : Call} → (1 ≤ n) × (left ≡ n - 1) → Enters c (Kinds.Count left) r → Begins m text c v r
   unfolding start_repeat
-  repeat_begins {left} e q params = record {
+  repeat_begins {left} e q = record {
     step = λ w.
         let a = e.0 in
         let b = e.1 in
         repeat_some m v (frame_of m text c) w left (ap pass_count (sym (told f)) ∙ sym k.is ∙ omega arith) ∙ ap (λ (f : Frame). continues f w) (sym (q.frame m text));
     placed = λ p. q.placed text p tt;
-    params = params;
   }
+
+  -- and the parameters stay
+  pub repeat_starts : {left : ℕ} {r : Call} → (1 ≤ n) × (left ≡ n - 1) → Enters c (Kinds.Count left) r → r.params ≡ c.params → StartsRepeat m text c v r
+  repeat_starts e q params = let h = repeat_begins e q in record { step = h.step; placed = h.placed; params = params }
