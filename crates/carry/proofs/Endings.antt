@@ -8,11 +8,12 @@ use Rattle.faults.specs.declared.RunFault.{RunFault}
 use Rattle.model.specs.declared.Marks.{Marks}
 use Rattle.model.specs.declared.Channel.{Channel}
 use Rattle.model.specs.declared.Comparison.{Comparison}
-use Rattle.model.specs.Text.{Bytes, part}
+use Rattle.model.specs.Text.{Bytes, part, same}
 use Rattle.model.specs.Code as Code
 use Rattle.model.specs.Code.{effect_of}
 use Rattle.model.proofs.Text.{part_most, part-drop}
-use Rattle.model.specs.Machine.{Frame, Step, continues, offers, leaves, state_with, finish, stepped, Outputs}
+use Rattle.model.specs.Value.{value_of}
+use Rattle.model.specs.Machine.{Frame, Step, param, continues, offers, leaves, state_with, finish, stepped, skip_by, skip_if, skip_compared, wanted, write_layout, start_repeat, Outputs}
 use Rattle.code.specs.declared.Ending.{Ending}
 use Rattle.code.specs.declared.Ending.TheVariants.{Offer, Assign, Iterate, Stop, Write, Layout, Copy, Save, Skip, SkipText, SkipValue, Repeat, Again, Leave, Malformed}
 use Rattle.code.specs.Tokens.{Parameter}
@@ -30,9 +31,8 @@ use Rattle.answer.proofs.Coming.{comes_as, came_on, came_end, came_fault}
 use Rattle.answer.proofs.Expansion.{skip-none}
 use Rattle.write.specs.Output.{Writes}
 use Rattle.write.proofs.Lines.{wrote_on}
-use Rattle.finish.specs.Leaves.{WritesLayoutLine, Saves, Repeats}
+use Rattle.finish.specs.Leaves.{Saves}
 use Rattle.copying.specs.Copies.{CopiesInput}
-use Rattle.skip.specs.Skips.{SkipsBy, SkipsText, SkipsValue}
 use Rattle.carry.specs.Carries.{ReadyToFinish, Finishes}
 
 -- ---- what the leaves ask
@@ -66,9 +66,9 @@ module _ {d : Result Unit RunFault} {r : Answer} where
   pub broke_off : {fault : RunFault} → d ≡ Err fault → r ≡ Err fault → r ≡ goes_on d
   broke_off e f = f ∙ ap goes_on (sym e)
 
-done_as : (d : Result Unit RunFault) {r : Answer} {m : Marks} {text : Bytes} {p : Step} {s : State} {o : Outputs} {b : Bytes} {s' : State} {c' : Call} {o' : Outputs} → r ≡ goes_on d → Comes m text p s o b (goes_on d) s' c' o'
+done_as : {x r : Answer} {m : Marks} {text : Bytes} {p : Step} {s : State} {o : Outputs} {b : Bytes} {s' : State} {c' : Call} {o' : Outputs} → r ≡ x → Comes m text p s o b x s' c' o'
     → Comes m text p s o b r s' c' o'
-done_as d {m = m} {text} {p} {s} {o} {b} {s'} {c'} {o'} z f = subst (λ (x : Answer). Comes m text p s o b x s' c' o') (sym z) f
+done_as {m = m} {text} {p} {s} {o} {b} {s'} {c'} {o'} z f = subst (λ (y : Answer). Comes m text p s o b y s' c' o') (sym z) f
 
 -- a pass: its call goes on, or a fault ends the run
 pass_comes : (d : Result Unit RunFault) {m : Marks} {text : Bytes} {c : Call} {s : State} {o : Outputs} {b : Bytes} {t : Step} → Sound text s o → Placed text c
@@ -107,44 +107,52 @@ module _ {m : Marks} {text code : Bytes} {c : Call} {k : Ending} {line : Bytes} 
   unfolding finish
   ends_malformed e f = ends_as e (record { comes = came_on h q f refl })
 
+  -- a skip, a layout and an iteration, by what each comes to
   module _ {c' : Call} where
-    pub ends_skip : k ≡ Skip → SkipsBy m text c 1 s r c' → Finishes m text code c k line s o r s c' o
+    pub ends_skip : k ≡ Skip → Comes m text (skip_by (value_of m s.store (param (frame_of m text c) 1)) (frame_of m text c) (shared_of s o)) s o line r s c' o
+        → Finishes m text code c k line s o r s c' o
     unfolding finish
-    ends_skip e f = ends_as e (record { comes = f.comes o line q h })
+    ends_skip e f = ends_as e (record { comes = f })
 
-    pub ends_text : {w : Bool} → k ≡ SkipText w → SkipsText m text w c s r c' → Finishes m text code c k line s o r s c' o
+    pub ends_text : {w : Bool} → k ≡ SkipText w
+        → Comes m text (skip_if m (wanted w (same (param (frame_of m text c) 1) (param (frame_of m text c) 2))) (frame_of m text c) (shared_of s o)) s o line r s c' o
+        → Finishes m text code c k line s o r s c' o
     unfolding finish
-    ends_text e f = ends_as e (record { comes = f.comes o line q h })
+    ends_text e f = ends_as e (record { comes = f })
 
-    pub ends_value : {j : Comparison} → k ≡ SkipValue j → SkipsValue m text j c s r c' → Finishes m text code c k line s o r s c' o
+    pub ends_value : {j : Comparison} → k ≡ SkipValue j
+        → Comes m text (skip_compared m j (value_of m s.store (param (frame_of m text c) 1)) (value_of m s.store (param (frame_of m text c) 2)) (frame_of m text c) (shared_of s o)) s o line r s c' o
+        → Finishes m text code c k line s o r s c' o
     unfolding finish
-    ends_value e f = ends_as e (record { comes = f.comes o line q h })
+    ends_value e f = ends_as e (record { comes = f })
+
+    pub ends_layout : {ch : Channel} {x : Answer} {s' : State} {o' : Outputs} → k ≡ Layout ch
+        → Comes m text (write_layout (rooms_of o) m ch (frame_of m text c).next (frame_of m text c) (shared_of s o)) s o line x s' c' o' → r ≡ x → Finishes m text code c k line s o r s' c' o'
+    unfolding finish
+    ends_layout e f z = ends_as e (record { comes = done_as z f })
+
+    pub ends_repeat : {x : Answer} → k ≡ Repeat → Comes m text (start_repeat m (value_of m s.store line) (frame_of m text c) (shared_of s o)) s o line x s c' o → r ≡ x
+        → Finishes m text code c k line s o r s c' o
+    unfolding finish
+    ends_repeat e f z = ends_as e (record { comes = done_as z f })
 
   -- those after which the call goes on
   module _ {d : Result Unit RunFault} where
     pub ends_again : {c' : Call} → k ≡ Again → EndsPass m text c d c' → r ≡ goes_on d → Finishes m text code c k line s o r s c' o
     unfolding finish
-    ends_again e f z = ends_as e (record { comes = done_as d z (pass_comes d h f.placed (f.step (shared_of s o))) })
+    ends_again e f z = ends_as e (record { comes = done_as z (pass_comes d h f.placed (f.step (shared_of s o))) })
 
     pub ends_write : {ch : Channel} {s' : State} {o' : Outputs} → k ≡ Write ch → Writes ch line s o d s' o' → r ≡ goes_on d → Finishes m text code c k line s o r s' c o'
     unfolding finish
-    ends_write e f z = ends_as e (record { comes = done_as d z (wrote_on h q f) })
-
-    pub ends_layout : {ch : Channel} {s' : State} {c' : Call} {o' : Outputs} → k ≡ Layout ch → WritesLayoutLine m text ch c s o d c' s' o' → r ≡ goes_on d → Finishes m text code c k line s o r s' c' o'
-    unfolding finish
-    ends_layout e f z = ends_as e (record { comes = done_as d z (f.comes line h) })
+    ends_write e f z = ends_as e (record { comes = done_as z (wrote_on h q f) })
 
     pub ends_copy : {ch : Channel} {s' : State} {o' : Outputs} → k ≡ Copy ch → CopiesInput m text ch c s o d s' o' → r ≡ goes_on d → Finishes m text code c k line s o r s' c o'
     unfolding finish
-    ends_copy e f z = ends_as e (record { comes = done_as d z (f.comes line h) })
+    ends_copy e f z = ends_as e (record { comes = done_as z (f.comes line h) })
 
     pub ends_save : {s' : State} → k ≡ Save → Saves c s d s' → r ≡ goes_on d → Finishes m text code c k line s o r s' c o
     unfolding finish
-    ends_save e f z = ends_as e (record { comes = done_as d z (f.comes m text o line q h) })
-
-    pub ends_repeat : {c' : Call} → k ≡ Repeat → Repeats m text c line s d c' → r ≡ goes_on d → Finishes m text code c k line s o r s c' o
-    unfolding finish
-    ends_repeat e f z = ends_as e (record { comes = done_as d z (f.comes o line q h) })
+    ends_save e f z = ends_as e (record { comes = done_as z (f.comes m text o line q h) })
 
 pub ends_iterate : (a b : ℕ) {m : Marks} {text : Bytes} {c : Call} {k : Ending} {line : Bytes} {s : State} {o : Outputs} {r : Answer} → Sound text s o → Placed text c
     → {i p : ℕ} {d : Result Unit RunFault} {c' : Call} → k ≡ Iterate i p → StartsPass m text c i line (a + p) b d c' → r ≡ goes_on d
@@ -152,5 +160,5 @@ pub ends_iterate : (a b : ℕ) {m : Marks} {text : Bytes} {c : Call} {k : Ending
 unfolding finish
 ends_iterate a b {m} {text} {c} {line = line} {s} {o} h q {i} {p} {d} e f z = ends_as h q e (record {
   comes = comes_as (ap (λ (x : Bytes). finish (rooms_of o) m (Code.iterate i x) line (frame_of m text c) (shared_of s o)) (part-drop text a b p))
-      (done_as d z (pass_comes d h f.placed (f.step (shared_of s o))));
+      (done_as z (pass_comes d h f.placed (f.step (shared_of s o))));
 })

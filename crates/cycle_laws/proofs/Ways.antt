@@ -22,7 +22,7 @@ use Rattle.model.proofs.Frames.{NextOk}
 use Rattle.state.specs.declared.State.{State}
 use Rattle.state.specs.State.{state_of, Sound, counted_event, with_call}
 use Rattle.call.specs.declared.Call.{Call}
-use Rattle.call.specs.Call.{frame_of}
+use Rattle.call.specs.Call.{frame_of, Placed}
 use Rattle.fit.specs.declared.Choice.{Choice}
 use Rattle.fit.specs.declared.Reading.{Reading}
 use Rattle.fit.specs.Chosen.{Chooses}
@@ -267,11 +267,14 @@ module _ {w : Basis} {c : Call} {s : State} {o : Outputs} {b : Bytes} {q : Answe
   module _ {depth : ℕ} {l : Bytes} {cs : List ℕ} {r : Answer} {s₂ : State} {o₂ : Outputs} {cs₂ : List ℕ} (e : is_offer q ≡ true) (el : l ≡ b)
       (p : Meets w (some l) [] (depth + 1) s₁ o₁ cs r s₂ o₂ cs₂) where
     -- the line that it builds is offered, and what comes of it lands in the call
-    pub advance_lands : {a : Answer} {c₂ : Call} → LandsTurn w.marks w.text c₁ r a c₂ → Advances w c depth s o cs a s₂ c₂ o₂ cs₂
-    advance_lands {a} {c₂} k =
-        let placed = k.placed (offer_stays steps e).placed in
+    pub advance_lands : {a : Answer} {c₂ : Call} → (is_left r ≡ true → is_offer a ≡ false) → (Placed w.text c₁ → Placed w.text c₂)
+        → (is_left r ≡ true → (fs : List Frame) (y : Tally) (line : Bytes) (t : State) (u : Outputs)
+        → next_of w.marks w.text (frame_of w.marks w.text c₁ ∷ fs) y r c₁ t line u ≡ next_of w.marks w.text fs y a c₂ t line u)
+        → Advances w c depth s o cs a s₂ c₂ o₂ cs₂
+    advance_lands {a} {c₂} settled lies lands =
+        let placed = lies (offer_stays steps e).placed in
         let same : (fs : List Frame) (y : Tally) (line : Bytes) → next_of w.marks w.text (frame_of w.marks w.text c₁ ∷ fs) y r c₁ s₂ line o₂ ≡ next_of w.marks w.text fs y a c₂ s₂ line o₂ =
-        λ fs y line. k.same p.left fs y line s₂ o₂ in
+        λ fs y line. lands p.left fs y line s₂ o₂ in
         let f = frame_of w.marks w.text c₁ in
         let y = no_lines [] in
         let ok : NextOk w.marks (next_of w.marks w.text [] y a c₂ s₂ [] o₂) =
@@ -279,7 +282,7 @@ module _ {w : Basis} {c : Call} {s : State} {o : Outputs} {b : Bytes} {q : Answe
         record {
           counted = p.counted;
           follows = follows_trans steps.follows p.follows;
-          settled = k.settled p.left;
+          settled = settled p.left;
           less = λ _. omega (arith, p.follows.fuel, offer_less steps e);
           stays = λ g. record { placed = placed; nested = next-nested w.marks w.text a [] y c₂ s₂ [] o₂ ok g };
           same = λ t b' fs i line. steps.same t b'.marks fs (tally_in t cs)
@@ -293,7 +296,7 @@ module _ {w : Basis} {c : Call} {s : State} {o : Outputs} {b : Bytes} {q : Answe
 
     -- a fault ends the run
     pub advance_fails : {k : RunFault} {a : Answer} → r ≡ Err k → a ≡ Err k → Advances w c depth s o cs a s₂ c₁ o₂ cs₂
-    advance_fails er ea = advance_lands (turns_fault er ea)
+    advance_fails er ea = let k = turns_fault er ea in advance_lands k.settled k.placed k.same
 
 -- ---- a body
 

@@ -27,13 +27,19 @@ pub returns-in-Stop : goal.returns-in-Stop
 returns-in-Stop c = search (ends_stop, rules)
 
 pub returns-in-Skip : goal.returns-in-Skip
-returns-in-Skip c = search (ends_skip, rules)
+returns-in-Skip c =
+    let sound = c.requires.sound in
+    ends_skip sound.0 sound.1 c.in-Skip.is (c.skip_by.ensures.comes _ _ sound.1 sound.0)
 
 pub returns-in-SkipText : goal.returns-in-SkipText
-returns-in-SkipText c = search (ends_text, rules)
+returns-in-SkipText c =
+    let sound = c.requires.sound in
+    ends_text sound.0 sound.1 c.in-SkipText.is (c.skip_text.ensures.comes _ _ sound.1 sound.0)
 
 pub returns-in-SkipValue : goal.returns-in-SkipValue
-returns-in-SkipValue c = search (ends_value, rules)
+returns-in-SkipValue c =
+    let sound = c.requires.sound in
+    ends_value sound.0 sound.1 c.in-SkipValue.is (c.skip_value.ensures.comes _ _ sound.1 sound.0)
 
 pub returns-in-Leave : goal.returns-in-Leave
 returns-in-Leave c = search (ends_leave, rules)
@@ -64,12 +70,12 @@ returns-in_err-write-in-Write c =
 pub returns-in_ok-write_layout_line-in-Layout : goal.returns-in_ok-write_layout_line-in-Layout
 returns-in_ok-write_layout_line-in-Layout c =
     let sound = c.requires.sound in
-    ends_layout sound.0 sound.1 c.in-Layout.is c.write_layout_line.ensures (went_on c.in_ok-write_layout_line-in-Layout.was refl)
+    ends_layout sound.0 sound.1 c.in-Layout.is (c.write_layout_line.ensures.comes _ sound.0) (went_on c.in_ok-write_layout_line-in-Layout.was refl)
 
 pub returns-in_err-write_layout_line-in-Layout : goal.returns-in_err-write_layout_line-in-Layout
 returns-in_err-write_layout_line-in-Layout c =
     let sound = c.requires.sound in
-    ends_layout sound.0 sound.1 c.in-Layout.is c.write_layout_line.ensures (broke_off c.in_err-write_layout_line-in-Layout.was (search rules))
+    ends_layout sound.0 sound.1 c.in-Layout.is (c.write_layout_line.ensures.comes _ sound.0) (broke_off c.in_err-write_layout_line-in-Layout.was (search rules))
 
 pub returns-in_ok-copy_input-in-Copy : goal.returns-in_ok-copy_input-in-Copy
 returns-in_ok-copy_input-in-Copy c =
@@ -94,12 +100,12 @@ returns-in_err-save-in-Save c =
 pub returns-in_ok-repeat-in-Repeat : goal.returns-in_ok-repeat-in-Repeat
 returns-in_ok-repeat-in-Repeat c =
     let sound = c.requires.sound in
-    ends_repeat sound.0 sound.1 c.in-Repeat.is c.repeat.ensures (went_on c.in_ok-repeat-in-Repeat.was refl)
+    ends_repeat sound.0 sound.1 c.in-Repeat.is (c.repeat.ensures.comes _ _ sound.1 sound.0) (went_on c.in_ok-repeat-in-Repeat.was refl)
 
 pub returns-in_err-repeat-in-Repeat : goal.returns-in_err-repeat-in-Repeat
 returns-in_err-repeat-in-Repeat c =
     let sound = c.requires.sound in
-    ends_repeat sound.0 sound.1 c.in-Repeat.is c.repeat.ensures (broke_off c.in_err-repeat-in-Repeat.was (search rules))
+    ends_repeat sound.0 sound.1 c.in-Repeat.is (c.repeat.ensures.comes _ _ sound.1 sound.0) (broke_off c.in_err-repeat-in-Repeat.was (search rules))
 
 pub returns-in_ok-end_pass-in-Again : goal.returns-in_ok-end_pass-in-Again
 returns-in_ok-end_pass-in-Again c =

@@ -67,4 +67,5 @@ advance-returns-in_default t c = advance_takes (steps_by c.script.view_is c.in_o
 pub advance-returns : goal.advance-returns
 advance-returns t c =
     let steps = steps_by c.script.view_is c.in_ok-turn.ensures in
-    advance_lands steps (ap (λ z. is_offer (Ok z)) c.in-Offers.is) c.as_bytes.ensures c.offer-offered.ensures (lands_by c.script.view_is c.land.ensures)
+    let lands = lands_by c.script.view_is c.land.ensures in
+    advance_lands steps (ap (λ z. is_offer (Ok z)) c.in-Offers.is) c.as_bytes.ensures c.offer-offered.ensures lands.settled lands.placed lands.same
