@@ -266,13 +266,13 @@ module _ {w : Basis} {c : Call} {s : State} {o : Outputs} {b : Bytes} {q : Answe
 
   module _ {depth : ℕ} {l : Bytes} {cs : List ℕ} {r : Answer} {s₂ : State} {o₂ : Outputs} {cs₂ : List ℕ} (e : is_offer q ≡ true) (el : l ≡ b)
       (p : Meets w (some l) [] (depth + 1) s₁ o₁ cs r s₂ o₂ cs₂) where
-    -- the line that it builds is offered, and what comes of it lands in the call
+    -- the line that it builds is offered, and what comes of it lands in the call: what LandsTurn says, but for what stays of the call
     pub advance_lands : {a : Answer} {c₂ : Call} → (is_left r ≡ true → is_offer a ≡ false) → (Placed w.text c₁ → Placed w.text c₂)
         → (is_left r ≡ true → (fs : List Frame) (y : Tally) (line : Bytes) (t : State) (u : Outputs)
         → next_of w.marks w.text (frame_of w.marks w.text c₁ ∷ fs) y r c₁ t line u ≡ next_of w.marks w.text fs y a c₂ t line u)
         → Advances w c depth s o cs a s₂ c₂ o₂ cs₂
-    advance_lands {a} {c₂} settled lies lands =
-        let placed = lies (offer_stays steps e).placed in
+    advance_lands {a} {c₂} settled placed_then lands =
+        let placed = placed_then (offer_stays steps e).placed in
         let same : (fs : List Frame) (y : Tally) (line : Bytes) → next_of w.marks w.text (frame_of w.marks w.text c₁ ∷ fs) y r c₁ s₂ line o₂ ≡ next_of w.marks w.text fs y a c₂ s₂ line o₂ =
         λ fs y line. lands p.left fs y line s₂ o₂ in
         let f = frame_of w.marks w.text c₁ in

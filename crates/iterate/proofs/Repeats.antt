@@ -48,7 +48,7 @@ unfolding pass_count
 repeat_some m (pos k) f w n e = ap (λ (j : ℕ). start_repeat m (some (pos j)) f w) e
 repeat_some m (negsuc k) f w n e = absurd (omega arith)
 
--- what an eF7 of value v comes to in the call c, which becomes r, whatever is said of its parameters
+-- an eF7 of value v in the call c, which becomes r: what StartsRepeat says, but for the parameters
 pub record Begins (m : Marks) (text : Bytes) (c : Call) (v : ℤ) (r : Call) : Type 0 where
   pub step : (w : Shared) → start_repeat m (some v) (frame_of m text c) w ≡ continues (frame_of m text r) w
   pub placed : Placed text c → Placed text r
